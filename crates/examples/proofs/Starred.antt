@@ -1,0 +1,12 @@
+-- The one proof of the table: every row computes to what document 01 states.
+use mathlib.Core.Path.{_≡_, refl}
+use mathlib.Core.Bool.{true}
+use Rattle.laws.specs.Lists.{added}
+use Rattle.liberation.specs.Sets.{rowFrom, rowSet, diagonalFrom, ordinary, diagonalSet, lostIn, survivingIn}
+use Rattle.liberation.specs.Plans.{diagonals, firstRoutes, decided, routesFrom, routes, rowSteps, diagonalSteps, dataPlan, allOf, planOf, readFrom}
+use Rattle.liberation.specs.Judging.{othersThere, stepFault, judgeFrom}
+use Rattle.examples.specs.Table.{table, agree}
+
+pub starred : agree table ≡ true
+unfolding added rowFrom rowSet diagonalFrom ordinary diagonalSet lostIn survivingIn diagonals firstRoutes decided routesFrom routes rowSteps diagonalSteps dataPlan allOf planOf readFrom othersThere stepFault judgeFrom table agree
+starred = refl

@@ -1,0 +1,1 @@
+// The starred examples of document 01, shown true of the definitions. No functions.

@@ -1,0 +1,97 @@
+-- Laws of finite sums; a sum over a permuted range.
+use mathlib.Core.Path.{_≡_, refl, sym, ap, ap₂, _∙_}
+use mathlib.Core.Bool.{Bool, true, false}
+use mathlib.Core.Logic.{_⊎_, inl, inr, ⊎-elim}
+use Prim.Native.Nat.{ℕ, zero, suc, _+_, _-_, _*_, _%_, _≤_, _<_}
+use native.Mathlib.Nat.{mod-lt, mul-add}
+use native.Mathlib.Omega.{arith}
+use lib.Dec.{eqb}
+use borrow.Author.Tests.{eq-eqb, ne-eqb, eqb-true, eqb-false}
+use Rattle.laws.proofs.Flags.{flag}
+use Rattle.laws.proofs.Modulo.{lt-or-le}
+use Rattle.laws.proofs.Primes.{Prime, visits, once}
+use Rattle.laws.specs.Choice.{when}
+use Rattle.laws.specs.Sums.{sumTo}
+
+pub sum-zero : (f : ℕ → ℕ) → sumTo 0 f ≡ 0
+unfolding sumTo
+sum-zero f = refl
+
+pub sum-suc : (n : ℕ) (f : ℕ → ℕ) → sumTo (suc n) f ≡ sumTo n f + f n
+unfolding sumTo
+sum-suc n f = refl
+
+pub sum-ext : (n : ℕ) (f g : ℕ → ℕ) → ((i : ℕ) → i < n → f i ≡ g i) → sumTo n f ≡ sumTo n g
+unfolding sumTo
+sum-ext zero f g h = refl
+sum-ext (suc n) f g h = ap₂ (λ (x y : ℕ). x + y) (sum-ext n f g (λ i l. h i (omega arith))) (h n (omega arith))
+
+pub sum-add : (n : ℕ) (f g : ℕ → ℕ) → sumTo n (λ i. f i + g i) ≡ sumTo n f + sumTo n g
+unfolding sumTo
+sum-add zero f g = refl
+sum-add (suc n) f g = omega (arith, sum-add n f g)
+
+pub sum-scale : (n c : ℕ) (f : ℕ → ℕ) → sumTo n (λ i. c * f i) ≡ c * sumTo n f
+unfolding sumTo
+sum-scale zero c f = omega arith
+sum-scale (suc n) c f = omega (arith, sum-scale n c f, mul-add c (sumTo n f) (f n))
+
+pub sum-const : (n c : ℕ) → sumTo n (λ i. c) ≡ n * c
+unfolding sumTo
+sum-const zero c = omega arith
+sum-const (suc n) c = omega (arith, sum-const n c)
+
+pub sum-mono : (n : ℕ) (f g : ℕ → ℕ) → ((i : ℕ) → i < n → f i ≤ g i) → sumTo n f ≤ sumTo n g
+unfolding sumTo
+sum-mono zero f g h = omega arith
+sum-mono (suc n) f g h = omega (arith, sum-mono n f g (λ i l. h i (omega arith)), h n (omega arith))
+
+-- the order of two sums
+pub sum-swap : (n m : ℕ) (f : ℕ → ℕ → ℕ) → sumTo n (λ i. sumTo m (f i)) ≡ sumTo m (λ j. sumTo n (λ i. f i j))
+unfolding sumTo
+sum-swap zero m f = sym (sum-const m 0 ∙ omega arith)
+sum-swap (suc n) m f = ap (λ (x : ℕ). x + sumTo m (f n)) (sum-swap n m f) ∙ sym (sum-add m (λ j. sumTo n (λ i. f i j)) (f n))
+
+-- all terms 0
+pub sum-none : (n : ℕ) (f : ℕ → ℕ) → ((i : ℕ) → i < n → f i ≡ 0) → sumTo n f ≡ 0
+sum-none n f h = sum-ext n f (λ i. 0) h ∙ sum-const n 0 ∙ omega arith
+
+-- one term counts
+pub sum-single : (n k : ℕ) (f : ℕ → ℕ) → k < n → ((i : ℕ) → i < n → (i ≡ k → ⊥) → f i ≡ 0) → sumTo n f ≡ f k
+unfolding sumTo
+sum-single zero k f h z = absurd (omega arith)
+sum-single (suc n) k f h z =
+    ⊎-elim
+    (λ l. let e : f n ≡ 0 = z n (omega arith) (λ q. omega arith) in omega (arith, e, sum-single n k f l (λ i m q. z i (omega arith) q)))
+    (λ l. let e : k ≡ n = omega arith in let y : sumTo n f ≡ 0 = sum-none n f (λ i m. z i (omega arith) (λ q. omega arith)) in omega (arith, y, ap f e))
+    (lt-or-le k n)
+
+-- a sum over a range that is permuted: each i below n is s j for just one j below n
+module _ (n : ℕ) (s : ℕ → ℕ) (at : (i : ℕ) → i < n → (j : ℕ) × (j < n) × (s j ≡ i)) (one : (i j : ℕ) → i < n → j < n → s i ≡ s j → i ≡ j) (within : (j : ℕ) → j < n → s j < n) where
+  hits : (i : ℕ) → i < n → sumTo n (λ j. when (eqb (s j) i) 1) ≡ 1
+  hits i h =
+      let w = at i h in
+      sum-single n (w .0) (λ j. when (eqb (s j) i) 1) (w .1)
+      (λ j l q. ap (λ (b : Bool). when b 1) (ne-eqb (s j) i (λ e. q (one j (w .0) l (w .1) (e ∙ sym (w .2))))))
+      ∙ ap (λ (b : Bool). when b 1) (eq-eqb (s (w .0)) i (w .2))
+
+  term : (g : ℕ → ℕ) (b : Bool) (i : ℕ) → g i * when b 1 ≡ when b (g i)
+  term g true i = omega arith
+  term g false i = omega arith
+
+  pick-one : (g : ℕ → ℕ) (j : ℕ) → j < n → sumTo n (λ i. g i * when (eqb (s j) i) 1) ≡ g (s j)
+  pick-one g j h =
+      sum-single n (s j) (λ i. g i * when (eqb (s j) i) 1) (within j h)
+      (λ i l q. term g (eqb (s j) i) i ∙ ap (λ (b : Bool). when b (g i)) (ne-eqb (s j) i (λ e. q (sym e))))
+      ∙ term g (eqb (s j) (s j)) (s j) ∙ ap (λ (b : Bool). when b (g (s j))) (eq-eqb (s j) (s j) refl)
+
+  pub sum-permuted : (g : ℕ → ℕ) → sumTo n (λ j. g (s j)) ≡ sumTo n g
+  sum-permuted g =
+      sum-ext n (λ j. g (s j)) (λ j. sumTo n (λ i. g i * when (eqb (s j) i) 1)) (λ j l. sym (pick-one g j l))
+      ∙ sum-swap n n (λ j i. g i * when (eqb (s j) i) 1)
+      ∙ sum-ext n (λ i. sumTo n (λ j. g i * when (eqb (s j) i) 1)) g (λ i l. sum-scale n (g i) (λ j. when (eqb (s j) i) 1) ∙ ap (λ (x : ℕ). g i * x) (hits i l) ∙ omega arith)
+
+-- along a walk by a step d that p does not divide
+pub sum-walk : (p : ℕ) → Prime p → (e d : ℕ) → 0 < d → d < p → (g : ℕ → ℕ) → sumTo p (λ j. g ((e + d * j) % p)) ≡ sumTo p g
+sum-walk p ok e d h k g =
+    sum-permuted p (λ j. (e + d * j) % p) (λ i l. visits p ok e d i h k l) (λ i j l m q. once p ok e d i j h k l m q) (λ j l. mod-lt (e + d * j) (omega arith)) g

@@ -1,0 +1,2 @@
+-- Theorems about the code's definitions.
+pub mod Widths
