@@ -1,6 +1,10 @@
 -- Laws over all numbers and lists.
 pub mod Flags
+pub mod TestLaws
 pub mod Modulo
 pub mod Primes
 pub mod SumLaws
 pub mod ListLaws
+pub mod OneOf
+pub mod ShiftLaws
+pub mod XorLaws

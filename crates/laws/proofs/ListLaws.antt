@@ -1,18 +1,25 @@
 -- Lists as sets: what `added` holds, that it stays distinct, and the length of a distinct list as a count.
-use mathlib.Core.Path.{_≡_, refl, sym, ap, ap₂, subst, _∙_}
-use mathlib.Core.Bool.{Bool, true, false, _&&_, _||_, not, or-assoc, or-comm, or-true, false≢true}
-use mathlib.Core.Logic.{_⊎_, inl, inr, ⊎-elim}
-use mathlib.Core.List.{List, [], _∷_}
-use Prim.Native.Nat.{ℕ, zero, suc, _+_, _<_}
+use mathlib.Core.Path.{_≡_, refl, sym, ap, _∙_}
+use mathlib.Core.Bool.{Bool, true, false, _||_, not, or-assoc}
+use mathlib.Core.List.{List, [], _∷_, _++_}
+use Prim.Native.Nat.{ℕ, zero, suc, _≤_, _<_}
 use native.Mathlib.Omega.{arith}
 use lib.Dec.{eqb, ltb}
-use lib.ListN.{length}
-use borrow.Author.Tests.{eq-eqb, ne-eqb, eqb-true, eqb-false, ltb-true, not-true}
-use Rattle.laws.proofs.Flags.{flag, and-l, and-r, and-i, clash}
+use lib.ListN.{length, getD, take, replicate}
+use borrow.Author.Tests.{eqb-true, ltb-true, not-true}
+use Rattle.laws.proofs.Flags.{and-l, and-r, and-i}
 use Rattle.laws.specs.Choice.{pick, when}
 use Rattle.laws.specs.Sums.{sumTo}
 use Rattle.laws.specs.Lists.{isIn, added, distinct, allBelow}
-use Rattle.laws.proofs.SumLaws.{sum-ext, sum-add, sum-none, sum-single}
+use Rattle.laws.proofs.SumLaws.{sum-none, sum-more}
+
+pub isIn-append : (x : ℕ) (xs ys : List ℕ) → isIn x (xs ++ ys) ≡ (isIn x xs || isIn x ys)
+isIn-append x [] ys = refl
+isIn-append x (y ∷ xs) ys = ap (λ (b : Bool). eqb x y || b) (isIn-append x xs ys) ∙ sym (or-assoc (eqb x y) (isIn x xs) (isIn x ys))
+
+pub below-append : (n : ℕ) (xs ys : List ℕ) → allBelow n xs ≡ true → allBelow n ys ≡ true → allBelow n (xs ++ ys) ≡ true
+below-append n [] ys h k = k
+below-append n (x ∷ xs) ys h k = and-i (ltb x n) (allBelow n (xs ++ ys)) (and-l (ltb x n) (allBelow n xs) h) (below-append n xs ys (and-r (ltb x n) (allBelow n xs) h) k)
 
 -- membership in what is added
 pub isIn-added : (x : ℕ) (xs ys : List ℕ) → isIn x (added xs ys) ≡ (isIn x xs || isIn x ys)
@@ -43,16 +50,29 @@ distinct-added (x ∷ xs) ys d = distinct-added xs (pick (isIn x ys) ys (x ∷ y
     go true t = d
     go false t = and-i (not (isIn x ys)) (distinct ys) (ap not t) d
 
+pub below-added : (n : ℕ) (xs ys : List ℕ) → allBelow n xs ≡ true → allBelow n ys ≡ true → allBelow n (added xs ys) ≡ true
+unfolding added
+below-added n [] ys h k = k
+below-added n (x ∷ xs) ys h k = below-added n xs (pick (isIn x ys) ys (x ∷ ys)) (and-r (ltb x n) (allBelow n xs) h) (go (isIn x ys))
+  where
+    go : (b : Bool) → allBelow n (pick b ys (x ∷ ys)) ≡ true
+    go true = k
+    go false = and-i (ltb x n) (allBelow n ys) (and-l (ltb x n) (allBelow n xs) h) k
+
 -- a distinct list's length is the number of its elements
 pub count-distinct : (n : ℕ) (ys : List ℕ) → distinct ys ≡ true → allBelow n ys ≡ true → length ys ≡ sumTo n (λ x. when (isIn x ys) 1)
 count-distinct n [] d b = sym (sum-none n (λ x. 0) (λ i l. refl))
 count-distinct n (y ∷ ys) d b =
-    let out : isIn y ys ≡ false = not-true (isIn y ys) (and-l (not (isIn y ys)) (distinct ys) d) in
-    let l : y < n = ltb-true y n (and-l (ltb y n) (allBelow n ys) b) in
     let rest : length ys ≡ sumTo n (λ x. when (isIn x ys) 1) = count-distinct n ys (and-r (not (isIn y ys)) (distinct ys) d) (and-r (ltb y n) (allBelow n ys) b) in
-    let here : sumTo n (λ x. when (eqb x y) 1) ≡ 1 = sum-single n y (λ x. when (eqb x y) 1) l (λ i m q. ap (λ (t : Bool). when t 1) (ne-eqb i y q)) ∙ ap (λ (t : Bool). when t 1) (eq-eqb y y refl) in
-    omega (arith, rest, here, sum-add n (λ x. when (eqb x y) 1) (λ x. when (isIn x ys) 1), sum-ext n (λ x. when (eqb x y || isIn x ys) 1) (λ x. when (eqb x y) 1 + when (isIn x ys) 1) (λ i m. apart y ys out i (eqb i y) refl))
-  where
-    apart : (y : ℕ) (ys : List ℕ) → isIn y ys ≡ false → (i : ℕ) (e : Bool) → eqb i y ≡ e → when (e || isIn i ys) 1 ≡ when e 1 + when (isIn i ys) 1
-    apart y ys out i true e = ap (λ (t : Bool). 1 + when t 1) (sym (ap (λ (k : ℕ). isIn k ys) (eqb-true i y e) ∙ out))
-    apart y ys out i false e = omega arith
+    omega (arith, sum-more n y (λ x. isIn x ys) (ltb-true y n (and-l (ltb y n) (allBelow n ys) b)) (not-true (isIn y ys) (and-l (not (isIn y ys)) (distinct ys) d)))
+
+-- an element of a list whose elements are all below n
+pub below-at : (n i : ℕ) (xs : List ℕ) → allBelow n xs ≡ true → i < length xs → getD xs i 0 < n
+below-at n i [] b h = absurd (omega arith)
+below-at n zero (x ∷ xs) b h = ltb-true x n (and-l (ltb x n) (allBelow n xs) b)
+below-at n (suc i) (x ∷ xs) b h = below-at n i xs (and-r (ltb x n) (allBelow n xs) b) (omega arith)
+
+pub take-replicate : (n m v : ℕ) → n ≤ m → take n (replicate m v) ≡ replicate n v
+take-replicate zero m v h = refl
+take-replicate (suc n) zero v h = absurd (omega arith)
+take-replicate (suc n) (suc m) v h = ap (λ (l : List ℕ). v ∷ l) (take-replicate n m v (omega arith))

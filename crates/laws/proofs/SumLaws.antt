@@ -1,13 +1,12 @@
 -- Laws of finite sums; a sum over a permuted range.
 use mathlib.Core.Path.{_≡_, refl, sym, ap, ap₂, _∙_}
-use mathlib.Core.Bool.{Bool, true, false}
-use mathlib.Core.Logic.{_⊎_, inl, inr, ⊎-elim}
-use Prim.Native.Nat.{ℕ, zero, suc, _+_, _-_, _*_, _%_, _≤_, _<_}
-use native.Mathlib.Nat.{mod-lt, mul-add}
+use mathlib.Core.Bool.{Bool, true, false, _||_}
+use mathlib.Core.Logic.{⊎-elim}
+use Prim.Native.Nat.{ℕ, zero, suc, _+_, _*_, _%_, _≤_, _<_}
+use native.Mathlib.Nat.{mod-lt, mul-add, add-zero, add-suc, zero-mul}
 use native.Mathlib.Omega.{arith}
 use lib.Dec.{eqb}
-use borrow.Author.Tests.{eq-eqb, ne-eqb, eqb-true, eqb-false}
-use Rattle.laws.proofs.Flags.{flag}
+use borrow.Author.Tests.{eq-eqb, ne-eqb, eqb-true}
 use Rattle.laws.proofs.Modulo.{lt-or-le}
 use Rattle.laws.proofs.Primes.{Prime, visits, once}
 use Rattle.laws.specs.Choice.{when}
@@ -65,6 +64,36 @@ sum-single (suc n) k f h z =
     (λ l. let e : f n ≡ 0 = z n (omega arith) (λ q. omega arith) in omega (arith, e, sum-single n k f l (λ i m q. z i (omega arith) q)))
     (λ l. let e : k ≡ n = omega arith in let y : sumTo n f ≡ 0 = sum-none n f (λ i m. z i (omega arith) (λ q. omega arith)) in omega (arith, y, ap f e))
     (lt-or-le k n)
+
+-- one more flag holds than u says
+pub sum-more : (n k : ℕ) (u : ℕ → Bool) → k < n → u k ≡ false → sumTo n (λ i. when (eqb i k || u i) 1) ≡ 1 + sumTo n (λ i. when (u i) 1)
+sum-more n k u h e =
+    sum-ext n (λ i. when (eqb i k || u i) 1) (λ i. when (eqb i k) 1 + when (u i) 1) (λ i l. apart i (eqb i k) refl)
+    ∙ sum-add n (λ i. when (eqb i k) 1) (λ i. when (u i) 1)
+    ∙ ap (λ (x : ℕ). x + sumTo n (λ i. when (u i) 1)) (sum-single n k (λ i. when (eqb i k) 1) h (λ i l q. ap (λ (b : Bool). when b 1) (ne-eqb i k q)) ∙ ap (λ (b : Bool). when b 1) (eq-eqb k k refl))
+  where
+    apart : (i : ℕ) (b : Bool) → eqb i k ≡ b → when (b || u i) 1 ≡ when b 1 + when (u i) 1
+    apart i true q = ap (λ (t : Bool). 1 + when t 1) (sym (ap u (eqb-true i k q) ∙ e))
+    apart i false q = omega arith
+
+-- a range in two parts
+pub sum-split : (n m : ℕ) (f : ℕ → ℕ) → sumTo (n + m) f ≡ sumTo n f + sumTo m (λ i. f (n + i))
+unfolding sumTo
+sum-split n zero f = ap (λ (x : ℕ). sumTo x f) (add-zero n) ∙ omega arith
+sum-split n (suc m) f = ap (λ (x : ℕ). sumTo x f) (add-suc n m) ∙ omega (arith, sum-split n m f)
+
+pub sum-first : (n : ℕ) (f : ℕ → ℕ) → sumTo (suc n) f ≡ f 0 + sumTo n (λ i. f (suc i))
+unfolding sumTo
+sum-first zero f = omega arith
+sum-first (suc n) f = omega (arith, sum-first n f)
+
+-- the numbers below m p, by quotient and remainder
+pub sum-double : (m p : ℕ) (f : ℕ → ℕ) → sumTo (m * p) f ≡ sumTo m (λ c. sumTo p (λ r. f (c * p + r)))
+unfolding sumTo
+sum-double zero p f = ap (λ (x : ℕ). sumTo x f) (zero-mul p)
+sum-double (suc m) p f =
+    let e : suc m * p ≡ m * p + p = omega arith in
+    ap (λ (x : ℕ). sumTo x f) e ∙ sum-split (m * p) p f ∙ ap (λ (x : ℕ). x + sumTo p (λ r. f (m * p + r))) (sum-double m p f)
 
 -- a sum over a range that is permuted: each i below n is s j for just one j below n
 module _ (n : ℕ) (s : ℕ → ℕ) (at : (i : ℕ) → i < n → (j : ℕ) × (j < n) × (s j ≡ i)) (one : (i j : ℕ) → i < n → j < n → s i ≡ s j → i ≡ j) (within : (j : ℕ) → j < n → s j < n) where

@@ -1,2 +1,14 @@
 -- Theorems about the code's definitions.
+-- widths, cells of sets, route words
 pub mod Widths
+pub mod CellLaws
+pub mod SetLaws
+pub mod WordLaws
+-- read counts and lists
+pub mod ReadLaws
+-- the price of every accepted plan
+pub mod UsedLaws
+pub mod AcceptedLaws
+pub mod Counting
+pub mod PriceLaws
+pub mod Bounds

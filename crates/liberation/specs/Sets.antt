@@ -4,6 +4,7 @@ use mathlib.Core.Bool.{Bool, true, false, _&&_, _||_, not}
 use mathlib.Core.List.{List, [], _∷_, _++_}
 use Prim.Native.Nat.{ℕ, zero, suc, _+_, _-_, _*_, _/_, _%_}
 use lib.Dec.{eqb, ltb, leb}
+use lib.ListN.{length}
 use Rattle.laws.specs.Choice.{pick, when}
 use Rattle.laws.specs.Lists.{isIn}
 
@@ -77,3 +78,7 @@ widthFault p = when (not (isWidth p)) 1
 
 abbrev pub diskFault : ℕ → ℕ → ℕ
 diskFault k f = when (ltb (k + 1) f) 3
+
+-- refusal 5: "a lent slice has another length than required"
+abbrev pub longFault : ℕ → List ℕ → ℕ
+longFault n t = when (not (eqb (length t) n)) 5
