@@ -8,3 +8,5 @@ pub mod ListLaws
 pub mod OneOf
 pub mod ShiftLaws
 pub mod XorLaws
+pub mod Residues
+pub mod RangeLaws

@@ -1,16 +1,17 @@
 -- Laws of finite sums; a sum over a permuted range.
 use mathlib.Core.Path.{_≡_, refl, sym, ap, ap₂, _∙_}
-use mathlib.Core.Bool.{Bool, true, false, _||_}
+use mathlib.Core.Bool.{Bool, true, false, _&&_, _||_, not}
 use mathlib.Core.Logic.{⊎-elim}
 use Prim.Native.Nat.{ℕ, zero, suc, _+_, _*_, _%_, _≤_, _<_}
 use native.Mathlib.Nat.{mod-lt, mul-add, add-zero, add-suc, zero-mul}
 use native.Mathlib.Omega.{arith}
 use lib.Dec.{eqb}
-use borrow.Author.Tests.{eq-eqb, ne-eqb, eqb-true}
+use borrow.Author.Tests.{eq-eqb, ne-eqb, eqb-true, not-true}
+use Rattle.laws.proofs.Flags.{and-i, and-l, and-r}
 use Rattle.laws.proofs.Modulo.{lt-or-le}
 use Rattle.laws.proofs.Primes.{Prime, visits, once}
 use Rattle.laws.specs.Choice.{when}
-use Rattle.laws.specs.Sums.{sumTo}
+use Rattle.laws.specs.Sums.{sumTo, allTo}
 
 pub sum-zero : (f : ℕ → ℕ) → sumTo 0 f ≡ 0
 unfolding sumTo
@@ -124,3 +125,20 @@ module _ (n : ℕ) (s : ℕ → ℕ) (at : (i : ℕ) → i < n → (j : ℕ) × 
 pub sum-walk : (p : ℕ) → Prime p → (e d : ℕ) → 0 < d → d < p → (g : ℕ → ℕ) → sumTo p (λ j. g ((e + d * j) % p)) ≡ sumTo p g
 sum-walk p ok e d h k g =
     sum-permuted p (λ j. (e + d * j) % p) (λ i l. visits p ok e d i h k l) (λ i j l m q. once p ok e d i j h k l m q) (λ j l. mod-lt (e + d * j) (omega arith)) g
+
+-- no flag holds: as a sum, and as a test
+pub none-all : (n : ℕ) (u : ℕ → Bool) → sumTo n (λ i. when (u i) 1) ≡ 0 → allTo n (λ i. not (u i)) ≡ true
+unfolding sumTo allTo
+none-all zero u e = refl
+none-all (suc n) u e = and-i (allTo n (λ i. not (u i))) (not (u n)) (none-all n u (omega arith)) (last (u n) (omega arith))
+  where
+    last : (b : Bool) → when b 1 ≡ 0 → not b ≡ true
+    last true q = absurd (omega arith)
+    last false q = refl
+
+pub all-none : (n : ℕ) (u : ℕ → Bool) → allTo n (λ i. not (u i)) ≡ true → sumTo n (λ i. when (u i) 1) ≡ 0
+unfolding sumTo allTo
+all-none zero u h = refl
+all-none (suc n) u h =
+    let last : u n ≡ false = not-true (u n) (and-r (allTo n (λ i. not (u i))) (not (u n)) h) in
+    omega (arith, all-none n u (and-l (allTo n (λ i. not (u i))) (not (u n)) h), ap (λ (t : Bool). when t 1) last)

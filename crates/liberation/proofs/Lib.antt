@@ -12,3 +12,11 @@ pub mod AcceptedLaws
 pub mod Counting
 pub mod PriceLaws
 pub mod Bounds
+-- our plan
+pub mod Passing
+pub mod ParityPlans
+pub mod RouteLaws
+pub mod StepLaws
+pub mod OurPlan
+-- demand 3
+pub mod Demand3
