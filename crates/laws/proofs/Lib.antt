@@ -10,3 +10,6 @@ pub mod ShiftLaws
 pub mod XorLaws
 pub mod Residues
 pub mod RangeLaws
+pub mod MemberLaws
+pub mod ByteLaws
+pub mod AllLaws

@@ -20,3 +20,8 @@ pub mod StepLaws
 pub mod OurPlan
 -- demand 3
 pub mod Demand3
+-- places, distinct cells, rows of a plan, read lists
+pub mod PlaceLaws
+pub mod DistinctLaws
+pub mod RowLaws
+pub mod ReadListLaws

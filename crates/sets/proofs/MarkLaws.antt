@@ -15,6 +15,7 @@ use Rattle.laws.specs.Lists.{isIn, added, allBelow}
 use Rattle.laws.proofs.Flags.{and-l, and-r, flag}
 use Rattle.liberation.specs.Sets.{diskAt, survivingIn}
 use Rattle.liberation.specs.Plans.{marksFrom}
+pub use Rattle.liberation.proofs.ReadListLaws.{mark-at}
 use Rattle.sets.specs.Marks.{markAll, freshIn, Marked}
 
 -- one cell: on the lost disk, or not
@@ -83,13 +84,6 @@ fresh-le m (x ∷ xs) = go (eqb (getD m x 0) 0) (fresh-le (set m x 1) xs)
 pub nothing-marked : (m : List ℕ) → (markAll m [] ≡ m) × (freshIn m [] ≡ 0)
 unfolding markAll freshIn
 nothing-marked m = (refl, refl)
-
--- a mark read: 1 where the cell is among ys
-pub mark-at : (n i x : ℕ) (ys : List ℕ) → x < n → getD (marksFrom n i ys) x 0 ≡ when (isIn (i + x) ys) 1
-unfolding marksFrom
-mark-at zero i x ys h = absurd (omega arith)
-mark-at (suc n) i zero ys h = let e : i ≡ i + 0 = omega arith in ap (λ (k : ℕ). when (isIn k ys) 1) e
-mark-at (suc n) i (suc x) ys h = let e : suc i + x ≡ i + suc x = omega arith in mark-at n (suc i) x ys (omega arith) ∙ ap (λ (k : ℕ). when (isIn k ys) 1) e
 
 pub length-marks : (n i : ℕ) (ys : List ℕ) → length (marksFrom n i ys) ≡ n
 unfolding marksFrom

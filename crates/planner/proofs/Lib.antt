@@ -1,0 +1,4 @@
+pub mod RouteLaws
+pub mod StepLaws
+pub mod ReadingLaws
+pub mod PlanLaws

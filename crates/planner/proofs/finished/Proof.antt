@@ -1,0 +1,65 @@
+-- `finished`: the record holds our plan's steps, and its read count is what marking all of them counts.
+use mathlib.Core.Path.{_≡_, refl, sym, ap, _∙_}
+use mathlib.Core.List.{List}
+use Prim.Native.Nat.{ℕ, _+_, _*_, _≤_}
+use native.Mathlib.Nat.{mul-le-mul}
+use native.Mathlib.Omega.{arith}
+use lib.ListN.{length, take, replicate, length-replicate}
+use lib.Seq.{length-take-le}
+use Rattle.laws.proofs.ListLaws.{take-replicate}
+use Rattle.liberation.proofs.Widths.{width-most}
+use Rattle.planner.proofs.PlanLaws.{plan-says}
+use borrow.Author.Needs.{needs}
+use Rattle.planner.proofs.finished.Statement.{statement}
+use Rattle.planner.proofs.finished.Tie as tie
+
+-- the widest array has 1,023 cells
+cells : (c : tie.After-s) → (c .before .args .width ≤ 31) × (c .before .args .width * (c .before .args .width + 2) ≤ 1023)
+cells c =
+    let a = c .before .args in
+    let w = width-most (a .width) (c .before .pre .0) in
+    let v : a .width + 2 ≤ 33 = omega arith in
+    (w, mul-le-mul w v)
+
+all-marks : (c : tie.After-no-marks) → length (c .no-marks .result) ≡ 1023
+all-marks c = ap (λ (x : List ℕ). length x) (c .no-marks .ensures) ∙ length-replicate {A = ℕ} 1023 0
+
+add-n : tie.Need-add-n
+add-n c = omega (arith, cells c)
+
+mul-n : tie.Need-mul-n
+mul-n c = omega (arith, cells c)
+
+no-marks-requires : tie.Need-no-marks-requires
+no-marks-requires c κs = search needs
+
+array-borrow-prefix-marks : tie.Need-array-borrow-prefix-marks
+array-borrow-prefix-marks c = omega (arith, cells (c .before), all-marks c)
+
+slice-aggregate-mark-steps : tie.Need-slice-aggregate-mark-steps
+slice-aggregate-mark-steps c = sym (length-take-le _ (c .before .no-marks .result) (omega (arith, cells (c .before .before), all-marks (c .before))))
+
+mark-steps-requires : tie.Need-mark-steps-requires
+mark-steps-requires c κs =
+    let q = c .before .before .before in
+    let n = q .args .width * (q .args .width + 2) in
+    (q .pre .0, q .pre .1, q .pre .2 .steps, ap (take n) (c .before .no-marks .ensures) ∙ take-replicate n 1023 0 (omega (arith, cells (c .before .before))))
+
+returns : tie.Need-returns
+returns c =
+    let q = c .before .before .before .before .before .before .before .before in
+    let a = q .args in
+    let k = c .before .before .before .before .mark-steps in
+    plan-says (a .width) (a .disk) _ (a .p .steps) (q .pre .0) (q .pre .1) (q .pre .2 .steps) refl refl refl refl refl (q .pre .2 .word) (k .ensures .0)
+
+pub finished-spec : {M : Type 1} → statement M
+finished-spec =
+    tie.close
+    (tie.spec
+    add-n
+    mul-n
+    no-marks-requires
+    array-borrow-prefix-marks
+    slice-aggregate-mark-steps
+    mark-steps-requires
+    returns)

@@ -1,0 +1,87 @@
+-- `read_list`: refusals 1, 3 and 5 in this order leave the list as it was; else it is cleared, and the cells that our plan reads are marked.
+use mathlib.Core.Path.{_≡_, refl, sym, ap, _∙_}
+use mathlib.Core.Bool.{true}
+use Prim.Native.Nat.{ℕ, _+_, _≤_}
+use native.Mathlib.Nat.{mul-le-mul}
+use native.Mathlib.Omega.{arith}
+use lib.ListN.{replicate}
+use borrow.Author.Tests.{not-true, not-false}
+use Rattle.liberation.specs.Sets.{isWidth}
+use Rattle.liberation.proofs.Widths.{width-most}
+use Rattle.planner.proofs.PlanLaws.{list-refused, list-first, list-long, list-says, fault-width, fault-disk, fault-none}
+use borrow.Author.Needs.{needs}
+use Rattle.planner.proofs.read_list.Statement.{statement}
+use Rattle.planner.proofs.read_list.Tie as tie
+
+-- past the first test the width is one of the ten
+wide : (c : tie.Else1) → isWidth (c .before .before .before .args .width) ≡ true
+wide c = sym (c .before .is-width .ensures) ∙ not-false (c .before .is-width .result) (c .if1 .left)
+
+is-width-requires : tie.Need-is-width-requires
+is-width-requires c κs = search needs
+
+returns : tie.Need-returns
+returns c =
+    let a = c .before .before .before .args in
+    list-refused (a .width) (a .disk) 1 (a .list .now) refl (list-first (a .width) (a .disk) 0 (a .list .now) (fault-width (a .width) (a .disk) (sym (c .before .is-width .ensures) ∙ not-true (c .before .is-width .result) (c .if1 .taken))))
+
+add-if2 : tie.Need-add-if2
+add-if2 c = omega (arith, width-most (c .before .before .before .args .width) (wide c))
+
+returns-2 : tie.Need-returns-2
+returns-2 c =
+    let a = c .before .before .before .before .args in
+    list-refused (a .width) (a .disk) 3 (a .list .now) refl (list-first (a .width) (a .disk) 2 (a .list .now) (fault-disk (a .width) (a .disk) (wide (c .before)) (c .if2 .taken)))
+
+add-if3 : tie.Need-add-if3
+add-if3 c = omega (arith, width-most (c .before .before .before .before .args .width) (wide (c .before)))
+
+mul-if3 : tie.Need-mul-if3
+mul-if3 c =
+    let a = c .before .before .before .before .args in
+    let w = width-most (a .width) (wide (c .before)) in
+    let v : a .width + 2 ≤ 33 = omega arith in
+    omega (arith, mul-le-mul w v)
+
+returns-3 : tie.Need-returns-3
+returns-3 c =
+    let a = c .before .before .before .before .before .args in
+    list-refused (a .width) (a .disk) 5 (a .list .now) refl (list-long (a .width) (a .disk) (a .list .now) (fault-none (a .width) (a .disk) (wide (c .before .before)) (c .before .if2 .left)) (c .if3 .taken))
+
+clear-requires : tie.Need-clear-requires
+clear-requires c κs = search needs
+
+our-plan-requires : tie.Need-our-plan-requires
+our-plan-requires c κs = let e = c .before .before .before .before in (wide (e .before .before), e .before .if2 .left)
+
+mark-steps-requires : tie.Need-mark-steps-requires
+mark-steps-requires c κs =
+    let e = c .before .before .before .before .before .before .before in
+    let a = e .before .before .before .before .before .args in
+    (wide (e .before .before), e .before .if2 .left, c .before .before .our-plan .ensures .steps, c .before .before .before .before .before .clear .ensures ∙ ap (λ (n : ℕ). replicate n 0) (e .if3 .left))
+
+same-length : tie.Need-same-length
+same-length c = search needs
+
+returns-4 : tie.Need-returns-4
+returns-4 c =
+    let e = c .before .before .before .before .before .before .before .before .before .before in
+    let a = e .before .before .before .before .before .args in
+    list-says (a .width) (a .disk) (a .list .now) _ (fault-none (a .width) (a .disk) (wide (e .before .before)) (e .before .if2 .left)) (e .if3 .left) (c .before .before .mark-steps .ensures .1)
+
+pub read-list-spec : {M : Type 1} → statement M
+read-list-spec =
+    tie.close
+    (tie.spec
+    is-width-requires
+    returns
+    add-if2
+    returns-2
+    add-if3
+    mul-if3
+    returns-3
+    clear-requires
+    our-plan-requires
+    mark-steps-requires
+    same-length
+    returns-4)

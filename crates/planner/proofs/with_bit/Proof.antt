@@ -1,0 +1,22 @@
+-- `with_bit`: a shift by less than 32 loses nothing.
+use mathlib.Core.Path.{ap, _∙_}
+use native.Mathlib.Nat.{one-mul}
+use native.Mathlib.Omega.{arith}
+use lib.Bits.{bitOr}
+use lib.Dec.{lit<}
+use lib.Pow.{shl-exact}
+use borrow.Author.Needs.{needs}
+use Rattle.planner.proofs.with_bit.Statement.{statement}
+use Rattle.planner.proofs.with_bit.Tie as tie
+
+cast-result : tie.Need-cast-result
+cast-result c = search needs
+
+shl-result : tie.Need-shl-result
+shl-result c = search needs
+
+returns : tie.Need-returns
+returns c = ap (bitOr (c .args .word)) (shl-exact 1 (c .args .row) 32 (lit< tt) (omega arith) ∙ one-mul _)
+
+pub with-bit-spec : {M : Type 1} → statement M
+with-bit-spec = tie.close (tie.spec cast-result shl-result returns)

@@ -1,0 +1,3 @@
+-- What the planner promises.
+pub mod Records
+pub mod Says
