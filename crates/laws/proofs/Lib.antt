@@ -13,3 +13,5 @@ pub mod RangeLaws
 pub mod MemberLaws
 pub mod ByteLaws
 pub mod AllLaws
+pub mod SearchLaws
+pub mod ChoiceLaws

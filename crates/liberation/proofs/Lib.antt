@@ -25,3 +25,4 @@ pub mod PlaceLaws
 pub mod DistinctLaws
 pub mod RowLaws
 pub mod ReadListLaws
+pub mod ParityReads

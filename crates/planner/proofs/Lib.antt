@@ -2,3 +2,4 @@ pub mod RouteLaws
 pub mod StepLaws
 pub mod ReadingLaws
 pub mod PlanLaws
+pub mod FormLaws

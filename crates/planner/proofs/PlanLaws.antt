@@ -1,5 +1,5 @@
 -- Our plan by the kind of disk: its steps and its route word for a data disk, for P and for Q; and the promise of the planner for accepted and refused calls.
-use mathlib.Core.Path.{_≡_, refl, sym, ap, ap₂, _∙_}
+use mathlib.Core.Path.{_≡_, refl, sym, ap, ap₂, subst, _∙_}
 use mathlib.Core.Bool.{Bool, true, false, not}
 use mathlib.Core.List.{List, [], _++_}
 use Prim.Native.Nat.{ℕ, suc, _+_, _-_, _*_, _^_, _≤_, _<_}
@@ -19,7 +19,7 @@ use Rattle.planner.specs.Says.{planFault, plannedSteps, PlanSays, Refuse
 
 -- held steps, under another name
 held-as : (ss ts : List Step) (s : Steps) → ss ≡ ts → Holds ss s → Holds ts s
-held-as ss ts s e h = mathlib.Core.Path.subst (λ (x : List Step). Holds x s) e h
+held-as ss ts s e h = subst (λ (x : List Step). Holds x s) e h
 
 -- a data disk
 pub data-is : (p f : ℕ) (r : Routes) (s : Steps) → f < p → RoutesAre p (routes p f) r → Holds (rowSteps 0 (take p (r .routes)) ++ diagonalSteps p f 0 (take p (r .routes))) s → PlannedIs p f (record { steps = s; word = r .word })
@@ -64,12 +64,15 @@ fault-disk p f e h = ap₂ (λ (a b : Bool). firstOf (when (not a) 1) (when b 3)
 pub fault-none : (p f : ℕ) → isWidth p ≡ true → f ≤ p + 1 → planFault p f ≡ 0
 fault-none p f e h = ap₂ (λ (a b : Bool). firstOf (when (not a) 1) (when b 3)) e (le-ltb (p + 1) f h)
 
+pub planned-is : (p f : ℕ) → isWidth p ≡ true → f ≤ p + 1 → plannedSteps p f ≡ planOf p p f
+planned-is p f w h = ap (λ (x : ℕ). pick (eqb x 0) (planOf p p f) []) (fault-none p f w h)
+
 -- an accepted call
 pub plan-says : (p f : ℕ) (r : Plan) (s : Steps) → isWidth p ≡ true → f ≤ p + 1 → Holds (planOf p p f) s → r .number ≡ 0 → r .place ≡ 0 → r .rows ≡ s .rows → r .kinds ≡ s .kinds → r .sets ≡ s .sets → r .routes ≡ routeWord p p f → r .reads ≡ readCount p p f (planOf p p f) → PlanSays p f r
 plan-says p f r s w l k n i a b c d e =
     let z : planFault p f ≡ 0 = fault-none p f w l in
     let ok : eqb (planFault p f) 0 ≡ true = ap (λ (x : ℕ). eqb x 0) z in
-    let ours : planOf p p f ≡ plannedSteps p f = ap (λ (t : Bool). pick t (planOf p p f) []) (sym ok) in
+    let ours : planOf p p f ≡ plannedSteps p f = sym (planned-is p f w l) in
     record {
       number = n ∙ sym z;
       place = i;

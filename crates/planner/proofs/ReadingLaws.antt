@@ -18,7 +18,7 @@ use Rattle.liberation.proofs.ReadLaws.{numbersBelow}
 use Rattle.liberation.proofs.UsedLaws.{named-numbers}
 use Rattle.liberation.proofs.AcceptedLaws.{accepted-length, accepted-named}
 use Rattle.liberation.proofs.Demand3.{plan-accepted}
-use Rattle.sets.specs.Marks.{Marked, freshIn}
+use Rattle.sets.specs.Marks.{Marked, markAll, freshIn}
 use Rattle.sets.proofs.MarkLaws.{marks-added, fresh-added, fresh-le}
 use Rattle.sets.proofs.SizeLaws.{size-most}
 use Rattle.planner.specs.Records.{listed, padded}
@@ -100,7 +100,7 @@ reading-turn p f ss m m′ reads i r a l n k d =
     record {
       within = omega arith;
       cells = added xs (k .cells);
-      marks = d .marks ∙ ap (λ (y : List ℕ). Rattle.sets.specs.Marks.markAll y xs) (k .marks) ∙ marks-added (p * (p + 2)) xs (k .cells) b;
+      marks = d .marks ∙ ap (λ (y : List ℕ). markAll y xs) (k .marks) ∙ marks-added (p * (p + 2)) xs (k .cells) b;
       count = omega (arith, fresh, k .count);
       few = omega (arith, k .few, d .fresh, fresh-le m xs, surviving-few p f (setOf p p (a .this .kind) (a .this .number)), size-most p p (a .this .kind) (a .this .number));
       rest = ap (λ (j : ℕ). readFrom p p f (drop j ss) (added xs (k .cells))) (add-one i) ∙ sym (ap (λ (y : List Step). readFrom p p f y (k .cells)) (a .split)) ∙ k .rest;

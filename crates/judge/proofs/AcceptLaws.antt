@@ -1,0 +1,63 @@
+-- The judge's answer and acceptance: its number is 0 exactly for the bytes of an accepted plan, and its reads are then that plan's read count.
+use mathlib.Core.Path.{_≡_, refl, sym, ap, ap₂, _∙_}
+use mathlib.Core.Bool.{true, false, not}
+use mathlib.Core.List.{List}
+use Prim.Native.Nat.{ℕ, zero, suc, _+_, _*_, _≤_}
+use lib.Dec.{eqb, ltb}
+use lib.ListN.{length, drop}
+use borrow.Author.Tests.{eqb-true, ltb-false, eq-eqb, le-ltb, not-false}
+use Rattle.laws.specs.Choice.{pick, firstOf}
+use Rattle.laws.proofs.ChoiceLaws.{first-none, when-none}
+use Rattle.laws.proofs.Flags.{and-i, and-r}
+use Rattle.liberation.specs.Sets.{isWidth, widthFault, diskFault, longFault}
+use Rattle.liberation.specs.Plans.{readCount}
+use Rattle.liberation.specs.Judging.{judge, stepsIn, accepted}
+use Rattle.judge.specs.declared.Judged.{Judged}
+use Rattle.judge.specs.Says.{formFault, JudgeSays}
+use Rattle.judge.proofs.FormLaws.{form-is}
+
+-- the bytes bs are an accepted plan for lost disk f
+pub record Acceptable (p f : ℕ) (bs : List ℕ) : Type 0 where
+  pub width : isWidth p ≡ true
+  pub disk : f ≤ p + 1
+  pub long : length bs ≡ 3 * p
+  pub accepts : accepted p p f (stepsIn p bs) ≡ true
+
+-- the bytes name n steps
+pub steps-long : (n : ℕ) (bs : List ℕ) → length (stepsIn n bs) ≡ n
+unfolding stepsIn
+steps-long zero bs = refl
+steps-long (suc n) bs = ap suc (steps-long n (drop 3 bs))
+
+pub zero-accepts : (p f : ℕ) (bs : List ℕ) (r : Judged) → JudgeSays p f bs r → r .number ≡ 0 → Acceptable p f bs
+unfolding accepted
+zero-accepts p f bs r s e =
+    record {
+      width = not-false (isWidth p) (when-none (not (isWidth p)) 0 (form .0));
+      disk = ltb-false (p + 1) f (when-none (ltb (p + 1) f) 2 (rest .0));
+      long = eqb-true (length bs) (3 * p) (not-false (eqb (length bs) (3 * p)) (when-none (not (eqb (length bs) (3 * p))) 4 (rest .1)));
+      accepts = and-i (eqb (length (stepsIn p bs)) p) (eqb (judge p p f (stepsIn p bs) .number) 0) (eq-eqb (length (stepsIn p bs)) p (steps-long p bs)) (eq-eqb (judge p p f (stepsIn p bs) .number) 0 (all .1));
+    }
+  where
+    all : (formFault p f bs ≡ 0) × (judge p p f (stepsIn p bs) .number ≡ 0)
+    all = first-none (formFault p f bs) (judge p p f (stepsIn p bs) .number) (sym (s .number) ∙ e)
+
+    form : (widthFault p ≡ 0) × (firstOf (diskFault p f) (longFault (3 * p) bs) ≡ 0)
+    form = first-none (widthFault p) (firstOf (diskFault p f) (longFault (3 * p) bs)) (all .0)
+
+    rest : (diskFault p f ≡ 0) × (longFault (3 * p) bs ≡ 0)
+    rest = first-none (diskFault p f) (longFault (3 * p) bs) (form .1)
+
+pub accepts-zero : (p f : ℕ) (bs : List ℕ) (r : Judged) → JudgeSays p f bs r → Acceptable p f bs → r .number ≡ 0
+unfolding accepted
+accepts-zero p f bs r s a = s .number ∙ ap₂ firstOf form steps
+  where
+    form : formFault p f bs ≡ 0
+    form = form-is p f bs true false true (a .width) (le-ltb (p + 1) f (a .disk)) (eq-eqb (length bs) (3 * p) (a .long))
+
+    steps : judge p p f (stepsIn p bs) .number ≡ 0
+    steps = eqb-true (judge p p f (stepsIn p bs) .number) 0 (and-r (eqb (length (stepsIn p bs)) p) (eqb (judge p p f (stepsIn p bs) .number) 0) (a .accepts))
+
+-- the count is that of the definition
+pub zero-counts : (p f : ℕ) (bs : List ℕ) (r : Judged) → JudgeSays p f bs r → r .number ≡ 0 → r .reads ≡ readCount p p f (stepsIn p bs)
+zero-counts p f bs r s e = s .reads ∙ ap (λ (k : ℕ). pick (eqb k 0) (readCount p p f (stepsIn p bs)) 0) (sym (s .number) ∙ e)

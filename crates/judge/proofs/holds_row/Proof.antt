@@ -1,0 +1,82 @@
+-- `holds_row`: the cells of the set come one by one and are compared with the row's lost cell. The invariant: the cells still to come answer for all.
+use mathlib.Core.Path.{_≡_, refl, sym, _∙_}
+use Prim.Native.Nat.{_-_}
+use native.Mathlib.Omega.{arith}
+use lib.ListN.{length, drop}
+use borrow.Author.Needs.{needs}
+use Rattle.laws.specs.Lists.{isIn}
+use Rattle.laws.proofs.SearchLaws.{seek-turn, seek-here, seek-end}
+use Rattle.liberation.specs.Sets.{place, setOf}
+use Rattle.liberation.proofs.SetLaws.{in-lost}
+use Rattle.sets.proofs.SizeLaws.{place-small}
+use Rattle.judge.proofs.holds_row.Statement.{statement}
+use Rattle.judge.proofs.holds_row.Tie as tie
+
+abbrev Inv-loop : tie.InvT-loop
+Inv-loop width disk row kind number wanted size at₀ at =
+    (size ≡ length (setOf width width kind number)) × (isIn wanted (drop at (setOf width width kind number)) ≡ isIn wanted (setOf width width kind number))
+
+abbrev μ-loop : tie.MeasureT-loop
+μ-loop width disk row kind number wanted size at₀ at = size - at
+
+mul-wanted : tie.Need-mul-wanted Inv-loop μ-loop
+mul-wanted c = let a = c .args in omega (arith, place-small (a .width) (a .row) (a .disk) (c .pre .0 .widest) (c .pre .1 .0) (omega (arith, c .pre .0)))
+
+add-wanted : tie.Need-add-wanted Inv-loop μ-loop
+add-wanted c = let a = c .args in omega (arith, place-small (a .width) (a .row) (a .disk) (c .pre .0 .widest) (c .pre .1 .0) (omega (arith, c .pre .0)))
+
+set-size-requires : tie.Need-set-size-requires Inv-loop μ-loop
+set-size-requires c κs = search needs
+
+loop-holds : tie.Need-loop-holds Inv-loop μ-loop
+loop-holds c = (c .set-size .ensures, refl)
+
+set-cell-requires : tie.Need-set-cell-requires Inv-loop μ-loop
+set-cell-requires c κs = search needs
+
+returns : tie.Need-returns Inv-loop μ-loop
+returns c =
+    let a = c .before .before .before .before .before .args in
+    let q = c .before .before .before .before .before .pre in
+    let l = c .before .before .before .loop in
+    let xs = setOf (a .width) (a .width) (a .kind) (a .number) in
+    seek-here (place (a .width) (a .row) (a .disk)) (l .at) (c .before .set-cell .result) xs (omega (arith, l .inv .0)) (c .before .set-cell .ensures) (c .if1 .taken) (l .inv .1)
+    ∙ sym (in-lost (a .width) (a .disk) (a .row) xs (q .1 .0))
+
+add-at : tie.Need-add-at Inv-loop μ-loop
+add-at c = search needs
+
+loop-less : tie.Need-loop-less Inv-loop μ-loop
+loop-less c = search needs
+
+loop-again : tie.Need-loop-again Inv-loop μ-loop
+loop-again c =
+    let a = c .before .before .before .before .before .args in
+    let l = c .before .before .before .loop in (
+      l .inv .0,
+      seek-turn (place (a .width) (a .row) (a .disk)) (l .at) (c .before .set-cell .result) (setOf (a .width) (a .width) (a .kind) (a .number)) (omega (arith, l .inv .0)) (c .before .set-cell .ensures) (c .if1 .left) (l .inv .1),
+    )
+
+returns-2 : tie.Need-returns-2 Inv-loop μ-loop
+returns-2 c =
+    let a = c .before .before .before .args in
+    let l = c .before .loop in
+    let xs = setOf (a .width) (a .width) (a .kind) (a .number) in
+    seek-end (place (a .width) (a .row) (a .disk)) (l .at) xs (omega (arith, l .inv .0)) (l .inv .1) ∙ sym (in-lost (a .width) (a .disk) (a .row) xs (c .before .before .before .pre .1 .0))
+
+pub holds-row-spec : {M : Type 1} → statement M
+holds-row-spec =
+    tie.close
+    (tie.spec
+    Inv-loop
+    μ-loop
+    mul-wanted
+    add-wanted
+    set-size-requires
+    loop-holds
+    set-cell-requires
+    returns
+    add-at
+    loop-less
+    loop-again
+    returns-2)

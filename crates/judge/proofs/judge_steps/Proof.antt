@@ -1,0 +1,165 @@
+-- `judge_steps`: each turn reads three bytes, refuses the step or marks its row and the cells of its set. The invariant: the rows rebuilt and the cells read so far, with the steps still to come, give the answer of the whole plan.
+use mathlib.Core.Path.{_≡_, refl, ap, _∙_}
+use mathlib.Core.List.{[]}
+use Prim.Native.Nat.{_+_, _-_, _*_}
+use native.Mathlib.Omega.{arith}
+use lib.ListN.{length, set, replicate}
+use borrow.Author.Needs.{needs}
+use Rattle.liberation.specs.Plans.{step, marksFrom}
+use Rattle.sets.proofs.MarkLaws.{length-marks}
+use Rattle.judge.proofs.PlanLaws.{InForm, BytesOf, Halfway, halfway-start, halfway-long, halfway-form, halfway-turn, halfway-refused, halfway-end}
+use Rattle.judge.proofs.judge_steps.Statement.{statement}
+use Rattle.judge.proofs.judge_steps.Tie as tie
+
+abbrev Inv-loop : tie.InvT-loop
+Inv-loop width disk plan marks₀ done₀ reads₀ i₀ marks done reads i = Halfway width disk plan done marks reads i
+
+abbrev μ-loop : tie.MeasureT-loop
+μ-loop width disk plan marks₀ done₀ reads₀ i₀ marks done reads i = width - i
+
+-- no row is rebuilt at first
+no-rows : replicate 31 0 ≡ marksFrom 31 0 []
+unfolding marksFrom
+no-rows = refl
+
+loop-holds : tie.Need-loop-holds Inv-loop μ-loop
+loop-holds c = let a = c .before .before .args in halfway-start (a .width) (a .disk) (a .plan .now) _ (a .marks .now) no-rows (c .before .before .pre .1 .1)
+
+mul-wide : tie.Need-mul-wide Inv-loop μ-loop
+mul-wide c = search needs
+
+shared-slice-read-wide : tie.Need-shared-slice-read-wide Inv-loop μ-loop
+shared-slice-read-wide c = search needs
+
+wide-requires : tie.Need-wide-requires Inv-loop μ-loop
+wide-requires c κs = search needs
+
+mul-wide-2 : tie.Need-mul-wide-2 Inv-loop μ-loop
+mul-wide-2 c = search needs
+
+add-wide : tie.Need-add-wide Inv-loop μ-loop
+add-wide c = search needs
+
+shared-slice-read-wide-2 : tie.Need-shared-slice-read-wide-2 Inv-loop μ-loop
+shared-slice-read-wide-2 c = search needs
+
+wide-requires-2 : tie.Need-wide-requires-2 Inv-loop μ-loop
+wide-requires-2 c κs = search needs
+
+mul-wide-3 : tie.Need-mul-wide-3 Inv-loop μ-loop
+mul-wide-3 c = search needs
+
+add-wide-2 : tie.Need-add-wide-2 Inv-loop μ-loop
+add-wide-2 c = search needs
+
+shared-slice-read-wide-3 : tie.Need-shared-slice-read-wide-3 Inv-loop μ-loop
+shared-slice-read-wide-3 c = search needs
+
+wide-requires-3 : tie.Need-wide-requires-3 Inv-loop μ-loop
+wide-requires-3 c κs = search needs
+
+step-fault-requires : tie.Need-step-fault-requires Inv-loop μ-loop
+step-fault-requires c κs = search needs
+
+-- the step that was read
+bytes : (c : tie.After-step-fault Inv-loop μ-loop) → BytesOf (c .before .before .before .before .before .before .before .before .before .before .before .args .plan .now) (c .before .before .before .before .before .before .before .before .loop .i) (step (c .before .before .before .before .before .wide .result) (c .before .before .before .wide2 .result) (c .before .wide3 .result))
+bytes c = record { row = c .before .before .before .before .before .wide .ensures; kind = c .before .before .before .wide2 .ensures; number = c .before .wide3 .ensures }
+
+cast-place : tie.Need-cast-place Inv-loop μ-loop
+cast-place c = search needs
+
+same-length : tie.Need-same-length Inv-loop μ-loop
+same-length c =
+    let a = c .before .before .before .before .before .before .before .before .before .before .before .before .args in
+    let q = c .before .before .before .before .before .before .before .before .before .before .before .before .pre in
+    let l = c .before .before .before .before .before .before .before .before .before .loop in
+    halfway-long (a .width) (a .disk) (a .plan .now) (l .done) (l .marks) (a .marks .now) [] (l .reads) (l .i) (l .inv) (q .1 .1)
+
+returns : tie.Need-returns Inv-loop μ-loop
+returns c =
+    let a = c .before .before .before .before .before .before .before .before .before .before .before .before .args in
+    let l = c .before .before .before .before .before .before .before .before .before .loop in
+    halfway-refused (a .width) (a .disk) (a .plan .now) (l .done) (l .marks) (step (c .before .before .before .before .before .before .wide .result) (c .before .before .before .before .wide2 .result) (c .before .before .wide3 .result)) (l .reads) (l .i) (c .before .step-fault .result) (c .before .before .before .before .before .before .before .before .loop-test .taken) (bytes (c .before)) (c .before .step-fault .ensures) (c .if1 .taken) (l .inv)
+
+-- a step that is not refused is in form
+form : (c : tie.Else1 Inv-loop μ-loop) → InForm (c .before .before .before .before .before .before .before .before .before .before .before .before .args .width) (step (c .before .before .before .before .before .before .wide .result) (c .before .before .before .before .wide2 .result) (c .before .before .wide3 .result))
+form c =
+    let a = c .before .before .before .before .before .before .before .before .before .before .before .before .args in
+    let l = c .before .before .before .before .before .before .before .before .before .loop in
+    halfway-form (a .width) (a .disk) (a .plan .now) (l .done) (l .marks) (step (c .before .before .before .before .before .before .wide .result) (c .before .before .before .before .wide2 .result) (c .before .before .wide3 .result)) (l .reads) (l .i) (c .before .step-fault .result) (l .inv) (c .before .step-fault .ensures) (c .if1 .left)
+
+array-write-done : tie.Need-array-write-done Inv-loop μ-loop
+array-write-done c = omega (arith, form c .row, c .before .before .before .before .before .before .before .before .before .before .before .before .pre .0 .widest)
+
+mark-set-requires : tie.Need-mark-set-requires Inv-loop μ-loop
+mark-set-requires c κs =
+    let a = c .before .before .before .before .before .before .before .before .before .before .before .before .before .args in
+    let q = c .before .before .before .before .before .before .before .before .before .before .before .before .before .pre in
+    let l = c .before .before .before .before .before .before .before .before .before .before .loop in
+    (record { widest = q .0 .widest; disks = omega arith; numbered = form (c .before) .number }, ap length (l .inv .marks) ∙ length-marks (a .width * (a .width + 2)) 0 (l .inv .cells))
+
+-- the loop's state after one more step
+turned : (c : tie.After-slice-known2 Inv-loop μ-loop) → let a = c .before .before .before .before .before .before .before .before .before .before .before .before .before .before .before .before .args in let l = c .before .before .before .before .before .before .before .before .before .before .before .before .before .loop in Halfway (a .width) (a .disk) (a .plan .now) (set (l .done) (c .before .before .before .before .before .before .before .before .before .before .wide .result) 1) (c .before .before .mark-set .last .1 .1 .1 .1 .1 .0) (l .reads + c .before .before .mark-set .result) (l .i + 1)
+turned c =
+    let a = c .before .before .before .before .before .before .before .before .before .before .before .before .before .before .before .before .args in
+    let q = c .before .before .before .before .before .before .before .before .before .before .before .before .before .before .before .before .pre in
+    let l = c .before .before .before .before .before .before .before .before .before .before .before .before .before .loop in
+    let e = c .before .before .before .before in
+    let m = c .before .before .mark-set in
+    halfway-turn (a .width) (a .disk) (a .plan .now) (l .done) (l .marks) (m .last .1 .1 .1 .1 .1 .0) (step (c .before .before .before .before .before .before .before .before .before .before .wide .result) (c .before .before .before .before .before .before .before .before .wide2 .result) (c .before .before .before .before .before .before .wide3 .result)) (l .reads) (l .i) (e .before .step-fault .result) (m .result) (q .0 .widest) (c .before .before .before .before .before .before .before .before .before .before .before .before .loop-test .taken) (bytes (e .before)) (e .before .step-fault .ensures) (e .if1 .left) (l .inv) (m .ensures)
+
+add-reads : tie.Need-add-reads Inv-loop μ-loop
+add-reads c = omega (arith, turned c .few, turned c .within, c .before .before .before .before .before .before .before .before .before .before .before .before .before .before .before .before .pre .0 .widest)
+
+add-i : tie.Need-add-i Inv-loop μ-loop
+add-i c = search needs
+
+loop-less : tie.Need-loop-less Inv-loop μ-loop
+loop-less c = search needs
+
+loop-again : tie.Need-loop-again Inv-loop μ-loop
+loop-again c = turned c
+
+same-length-2 : tie.Need-same-length-2 Inv-loop μ-loop
+same-length-2 c =
+    let a = c .before .before .before .before .args in
+    let q = c .before .before .before .before .pre in
+    let l = c .before .loop in
+    halfway-long (a .width) (a .disk) (a .plan .now) (l .done) (l .marks) (a .marks .now) [] (l .reads) (l .i) (l .inv) (q .1 .1)
+
+returns-2 : tie.Need-returns-2 Inv-loop μ-loop
+returns-2 c =
+    let a = c .before .before .before .before .args in
+    let l = c .before .loop in
+    halfway-end (a .width) (a .disk) (a .plan .now) (l .done) (l .marks) (l .reads) (l .i) (c .loop-test .left) (l .inv)
+
+pub judge-steps-spec : {M : Type 1} → statement M
+judge-steps-spec =
+    tie.close
+    (tie.spec
+    Inv-loop
+    μ-loop
+    loop-holds
+    mul-wide
+    shared-slice-read-wide
+    wide-requires
+    mul-wide-2
+    add-wide
+    shared-slice-read-wide-2
+    wide-requires-2
+    mul-wide-3
+    add-wide-2
+    shared-slice-read-wide-3
+    wide-requires-3
+    step-fault-requires
+    cast-place
+    same-length
+    returns
+    array-write-done
+    mark-set-requires
+    add-reads
+    add-i
+    loop-less
+    loop-again
+    same-length-2
+    returns-2)

@@ -1,0 +1,74 @@
+-- `others_there`: the cells of the set come one by one, and the first that is missing ends the loop. The invariant: the cells still to come answer for all.
+use mathlib.Core.Path.{_≡_, refl}
+use mathlib.Core.List.{List}
+use Prim.Native.Nat.{ℕ, _-_}
+use native.Mathlib.Omega.{arith}
+use lib.ListN.{length, drop}
+use borrow.Author.Needs.{needs}
+use Rattle.liberation.specs.Sets.{setOf}
+use Rattle.liberation.specs.Plans.{marksFrom}
+use Rattle.judge.proofs.StepLaws.{there, there-turn, there-stop, there-end}
+use Rattle.judge.proofs.others_there.Statement.{statement}
+use Rattle.judge.proofs.others_there.Tie as tie
+
+abbrev Inv-loop : tie.InvT-loop
+Inv-loop width disk row kind number done size at₀ at =
+    (size ≡ length (setOf width width kind number))
+    × ((ds : List ℕ) → done ≡ marksFrom 31 0 ds → there width disk row ds (drop at (setOf width width kind number)) ≡ there width disk row ds (setOf width width kind number))
+
+abbrev μ-loop : tie.MeasureT-loop
+μ-loop width disk row kind number done size at₀ at = size - at
+
+set-size-requires : tie.Need-set-size-requires Inv-loop μ-loop
+set-size-requires c κs = search needs
+
+loop-holds : tie.Need-loop-holds Inv-loop μ-loop
+loop-holds c = (c .set-size .ensures, λ ds e. refl)
+
+set-cell-requires : tie.Need-set-cell-requires Inv-loop μ-loop
+set-cell-requires c κs = search needs
+
+is-missing-requires : tie.Need-is-missing-requires Inv-loop μ-loop
+is-missing-requires c κs = search needs
+
+returns : tie.Need-returns Inv-loop μ-loop
+returns c = λ ds e.
+    let a = c .before .before .before .before .before .before .args in
+    let l = c .before .before .before .before .loop in
+    there-stop (a .width) (a .disk) (a .row) (l .at) (c .before .before .set-cell .result) ds (setOf (a .width) (a .width) (a .kind) (a .number)) (c .before .is-missing .result) (omega (arith, l .inv .0)) (c .before .before .set-cell .ensures) (c .if1 .taken) (c .before .is-missing .ensures ds e) (l .inv .1 ds e)
+
+add-at : tie.Need-add-at Inv-loop μ-loop
+add-at c = search needs
+
+loop-less : tie.Need-loop-less Inv-loop μ-loop
+loop-less c = search needs
+
+loop-again : tie.Need-loop-again Inv-loop μ-loop
+loop-again c =
+    let a = c .before .before .before .before .before .before .args in
+    let l = c .before .before .before .before .loop in (
+      l .inv .0,
+      λ ds e. there-turn (a .width) (a .disk) (a .row) (l .at) (c .before .before .set-cell .result) ds (setOf (a .width) (a .width) (a .kind) (a .number)) (c .before .is-missing .result) (omega (arith, l .inv .0)) (c .before .before .set-cell .ensures) (c .if1 .left) (c .before .is-missing .ensures ds e) (l .inv .1 ds e),
+    )
+
+returns-2 : tie.Need-returns-2 Inv-loop μ-loop
+returns-2 c = λ ds e.
+    let a = c .before .before .before .args in
+    let l = c .before .loop in
+    there-end (a .width) (a .disk) (a .row) (l .at) ds (setOf (a .width) (a .width) (a .kind) (a .number)) (omega (arith, l .inv .0)) (l .inv .1 ds e)
+
+pub others-there-spec : {M : Type 1} → statement M
+others-there-spec =
+    tie.close
+    (tie.spec
+    Inv-loop
+    μ-loop
+    set-size-requires
+    loop-holds
+    set-cell-requires
+    is-missing-requires
+    returns
+    add-at
+    loop-less
+    loop-again
+    returns-2)

@@ -1,0 +1,29 @@
+-- The judge's promise, for accepted and refused plans alike: refusals 1, 3, 5, then 6 to 9 with the step as their place.
+use mathlib.Core.Path.{_≡_}
+use mathlib.Core.List.{List}
+use Prim.Native.Nat.{ℕ, _*_}
+use lib.Dec.{eqb}
+use Rattle.laws.specs.Choice.{pick, firstOf}
+use Rattle.liberation.specs.Sets.{widthFault, diskFault, longFault}
+use Rattle.liberation.specs.Plans.{readCount}
+use Rattle.liberation.specs.Judging.{judge, stepsIn}
+use Rattle.judge.specs.declared.Judged.{Judged}
+
+-- refusals before any step is looked at
+abbrev pub formFault : ℕ → ℕ → List ℕ → ℕ
+formFault p f bs = firstOf (widthFault p) (firstOf (diskFault p f) (longFault (3 * p) bs))
+
+-- all refusals
+abbrev pub judgeFault : ℕ → ℕ → List ℕ → ℕ
+judgeFault p f bs = firstOf (formFault p f bs) (judge p p f (stepsIn p bs) .number)
+
+pub record JudgeSays (p f : ℕ) (bs : List ℕ) (r : Judged) : Type 0 where
+  pub number : r .number ≡ judgeFault p f bs
+  pub place : r .place ≡ pick (eqb (formFault p f bs) 0) (judge p p f (stepsIn p bs) .place) 0
+  pub reads : r .reads ≡ pick (eqb (judgeFault p f bs) 0) (readCount p p f (stepsIn p bs)) 0
+
+-- the same for a plan of the right form: refusals 6 to 9, or the read count
+pub record StepsSay (p f : ℕ) (bs : List ℕ) (r : Judged) : Type 0 where
+  pub number : r .number ≡ judge p p f (stepsIn p bs) .number
+  pub place : r .place ≡ judge p p f (stepsIn p bs) .place
+  pub reads : r .reads ≡ pick (eqb (judge p p f (stepsIn p bs) .number) 0) (readCount p p f (stepsIn p bs)) 0

@@ -1,0 +1,190 @@
+// The judge of a plan sent by a host: its read count, or a refusal with its place.
+ghost use mathlib.Core.Path.{_≡_};
+ghost use mathlib.Core.Bool.{not};
+ghost use mathlib.Core.List.{List, [], _∷_};
+ghost use Prim.Native.Nat.{ℕ, _+_, _*_, _<_};
+ghost use lib.ListN.{length};
+ghost use Rattle.laws.specs.Lists.{isIn};
+ghost use Rattle.liberation.specs.Sets.{setOf, lostIn};
+ghost use Rattle.liberation.specs.Plans.{step, marksFrom};
+ghost use Rattle.liberation.specs.Judging.{othersThere, stepFault};
+ghost use Rattle.judge.specs.Limits.{InArray};
+ghost use Rattle.judge.specs.Says.{JudgeSays, StepsSay};
+
+// A refusal number (0 for none) and its place, or the read count.
+#[repr(C)]
+pub struct Judged {
+    pub number: u8,
+    pub place: u32,
+    pub reads: u32,
+}
+
+// A byte of a plan as a number to count with.
+fn wide(byte: u8) -> usize
+    ensures { λ r. ⌜ r ≡ byte ⌝ }
+{
+    byte as usize
+}
+
+// The marks of a stripe with no cell marked, for the widest array.
+fn no_marks() -> [u8; 1023]
+    ensures { λ r. ⌜ r ≡ marksFrom 1023 0 [] ⌝ }
+{
+    [0; 1023]
+}
+
+// Does a set hold the cell of this row on the lost disk?
+fn holds_row(width: usize, disk: usize, row: usize, kind: usize, number: usize) -> bool
+    requires { ⌜ InArray width disk ⌝ }
+    requires { ⌜ (row < width) × (number < width) ⌝ }
+    ensures { λ r. ⌜ r ≡ isIn row (lostIn width disk (setOf width width kind number)) ⌝ }
+{
+    let wanted = disk * width + row;
+    let size = sets::set_size(width, width, kind, number);
+    let mut at = 0;
+    while at < size {
+        if sets::set_cell(width, width, kind, number, at) == wanted {
+            return true;
+        }
+        at += 1;
+    }
+    false
+}
+
+// Is this a cell of the lost disk, in another row, that is not rebuilt yet?
+fn is_missing(width: usize, disk: usize, row: usize, cell: usize, done: [u8; 31]) -> bool
+    requires { ⌜ InArray width disk ⌝ }
+    ensures { λ r. ⌜ ((ds : List ℕ) → done ≡ marksFrom 31 0 ds → not r ≡ othersThere row (lostIn width disk (cell ∷ [])) ds) ⌝ }
+{
+    if cell / width != disk {
+        return false;
+    }
+    let other = cell % width;
+    if other == row {
+        return false;
+    }
+    done[other] == 0
+}
+
+// Are the lost cells of a set all rebuilt, that of this row apart?
+fn others_there(
+    width: usize,
+    disk: usize,
+    row: usize,
+    kind: usize,
+    number: usize,
+    done: [u8; 31],
+) -> bool
+    requires { ⌜ InArray width disk ⌝ }
+    requires { ⌜ number < width ⌝ }
+    ensures { λ r. ⌜ ((ds : List ℕ) → done ≡ marksFrom 31 0 ds → r ≡ othersThere row (lostIn width disk (setOf width width kind number)) ds) ⌝ }
+{
+    let size = sets::set_size(width, width, kind, number);
+    let mut at = 0;
+    while at < size {
+        let cell = sets::set_cell(width, width, kind, number, at);
+        if is_missing(width, disk, row, cell, done) {
+            return false;
+        }
+        at += 1;
+    }
+    true
+}
+
+// The refusal of one step, 0 for none; `done` has a byte a row, 1 where the row is rebuilt.
+fn step_fault(
+    width: usize,
+    disk: usize,
+    row: usize,
+    kind: usize,
+    number: usize,
+    done: [u8; 31],
+) -> u8
+    requires { ⌜ InArray width disk ⌝ }
+    ensures { λ r. ⌜ ((ds : List ℕ) → done ≡ marksFrom 31 0 ds → r ≡ stepFault width width disk ds (step row kind number)) ⌝ }
+{
+    if width <= row {
+        return 6;
+    }
+    if width <= number {
+        return 6;
+    }
+    if 1 < kind {
+        return 6;
+    }
+    if !holds_row(width, disk, row, kind, number) {
+        return 7;
+    }
+    if done[row] == 1 {
+        return 8;
+    }
+    if others_there(width, disk, row, kind, number, done) {
+        0
+    } else {
+        9
+    }
+}
+
+// Judges the steps in order. `marks` has a byte a cell, none marked, and collects the cells that the steps read.
+fn judge_steps(width: usize, disk: usize, plan: &[u8], marks: &mut [u8]) -> Judged
+    requires { ⌜ InArray width disk ⌝ }
+    requires { ⌜ length (now plan) ≡ 3 * width ⌝ }
+    requires { ⌜ now marks ≡ marksFrom (width * (width + 2)) 0 [] ⌝ }
+    ensures { λ r. ⌜ StepsSay width disk (now (plan .entry)) r ⌝ }
+{
+    let mut done = [0u8; 31];
+    let mut reads: u32 = 0;
+    let mut i = 0;
+    while i < width {
+        let row = wide(plan[3 * i]);
+        let kind = wide(plan[3 * i + 1]);
+        let number = wide(plan[3 * i + 2]);
+        let fault = step_fault(width, disk, row, kind, number, done);
+        if fault != 0 {
+            let place = i as u32;
+            return Judged {
+                number: fault,
+                place,
+                reads: 0,
+            };
+        }
+        done[row] = 1;
+        let fresh = sets::mark_set(width, width, disk, kind, number, marks);
+        reads += fresh;
+        i += 1;
+    }
+    Judged {
+        number: 0,
+        place: 0,
+        reads,
+    }
+}
+
+// Judges a plan of three bytes a step: row, kind, number.
+pub fn judge_plan(width: usize, disk: usize, plan: &[u8]) -> Judged
+    ensures { λ r. ⌜ JudgeSays width disk (now (plan .entry)) r ⌝ }
+{
+    if !sets::is_width(width) {
+        return Judged {
+            number: 1,
+            place: 0,
+            reads: 0,
+        };
+    }
+    if width + 1 < disk {
+        return Judged {
+            number: 3,
+            place: 0,
+            reads: 0,
+        };
+    }
+    if plan.len() != 3 * width {
+        return Judged {
+            number: 5,
+            place: 0,
+            reads: 0,
+        };
+    }
+    let mut marks = no_marks();
+    judge_steps(width, disk, plan, &mut marks[..width * (width + 2)])
+}
