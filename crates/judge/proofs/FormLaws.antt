@@ -45,14 +45,3 @@ steps-decide p f bs r e s =
   where
     fault : judgeFault p f bs ≡ judge p p f (stepsIn p bs) .number
     fault = ap (λ (k : ℕ). firstOf k (judge p p f (stepsIn p bs) .number)) e
-
--- the first n marks
-pub take-marks : (n k i : ℕ) (ys : List ℕ) → n ≤ k → take n (marksFrom k i ys) ≡ marksFrom n i ys
-unfolding marksFrom
-take-marks zero k i ys h = refl
-take-marks (suc n) zero i ys h = absurd (omega arith)
-take-marks (suc n) (suc k) i ys h = ap (λ (l : List ℕ). when (isIn i ys) 1 ∷ l) (take-marks n k (suc i) ys (omega arith))
-
--- a stripe has no more cells than the widest
-pub cells-most : (p : ℕ) → p ≤ 31 → p * (p + 2) ≤ 1023
-cells-most p h = let l : p + 2 ≤ 33 = omega arith in mul-le-mul h l

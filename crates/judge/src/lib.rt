@@ -26,13 +26,6 @@ fn wide(byte: u8) -> usize
     byte as usize
 }
 
-// The marks of a stripe with no cell marked, for the widest array.
-fn no_marks() -> [u8; 1023]
-    ensures { λ r. ⌜ r ≡ marksFrom 1023 0 [] ⌝ }
-{
-    [0; 1023]
-}
-
 // Does a set hold the cell of this row on the lost disk?
 fn holds_row(width: usize, disk: usize, row: usize, kind: usize, number: usize) -> bool
     requires { ⌜ InArray width disk ⌝ }
@@ -185,6 +178,6 @@ pub fn judge_plan(width: usize, disk: usize, plan: &[u8]) -> Judged
             reads: 0,
         };
     }
-    let mut marks = no_marks();
+    let mut marks = sets::no_marks();
     judge_steps(width, disk, plan, &mut marks[..width * (width + 2)])
 }

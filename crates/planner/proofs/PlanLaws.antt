@@ -99,9 +99,9 @@ refusal-says p f n r z e d =
     }
 
 -- the read list
-pub list-refused : (p f n : ℕ) (o : List ℕ) → eqb n 0 ≡ false → listFault p f o ≡ n → ListSays p f o o (record { number = n; place = 0 })
-list-refused p f n o z e =
-    record { number = sym e; place = refl; list = ap (λ (t : Bool). pick t (readList p p f) o) (sym (ap (λ (x : ℕ). eqb x 0) e ∙ z)) }
+pub list-refused : (p f n : ℕ) (o : List ℕ) (r : Answer) → eqb n 0 ≡ false → listFault p f o ≡ n → (r .number ≡ n) × (r .place ≡ 0) → ListSays p f o o r
+list-refused p f n o r z e a =
+    record { number = a .0 ∙ sym e; place = a .1; list = ap (λ (t : Bool). pick t (readList p p f) o) (sym (ap (λ (x : ℕ). eqb x 0) e ∙ z)) }
 
 pub list-first : (p f n : ℕ) (o : List ℕ) → planFault p f ≡ suc n → listFault p f o ≡ suc n
 list-first p f n o e = ap (λ (x : ℕ). firstOf x (longFault (p * (p + 2)) o)) e
@@ -109,7 +109,7 @@ list-first p f n o e = ap (λ (x : ℕ). firstOf x (longFault (p * (p + 2)) o)) 
 pub list-long : (p f : ℕ) (o : List ℕ) → planFault p f ≡ 0 → (length o ≡ p * (p + 2) → ⊥) → listFault p f o ≡ 5
 list-long p f o e n = ap₂ (λ (x : ℕ) (b : Bool). firstOf x (when (not b) 5)) e (ne-eqb (length o) (p * (p + 2)) n)
 
-pub list-says : (p f : ℕ) (o o′ : List ℕ) → planFault p f ≡ 0 → length o ≡ p * (p + 2) → o′ ≡ readList p p f → ListSays p f o o′ (record { number = 0; place = 0 })
-list-says p f o o′ e l q =
+pub list-says : (p f : ℕ) (o o′ : List ℕ) (r : Answer) → planFault p f ≡ 0 → length o ≡ p * (p + 2) → o′ ≡ readList p p f → (r .number ≡ 0) × (r .place ≡ 0) → ListSays p f o o′ r
+list-says p f o o′ r e l q a =
     let z : listFault p f o ≡ 0 = ap₂ (λ (x : ℕ) (b : Bool). firstOf x (when (not b) 5)) e (eq-eqb (length o) (p * (p + 2)) l) in
-    record { number = sym z; place = refl; list = q ∙ ap (λ (t : Bool). pick t (readList p p f) o) (sym (ap (λ (x : ℕ). eqb x 0) z)) }
+    record { number = a .0 ∙ sym z; place = a .1; list = q ∙ ap (λ (t : Bool). pick t (readList p p f) o) (sym (ap (λ (x : ℕ). eqb x 0) z)) }

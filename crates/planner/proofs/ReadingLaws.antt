@@ -74,13 +74,8 @@ pub record Reading (p f : ℕ) (ss : List Step) (m : List ℕ) (reads i : ℕ) :
   pub few : reads ≤ (p + 2) * i
   pub rest : readFrom p p f (drop i ss) cells ≡ cellsRead p p f ss
 
-no-cells : (n i : ℕ) → replicate n 0 ≡ marksFrom n i []
-unfolding marksFrom
-no-cells zero i = refl
-no-cells (suc n) i = ap (λ (l : List ℕ). 0 ∷ l) (no-cells n (suc i))
-
-pub reading-start : (p f : ℕ) (ss : List Step) (m : List ℕ) → m ≡ replicate (p * (p + 2)) 0 → Reading p f ss m 0 0
-reading-start p f ss m e = record { within = omega arith; cells = []; marks = e ∙ no-cells (p * (p + 2)) 0; count = refl; few = omega arith; rest = refl }
+pub reading-start : (p f : ℕ) (ss : List Step) (m : List ℕ) → m ≡ marksFrom (p * (p + 2)) 0 [] → Reading p f ss m 0 0
+reading-start p f ss m e = record { within = omega arith; cells = []; marks = e; count = refl; few = omega arith; rest = refl }
 
 surviving-few : (p f : ℕ) (xs : List ℕ) → length (survivingIn p f xs) ≤ length xs
 unfolding survivingIn

@@ -6,7 +6,7 @@ ghost use Prim.Native.Nat.{ℕ, _+_, _-_, _*_, _^_, _≤_, _<_};
 ghost use lib.ListN.{length, getD, take, replicate};
 ghost use lib.Bits.{bitOr};
 ghost use Rattle.liberation.specs.Sets.{isWidth};
-ghost use Rattle.liberation.specs.Plans.{Step, step, firstRoutes, decided, turned, routes, wordFrom, rowSteps, diagonalSteps, allOf, planOf, readCount, readList};
+ghost use Rattle.liberation.specs.Plans.{Step, step, firstRoutes, decided, turned, routes, wordFrom, rowSteps, diagonalSteps, allOf, planOf, readCount, readList, marksFrom};
 ghost use Rattle.planner.specs.Records.{Holds, RoutesAre, PlannedIs};
 ghost use Rattle.planner.specs.Says.{PlanSays, Refused, ListSays};
 use sets::Answer;
@@ -246,7 +246,7 @@ fn our_plan(width: usize, disk: usize) -> Planned
 
 // Marks the cells that our plan reads in a list of zeros, and counts them.
 fn mark_steps(width: usize, disk: usize, s: Steps, marks: &mut [u8]) -> u32
-    requires { ⌜ (isWidth width ≡ true) × (disk ≤ width + 1) × Holds (planOf width width disk) s × (now marks ≡ replicate (width * (width + 2)) 0) ⌝ }
+    requires { ⌜ (isWidth width ≡ true) × (disk ≤ width + 1) × Holds (planOf width width disk) s × (now marks ≡ marksFrom (width * (width + 2)) 0 []) ⌝ }
     ensures { λ r. ⌜ (r ≡ readCount width width disk (planOf width width disk)) × (now (marks .exit) ≡ readList width width disk) ⌝ }
 {
     let kinds = s.kinds;
@@ -260,13 +260,6 @@ fn mark_steps(width: usize, disk: usize, s: Steps, marks: &mut [u8]) -> u32
         i += 1;
     }
     reads
-}
-
-// A zero for every cell of the widest array.
-fn no_marks() -> [u8; 1023]
-    ensures { λ r. ⌜ r ≡ replicate 1023 0 ⌝ }
-{
-    [0; 1023]
 }
 
 // Every byte becomes 0.
@@ -287,7 +280,7 @@ fn finished(width: usize, disk: usize, p: Planned) -> Plan
 {
     let s = p.steps;
     let n = width * (width + 2);
-    let mut marks = no_marks();
+    let mut marks = sets::no_marks();
     let reads = mark_steps(width, disk, s, &mut marks[..n]);
     let rows = s.rows;
     let kinds = s.kinds;
@@ -337,29 +330,17 @@ pub fn read_list(width: usize, disk: usize, list: &mut [u8]) -> Answer
     ensures { λ r. ⌜ ListSays width disk (now (list .entry)) (now (list .exit)) r ⌝ }
 {
     if !sets::is_width(width) {
-        return Answer {
-            number: 1,
-            place: 0,
-        };
+        return sets::answered(1);
     }
     if width + 1 < disk {
-        return Answer {
-            number: 3,
-            place: 0,
-        };
+        return sets::answered(3);
     }
     if list.len() != width * (width + 2) {
-        return Answer {
-            number: 5,
-            place: 0,
-        };
+        return sets::answered(5);
     }
     clear(list);
     let p = our_plan(width, disk);
     let s = p.steps;
     mark_steps(width, disk, s, list);
-    Answer {
-        number: 0,
-        place: 0,
-    }
+    sets::answered(0)
 }

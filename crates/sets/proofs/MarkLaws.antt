@@ -3,11 +3,12 @@ use mathlib.Core.Path.{_≡_, refl, sym, ap, ap₂, _∙_}
 use mathlib.Core.Bool.{Bool, true, false, _&&_, _||_, or-comm, or-assoc}
 use mathlib.Core.Logic.{_⊎_, inl, inr, ⊎-elim}
 use mathlib.Core.List.{List, [], _∷_, _++_}
-use Prim.Native.Nat.{ℕ, zero, suc, _+_, _≤_, _<_}
+use Prim.Native.Nat.{ℕ, zero, suc, _+_, _*_, _≤_, _<_}
+use native.Mathlib.Nat.{mul-le-mul}
 use native.Mathlib.Numerals.{add-one}
 use native.Mathlib.Omega.{arith}
 use lib.Dec.{eqb, ltb}
-use lib.ListN.{length, getD, set, drop, length-set, drop-of-length-le}
+use lib.ListN.{length, getD, set, take, drop, replicate, length-set, drop-of-length-le}
 use lib.Seq.{drop-cons}
 use borrow.Author.Tests.{eq-eqb, ne-eqb, eqb-true, ltb-true}
 use Rattle.laws.specs.Choice.{pick, when}
@@ -89,6 +90,23 @@ pub length-marks : (n i : ℕ) (ys : List ℕ) → length (marksFrom n i ys) ≡
 unfolding marksFrom
 length-marks zero i ys = refl
 length-marks (suc n) i ys = ap suc (length-marks n (suc i) ys)
+
+-- no cell is marked
+pub no-cells : (n i : ℕ) → replicate n 0 ≡ marksFrom n i []
+unfolding marksFrom
+no-cells zero i = refl
+no-cells (suc n) i = ap (λ (l : List ℕ). 0 ∷ l) (no-cells n (suc i))
+
+-- the first n marks
+pub take-marks : (n k i : ℕ) (ys : List ℕ) → n ≤ k → take n (marksFrom k i ys) ≡ marksFrom n i ys
+unfolding marksFrom
+take-marks zero k i ys h = refl
+take-marks (suc n) zero i ys h = absurd (omega arith)
+take-marks (suc n) (suc k) i ys h = ap (λ (l : List ℕ). when (isIn i ys) 1 ∷ l) (take-marks n k (suc i) ys (omega arith))
+
+-- an array has no more cells than the widest
+pub cells-most : (p : ℕ) → p ≤ 31 → p * (p + 2) ≤ 1023
+cells-most p h = let l : p + 2 ≤ 33 = omega arith in mul-le-mul h l
 
 -- a mark written: the cell joins ys
 same-from : (n i y : ℕ) (ys : List ℕ) → y < i → marksFrom n i (y ∷ ys) ≡ marksFrom n i ys

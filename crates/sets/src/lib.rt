@@ -4,13 +4,25 @@ ghost use mathlib.Core.List.{[], _∷_};
 ghost use Prim.Native.Nat.{_+_, _*_, _≤_, _<_};
 ghost use lib.ListN.{length, getD};
 ghost use Rattle.liberation.specs.Sets.{isWidth, extraDisk, setOf, survivingIn};
+ghost use Rattle.liberation.specs.Plans.{marksFrom};
 ghost use Rattle.sets.specs.Limits.{Within};
 ghost use Rattle.sets.specs.Marks.{Marked};
 
 // An answer that is only a refusal or none: document 01's number, 0 for an accepted call, and the place.
+#[repr(C)]
 pub struct Answer {
     pub number: u8,
     pub place: u32,
+}
+
+// The answer with this number and no place.
+pub fn answered(number: u8) -> Answer
+    ensures { λ r. ⌜ (r .number ≡ number) × (r .place ≡ 0) ⌝ }
+{
+    Answer {
+        number: number,
+        place: 0,
+    }
 }
 
 // Is this one of the ten widths?
@@ -65,6 +77,13 @@ pub fn set_cell(width: usize, disks: usize, kind: usize, number: usize, at: usiz
         return (disks + 1) * width + number;
     }
     extra_disk(width, number) * width + (width - 1 - number)
+}
+
+// Marks for every cell of the widest array, none marked.
+pub fn no_marks() -> [u8; 1023]
+    ensures { λ r. ⌜ r ≡ marksFrom 1023 0 [] ⌝ }
+{
+    [0; 1023]
 }
 
 // Marks a cell, unless it is on the lost disk; 1 where it was not marked before, else 0.

@@ -10,9 +10,9 @@ use borrow.Author.Tests.{not-true, not-false, eq-eqb, ne-eqb, lt-ltb, le-ltb}
 use borrow.Author.Needs.{needs}
 use Rattle.liberation.specs.Sets.{isWidth}
 use Rattle.liberation.proofs.Widths.{width-least, width-most}
-use Rattle.sets.proofs.MarkLaws.{length-marks}
+use Rattle.sets.proofs.MarkLaws.{length-marks, take-marks, cells-most}
 use Rattle.judge.specs.Says.{formFault}
-use Rattle.judge.proofs.FormLaws.{form-is, form-refused, steps-decide, take-marks, cells-most}
+use Rattle.judge.proofs.FormLaws.{form-is, form-refused, steps-decide}
 use Rattle.judge.proofs.judge_plan.Statement.{statement}
 use Rattle.judge.proofs.judge_plan.Tie as tie
 

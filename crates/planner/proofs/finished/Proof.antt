@@ -1,12 +1,11 @@
 -- `finished`: the record holds our plan's steps, and its read count is what marking all of them counts.
 use mathlib.Core.Path.{_≡_, refl, sym, ap, _∙_}
-use mathlib.Core.List.{List}
+use mathlib.Core.List.{List, []}
 use Prim.Native.Nat.{ℕ, _+_, _*_, _≤_}
-use native.Mathlib.Nat.{mul-le-mul}
 use native.Mathlib.Omega.{arith}
-use lib.ListN.{length, take, replicate, length-replicate}
+use lib.ListN.{length, take}
 use lib.Seq.{length-take-le}
-use Rattle.laws.proofs.ListLaws.{take-replicate}
+use Rattle.sets.proofs.MarkLaws.{length-marks, take-marks, cells-most}
 use Rattle.liberation.proofs.Widths.{width-most}
 use Rattle.planner.proofs.PlanLaws.{plan-says}
 use borrow.Author.Needs.{needs}
@@ -18,11 +17,10 @@ cells : (c : tie.After-s) → (c .before .args .width ≤ 31) × (c .before .arg
 cells c =
     let a = c .before .args in
     let w = width-most (a .width) (c .before .pre .0) in
-    let v : a .width + 2 ≤ 33 = omega arith in
-    (w, mul-le-mul w v)
+    (w, cells-most (a .width) w)
 
 all-marks : (c : tie.After-no-marks) → length (c .no-marks .result) ≡ 1023
-all-marks c = ap (λ (x : List ℕ). length x) (c .no-marks .ensures) ∙ length-replicate {A = ℕ} 1023 0
+all-marks c = ap (λ (x : List ℕ). length x) (c .no-marks .ensures) ∙ length-marks 1023 0 []
 
 add-n : tie.Need-add-n
 add-n c = omega (arith, cells c)
@@ -43,7 +41,7 @@ mark-steps-requires : tie.Need-mark-steps-requires
 mark-steps-requires c κs =
     let q = c .before .before .before in
     let n = q .args .width * (q .args .width + 2) in
-    (q .pre .0, q .pre .1, q .pre .2 .steps, ap (take n) (c .before .no-marks .ensures) ∙ take-replicate n 1023 0 (omega (arith, cells (c .before .before))))
+    (q .pre .0, q .pre .1, q .pre .2 .steps, ap (take n) (c .before .no-marks .ensures) ∙ take-marks n 1023 0 [] (omega (arith, cells (c .before .before))))
 
 returns : tie.Need-returns
 returns c =

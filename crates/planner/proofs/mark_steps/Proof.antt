@@ -1,10 +1,11 @@
 -- `mark_steps`: each turn marks the set of the next step. The invariant: the marks stand for the cells read so far, and with the steps still to come they give all that the plan reads.
 use mathlib.Core.Path.{_≡_, refl, sym, ap, _∙_}
-use mathlib.Core.List.{List}
+use mathlib.Core.List.{List, []}
 use Prim.Native.Nat.{ℕ, _+_, _-_, _*_, _≤_, _<_}
 use native.Mathlib.Nat.{mul-le-mul}
 use native.Mathlib.Omega.{arith}
-use lib.ListN.{length, getD, replicate, length-replicate}
+use lib.ListN.{length, getD}
+use Rattle.sets.proofs.MarkLaws.{length-marks}
 use Rattle.liberation.specs.Plans.{planOf}
 use Rattle.liberation.proofs.Widths.{width-most}
 use Rattle.planner.proofs.ReadingLaws.{StepAt, step-at, plan-length, plan-number, Reading, reading-start, reading-turn, reading-end}
@@ -65,7 +66,7 @@ mark-set-requires c κs =
     let a = q .args in
     let l = c .before .before .loop in
     let n : getD (a .s .sets) (l .i) 0 < a .width = omega (arith, number (c .before)) in
-    (record { widest = small (c .before); disks = omega arith; numbered = n }, omega (arith, l .inv .1, ap (λ (x : List ℕ). length x) (q .pre .3), length-replicate {A = ℕ} (a .width * (a .width + 2)) 0))
+    (record { widest = small (c .before); disks = omega arith; numbered = n }, omega (arith, l .inv .1, ap (λ (x : List ℕ). length x) (q .pre .3), length-marks (a .width * (a .width + 2)) 0 []))
 
 add-reads : tie.Need-add-reads Inv-loop μ-loop
 add-reads c =
