@@ -1,0 +1,2 @@
+-- Theorems about the calls, from their promises alone.
+pub mod Plans
