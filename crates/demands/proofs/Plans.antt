@@ -41,7 +41,7 @@ compared p f bs r j l k d z =
     let theirs : j .reads ≡ readCount p p f ss = zero-counts p f bs j d z in
     record {
       least = omega (arith, ours, theirs, best .least ss (a .accepts));
-      equally = ap₂ eqb theirs ours ∙ best .equally ss (a .accepts)
+      equally = ap₂ eqb theirs ours ∙ best .equally ss (a .accepts);
     }
 
 -- The judge accepts the planner's own record put into its form, with the planner's count.

@@ -1,12 +1,15 @@
 -- The starred examples of document 01 ("Checked examples"), a row each: what the definitions compute, and what document 01 states.
-use mathlib.Core.Bool.{Bool, true, false, _&&_}
+use mathlib.Core.Bool.{Bool, true, _&&_}
 use mathlib.Core.List.{List, [], _∷_, _++_}
 use Prim.Native.Nat.{ℕ}
 use lib.Dec.{eqb}
+use lib.ListN.{replicate}
 use Rattle.laws.specs.Choice.{when}
 use Rattle.laws.specs.Lists.{same}
 use Rattle.liberation.specs.Plans.{Step, step, routes, planOf, readCount}
 use Rattle.liberation.specs.Judging.{judge}
+use Rattle.parity.specs.Stripes.{encoded, rebuilt, clean}
+use Rattle.space.specs.Says.{stripesOf, needOf, spaceFault}
 
 pub record Row : Type 0 where
   pub computed : List ℕ
@@ -30,6 +33,10 @@ written (s ∷ ss) = s .row ∷ (s .kind ∷ (s .number ∷ written ss))
 abbrev pub verdict : ℕ → ℕ → List Step → List ℕ
 verdict p f ss = judge p p f ss .number ∷ (judge p p f ss .place ∷ (readCount p p f ss ∷ []))
 
+-- what a package takes with p data disks: number, stripes
+abbrev pub takes : ℕ → ℕ → ℕ → List ℕ
+takes p s l = spaceFault p s l ∷ (stripesOf p p s l ∷ [])
+
 -- the plans of the examples
 abbrev pub allRows : List Step
 allRows = step 0 0 0 ∷ (step 1 0 1 ∷ (step 2 0 2 ∷ (step 3 0 3 ∷ (step 4 0 4 ∷ []))))
@@ -40,10 +47,22 @@ mixed = step 0 0 0 ∷ (step 3 0 3 ∷ (step 4 0 4 ∷ (step 1 1 0 ∷ (step 2 1
 abbrev pub evenRows : List Step
 evenRows = step 0 0 0 ∷ (step 2 0 2 ∷ (step 4 0 4 ∷ (step 1 1 1 ∷ (step 3 1 3 ∷ []))))
 
+-- the stripe of the example: p = 3, s = 1, rows 01 02 04 / 08 10 20 / 40 80 00, disk by disk, and its parity
+abbrev pub film : List ℕ
+film = 0x01 ∷ (0x08 ∷ (0x40 ∷ (0x02 ∷ (0x10 ∷ (0x80 ∷ (0x04 ∷ (0x20 ∷ (0x00 ∷ []))))))))
+
+abbrev pub filmParity : List ℕ
+filmParity = 0x07 ∷ (0x38 ∷ (0xC0 ∷ (0x11 ∷ (0x9C ∷ (0x66 ∷ [])))))
+
 unfoldable pub table : List Row
 table =
-    -- Losing disk 1 of p = 3 is rebuilt by R0, D0, D1, with 7 reads
-    (written (planOf 3 3 1) is (0 ∷ (0 ∷ (0 ∷ (1 ∷ (1 ∷ (0 ∷ (2 ∷ (1 ∷ (1 ∷ []))))))))))
+    -- P is 07 38 C0, Q is 11 9C 66, whatever stood there before; the stripe is then clean
+    (encoded 3 3 1 (film ++ replicate 6 9) is (film ++ filmParity))
+    ∷ (((when (clean 3 3 1 (film ++ filmParity)) 1 ∷ []) is (1 ∷ []))
+    -- Losing disk 1 there gives 02 10 80
+    ∷ ((rebuilt 3 3 1 1 (film ++ filmParity) is (0x02 ∷ (0x10 ∷ (0x80 ∷ []))))
+    -- by R0, D0, D1, with 7 reads
+    ∷ ((written (planOf 3 3 1) is (0 ∷ (0 ∷ (0 ∷ (1 ∷ (1 ∷ (0 ∷ (2 ∷ (1 ∷ (1 ∷ []))))))))))
     ∷ ((verdict 3 1 (planOf 3 3 1) is (0 ∷ (0 ∷ (7 ∷ []))))
     -- Routes
     ∷ ((taken (routes 3 0) is (1 ∷ (0 ∷ (0 ∷ []))))
@@ -58,7 +77,11 @@ table =
     ∷ ((verdict 5 1 mixed is (0 ∷ (0 ∷ (20 ∷ []))))
     -- p = 5, lost 0: R0, R2, R4, D1, D3, 21
     ∷ ((verdict 5 0 evenRows is (0 ∷ (0 ∷ (21 ∷ []))))
-    ∷ [])))))))))))
+    -- p = 5, s = 4,096: 102,400 bytes take 1 stripe, 20,480 bytes a disk; 102,401 take 2
+    ∷ ((takes 5 4096 102400 is (0 ∷ (1 ∷ [])))
+    ∷ (((needOf 5 5 4096 102400 ∷ []) is (20480 ∷ []))
+    ∷ ((takes 5 4096 102401 is (0 ∷ (2 ∷ [])))
+    ∷ [])))))))))))))))))
 
 -- every row agrees
 unfoldable pub agree : List Row → Bool

@@ -1,6 +1,7 @@
 -- Theorems about the code's definitions.
--- widths, cells of sets, route words
+-- widths, refusals, cells of sets, route words
 pub mod Widths
+pub mod FaultLaws
 pub mod CellLaws
 pub mod SetLaws
 pub mod WordLaws

@@ -72,9 +72,13 @@ unfoldable pub survivingIn : ℕ → ℕ → List ℕ → List ℕ
 survivingIn p f [] = []
 survivingIn p f (x ∷ xs) = pick (eqb (diskAt p x) f) (survivingIn p f xs) (x ∷ survivingIn p f xs)
 
--- refusals 1 and 3 of document 01
+-- refusals 1, 2 and 3 of document 01
 abbrev pub widthFault : ℕ → ℕ
 widthFault p = when (not (isWidth p)) 1
+
+-- "s is 0 or over 4,096"
+abbrev pub sizeFault : ℕ → ℕ
+sizeFault s = when (eqb s 0 || ltb 4096 s) 2
 
 abbrev pub diskFault : ℕ → ℕ → ℕ
 diskFault k f = when (ltb (k + 1) f) 3

@@ -1,0 +1,114 @@
+-- The quotient rounded up is the least that holds the package, since the remainder is below the divisor. No product or sum of the space call wraps, by the bounds that its tests leave. Accepted and refused answers keep the promise.
+use mathlib.Core.Path.{_≡_, refl, sym, ap, ap₂, _∙_}
+use mathlib.Core.Bool.{Bool, true, false, _&&_}
+use Prim.Native.Nat.{ℕ, zero, suc, _+_, _-_, _*_, _^_, _≤_, _<_}
+use native.Mathlib.Nat.{mul-le-mul, mul-pos, mul-le-mul-right, mul-le-mul-left, mod-lt, div-add-mod', div-mul-le-self, div-eq-of-lt}
+use native.Mathlib.Omega.{arith}
+use lib.Dec.{eqb}
+use borrow.Author.Tests.{lt-ltb, le-ltb, leb-true, le-leb}
+use Rattle.laws.specs.Choice.{pick, firstOf, when}
+use Rattle.liberation.specs.Sets.{isWidth, widthFault, sizeFault}
+use Rattle.laws.proofs.ChoiceLaws.{first-none}
+use Rattle.liberation.proofs.Widths.{width-least}
+use Rattle.liberation.proofs.FaultLaws.{width-refused, width-accepted, width-of, size-of}
+use Rattle.space.specs.declared.Space.{Space}
+use Rattle.space.specs.Says.{upBy, stripeHolds, stripesOf, needOf, fitsIn, packageFault, spaceFault, SpaceSays, Refused, SpaceMeans}
+
+pub up-enough : (a d : ℕ) → 0 < d → a ≤ upBy a d * d
+up-enough a d h = omega (arith, div-add-mod' (a + (d - 1)) d, mod-lt (a + (d - 1)) h)
+
+-- q times d are less than d above a, so one time fewer is below a
+one-fewer : (q a d : ℕ) → 0 < d → 0 < a → q * d ≤ a + (d - 1) → (q - 1) * d < a
+one-fewer zero a d h k m = omega arith
+one-fewer (suc q) a d h k m = let e : suc q - 1 ≡ q = omega arith in rw e (omega arith)
+
+up-below : (a d : ℕ) → upBy a d * d ≤ a + (d - 1)
+up-below a d = div-mul-le-self (a + (d - 1)) d
+
+pub up-fewest : (a d : ℕ) → 0 < d → 0 < a → (upBy a d - 1) * d < a
+up-fewest a d h k = one-fewer (upBy a d) a d h k (up-below a d)
+
+pub up-none : (a d : ℕ) → 0 < d → a ≡ 0 → upBy a d ≡ 0
+up-none a d h e = div-eq-of-lt (omega arith)
+
+-- the numbers of a call with k data disks, whose k and p are at most 31
+pub record Bounds (p k s l : ℕ) : Type 0 where
+  pub gives : p * s ≤ 126976
+  pub holds : stripeHolds p k s ≤ 3936256
+  pub pos : 0 < stripeHolds p k s
+  pub need : needOf p k s l < 2 ^ 64
+
+pub bounds : (p k s l : ℕ) → 0 < p → p ≤ 31 → 0 < k → k ≤ 31 → 0 < s → s ≤ 4096 → l ≤ 2 ^ 48 → Bounds p k s l
+bounds p k s l p0 p1 k0 k1 s0 s1 l1 =
+    let g : p * s ≤ 31 * 4096 = mul-le-mul p1 s1 in
+    let d : ℕ = k * (p * s) in
+    let z : 0 < d = mul-pos k0 (mul-pos p0 s0) in
+    let n : ℕ = upBy l d in
+    let m : n * (1 * (p * s)) ≤ n * d = mul-le-mul-left n (mul-le-mul-right (p * s) k0) in
+    let t : d ≤ 31 * 126976 = mul-le-mul k1 g in
+    record { gives = g; holds = t; pos = z; need = omega (arith, m, up-below l d) }
+
+-- the refusals: 1, then 2, then 11
+pub fault-width : (p s l : ℕ) → isWidth p ≡ false → spaceFault p s l ≡ 1
+fault-width p s l e = ap (λ (x : ℕ). firstOf x (firstOf (sizeFault s) (packageFault l))) (width-refused p e)
+
+pub fault-size : (p s l : ℕ) → isWidth p ≡ true → sizeFault s ≡ 2 → spaceFault p s l ≡ 2
+fault-size p s l e h = ap₂ (λ (x y : ℕ). firstOf x (firstOf y (packageFault l))) (width-accepted p e) h
+
+past-size : (p s l : ℕ) → isWidth p ≡ true → sizeFault s ≡ 0 → spaceFault p s l ≡ packageFault l
+past-size p s l e h = ap₂ (λ (x y : ℕ). firstOf x (firstOf y (packageFault l))) (width-accepted p e) h
+
+pub fault-long : (p s l : ℕ) → isWidth p ≡ true → sizeFault s ≡ 0 → 2 ^ 48 < l → spaceFault p s l ≡ 11
+fault-long p s l e h k = past-size p s l e h ∙ ap (λ (b : Bool). when b 11) (lt-ltb (2 ^ 48) l k)
+
+pub fault-none : (p s l : ℕ) → isWidth p ≡ true → sizeFault s ≡ 0 → l ≤ 2 ^ 48 → spaceFault p s l ≡ 0
+fault-none p s l e h k = past-size p s l e h ∙ ap (λ (b : Bool). when b 11) (le-ltb (2 ^ 48) l k)
+
+-- a refusal by a number that is not 0
+pub refusal-says : (p s l free n : ℕ) (r : Space) → eqb n 0 ≡ false → spaceFault p s l ≡ n → Refused n r → SpaceSays p s l free r
+refusal-says p s l free n r z e d =
+    let no : eqb (spaceFault p s l) 0 ≡ false = ap (λ (x : ℕ). eqb x 0) e ∙ z in
+    record {
+      number = d .number ∙ sym e;
+      place = d .place;
+      stripes = d .stripes ∙ ap (λ (t : Bool). pick t (stripesOf p p s l) 0) (sym no);
+      bytes = d .bytes ∙ ap (λ (t : Bool). pick t (needOf p p s l) 0) (sym no);
+      fits = d .fits ∙ ap (λ (t : Bool). t && fitsIn p p s l free) (sym no);
+    }
+
+-- an accepted call
+pub space-says : (p s l free : ℕ) → spaceFault p s l ≡ 0 → SpaceSays p s l free (record { number = 0; place = 0; stripes = stripesOf p p s l; bytes = needOf p p s l; fits = fitsIn p p s l free })
+space-says p s l free e =
+    let ok : eqb (spaceFault p s l) 0 ≡ true = ap (λ (x : ℕ). eqb x 0) e in
+    record {
+      number = sym e;
+      place = refl;
+      stripes = ap (λ (t : Bool). pick t (stripesOf p p s l) 0) (sym ok);
+      bytes = ap (λ (t : Bool). pick t (needOf p p s l) 0) (sym ok);
+      fits = ap (λ (t : Bool). t && fitsIn p p s l free) (sym ok);
+    }
+
+-- past the refusals a stripe holds at least a byte
+stripe-pos : (p s l : ℕ) → spaceFault p s l ≡ 0 → 0 < stripeHolds p p s
+stripe-pos p s l e =
+    let a = first-none (widthFault p) (firstOf (sizeFault s) (packageFault l)) e in
+    let b = first-none (sizeFault s) (packageFault l) (a .1) in
+    let w : 0 < p = omega (arith, width-least p (width-of p (a .0))) in
+    mul-pos w (mul-pos w (size-of s (b .0) .0))
+
+-- an accepted answer: the stripes hold the package, one fewer does not, and it fits exactly when its need is at most the free bytes
+pub space-means : (p s l free : ℕ) (r : Space) → SpaceSays p s l free r → r .number ≡ 0 → SpaceMeans p s l free r
+space-means p s l free r h z =
+    let e : spaceFault p s l ≡ 0 = sym (h .number) ∙ z in
+    let ok : eqb (spaceFault p s l) 0 ≡ true = ap (λ (x : ℕ). eqb x 0) e in
+    let n : r .stripes ≡ stripesOf p p s l = h .stripes ∙ ap (λ (t : Bool). pick t (stripesOf p p s l) 0) ok in
+    let b : r .bytes ≡ needOf p p s l = h .bytes ∙ ap (λ (t : Bool). pick t (needOf p p s l) 0) ok in
+    let f : r .fits ≡ fitsIn p p s l free = h .fits ∙ ap (λ (t : Bool). t && fitsIn p p s l free) ok in
+    let d : 0 < stripeHolds p p s = stripe-pos p s l e in
+    record {
+      enough = rw n (up-enough l (stripeHolds p p s) d);
+      fewest = λ k. rw n (up-fewest l (stripeHolds p p s) d k);
+      none = λ k. n ∙ up-none l (stripeHolds p p s) d k;
+      bytes = b ∙ ap (λ (x : ℕ). x * (p * s)) (sym n);
+      fits = (λ t. rw b (leb-true (needOf p p s l) free (sym f ∙ t)), λ t. f ∙ le-leb (needOf p p s l) free (rw b at t));
+    }

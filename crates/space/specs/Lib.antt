@@ -1,0 +1,2 @@
+-- What the space call promises.
+pub mod Says

@@ -1,0 +1,51 @@
+// The space that a package takes: its stripes, the bytes of each disk, and whether that fits.
+ghost use Rattle.space.specs.Says.{SpaceSays, Refused};
+
+// A refusal number (0 for none) and its place, the stripes, the bytes of each disk, and whether these are at most the free bytes.
+#[repr(C)]
+pub struct Space {
+    pub number: u8,
+    pub place: u32,
+    pub stripes: u64,
+    pub bytes: u64,
+    pub fits: bool,
+}
+
+// A refusal of the space call: every other field is zero or false.
+fn refused_space(number: u8) -> Space
+    ensures { λ r. ⌜ Refused number r ⌝ }
+{
+    Space {
+        number: number,
+        place: 0,
+        stripes: 0,
+        bytes: 0,
+        fits: false,
+    }
+}
+
+// The space that a package of `bytes` bytes takes, where each disk has `free` bytes left. Refusals: 1, 2, 11.
+pub fn package_space(width: usize, size: usize, bytes: u64, free: u64) -> Space
+    ensures { λ r. ⌜ SpaceSays width size bytes free r ⌝ }
+{
+    if !sets::is_width(width) {
+        return refused_space(1);
+    }
+    if size == 0 || 4096 < size {
+        return refused_space(2);
+    }
+    if 281474976710656 < bytes {
+        return refused_space(11);
+    }
+    let gives = width as u64 * size as u64;
+    let holds = width as u64 * gives;
+    let stripes = (bytes + (holds - 1)) / holds;
+    let need = stripes * gives;
+    Space {
+        number: 0,
+        place: 0,
+        stripes: stripes,
+        bytes: need,
+        fits: need <= free,
+    }
+}

@@ -1,0 +1,6 @@
+-- The laws behind the loops.
+pub mod StoreLaws
+pub mod PartLaws
+pub mod ZeroLaws
+pub mod SourceLaws
+pub mod WithinLaws
