@@ -2,9 +2,11 @@
 // Widths, disks and lengths come in as `usize`, so nothing is narrowed before it is tested.
 ghost use Rattle.planner.specs.Says.{PlanSays, ListSays};
 ghost use Rattle.judge.specs.Says.{JudgeSays};
+ghost use Rattle.space.specs.Says.{SpaceSays};
 use judge::Judged;
 use planner::Plan;
 use sets::Answer;
+use space::Space;
 
 // Our plan for a lost disk.
 #[no_mangle]
@@ -28,4 +30,12 @@ pub extern "C" fn cuzhaveli_judge_plan(width: usize, disk: usize, plan: &[u8]) -
     ensures { λ r. ⌜ JudgeSays width disk (now (plan .entry)) r ⌝ }
 {
     judge::judge_plan(width, disk, plan)
+}
+
+// The space that a package takes.
+#[no_mangle]
+pub extern "C" fn cuzhaveli_package_space(width: usize, size: usize, bytes: u64, free: u64) -> Space
+    ensures { λ r. ⌜ SpaceSays width size bytes free r ⌝ }
+{
+    space::package_space(width, size, bytes, free)
 }

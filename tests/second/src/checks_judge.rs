@@ -8,7 +8,7 @@ use crate::random::Random;
 use crate::{ffi, numbers, Setting};
 
 /// Rounds for each lost disk of each width; a round judges two plans.
-const ROUNDS: usize = 400;
+const ROUNDS: usize = 300;
 
 /// How often the judge gave each number.
 type Seen = [u64; 256];

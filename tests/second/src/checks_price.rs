@@ -9,7 +9,7 @@ use crate::random::Random;
 use crate::{ffi, Setting};
 
 /// Random accepted plans for each lost disk of each width.
-const ROUNDS: usize = 300;
+const ROUNDS: usize = 200;
 
 /// How many accepted plans cost as much as ours, and how many cost more.
 #[derive(Default)]

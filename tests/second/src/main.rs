@@ -35,7 +35,7 @@ pub struct Setting {
 
 type Check = fn(&mut Setting, &mut Group);
 
-const GROUPS: [(&str, Check); 7] = [
+const GROUPS: &[(&str, Check)] = &[
     ("plan", checks_plan::run),
     ("read list", checks_list::run),
     ("sets", checks_sets::run),
@@ -51,7 +51,7 @@ fn main() -> ExitCode {
         return ExitCode::from(2);
     };
     let mut agree = true;
-    for (name, check) in GROUPS {
+    for &(name, check) in GROUPS {
         let random = Random::new(seed, name);
         let mut setting = Setting { program: program.clone(), random };
         let mut group = Group::new(name);

@@ -87,8 +87,12 @@ pub fn lost_rows(p: usize, disk: usize, kind: usize, number: usize) -> Vec<usize
 
 /// The different surviving cells in the sets used.
 pub fn cells_read(p: usize, disk: usize, steps: &[Step]) -> HashSet<Cell> {
-    let used = steps.iter().flat_map(|step| set_cells(p, step.kind, step.number));
-    used.filter(|cell| cell.1 != disk).collect()
+    let mut cells = HashSet::with_capacity(p * (p + 2));
+    for step in steps {
+        cells.extend(set_cells(p, step.kind, step.number));
+    }
+    cells.retain(|cell| cell.1 != disk);
+    cells
 }
 
 // Our plan.
