@@ -77,7 +77,7 @@ pub record Reading (p f : ℕ) (ss : List Step) (m : List ℕ) (reads i : ℕ) :
 pub reading-start : (p f : ℕ) (ss : List Step) (m : List ℕ) → m ≡ marksFrom (p * (p + 2)) 0 [] → Reading p f ss m 0 0
 reading-start p f ss m e = record { within = omega arith; cells = []; marks = e; count = refl; few = omega arith; rest = refl }
 
-surviving-few : (p f : ℕ) (xs : List ℕ) → length (survivingIn p f xs) ≤ length xs
+pub surviving-few : (p f : ℕ) (xs : List ℕ) → length (survivingIn p f xs) ≤ length xs
 unfolding survivingIn
 surviving-few p f [] = omega arith
 surviving-few p f (x ∷ xs) = go (eqb (diskAt p x) f) (surviving-few p f xs)

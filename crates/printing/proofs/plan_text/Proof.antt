@@ -1,0 +1,75 @@
+-- `plan_text`: the three answers of HoldsLaws, by the form test and the planner's refusal number.
+use mathlib.Core.Path.{_≡_, sym, _∙_}
+use mathlib.Core.Bool.{true}
+use native.Mathlib.Omega.{arith}
+use borrow.Author.Tests.{not-true, not-false}
+use borrow.Author.Needs.{needs}
+use Rattle.printing.specs.Text.{isForm}
+use Rattle.printing.proofs.HoldsLaws.{fault-zero, fault-small, says-no-form, says-refusal, says-plan}
+use Rattle.printing.proofs.plan_text.Tie as tie
+use Rattle.printing.proofs.plan_text.Statement.{statement}
+
+-- past the first test the input has its form
+formed : (c : tie.Else1) → isForm (c .before .before .before .before .before .args .input .now) ≡ true
+formed c = sym (c .before .is-form .ensures) ∙ not-false (c .before .is-form .result) (c .if1 .left)
+
+first-value-requires : tie.Need-first-value-requires
+first-value-requires c κs = search needs
+
+second-value-requires : tie.Need-second-value-requires
+second-value-requires c κs = search needs
+
+is-form-requires : tie.Need-is-form-requires
+is-form-requires c κs = search needs
+
+refusal-text-requires : tie.Need-refusal-text-requires
+refusal-text-requires c κs = search needs
+
+returns : tie.Need-returns
+returns c = says-no-form (c .before .before .before .before .before .before .args .input .now) (sym (c .before .before .is-form .ensures) ∙ not-true (c .before .before .is-form .result) (c .before .if1 .taken)) (c .refusal-text .ensures)
+
+plan-disk-requires : tie.Need-plan-disk-requires
+plan-disk-requires c κs = search needs
+
+cast-refusal-text : tie.Need-cast-refusal-text
+cast-refusal-text c = search needs
+
+refusal-text-requires-2 : tie.Need-refusal-text-requires-2
+refusal-text-requires-2 c κs = omega (arith, c .before .before .before .plan-disk .ensures .number, fault-small (c .before .before .before .before .before .before .before .first-value .result) (c .before .before .before .before .before .before .second-value .result))
+
+returns-2 : tie.Need-returns-2
+returns-2 c =
+    let f = c .before .before .before .before .before .before .before .before .first-value in
+    let s = c .before .before .before .before .before .before .before .second-value in
+    let d = c .before .before .before .before .plan-disk in
+    says-refusal (c .before .before .before .before .before .before .before .before .before .before .args .input .now) (f .result) (s .result) (formed (c .before .before .before .before .before)) (f .ensures) (s .ensures)
+    (d .result .number) (d .ensures .number) (c .before .before .if2 .taken) (c .refusal-text2 .ensures)
+
+steps-text-requires : tie.Need-steps-text-requires
+steps-text-requires c κs =
+    let d = c .before .before .plan-disk .ensures in
+    let w = fault-zero (c .before .before .before .before .before .before .first-value .result) (c .before .before .before .before .before .second-value .result) (sym (d .number) ∙ c .if2 .left) in
+    (w .0, w .1, d)
+
+returns-3 : tie.Need-returns-3
+returns-3 c =
+    let f = c .before .before .before .before .before .before .before .first-value in
+    let s = c .before .before .before .before .before .before .second-value in
+    says-plan (c .before .before .before .before .before .before .before .before .before .args .input .now) (f .result) (s .result) (formed (c .before .before .before .before)) (f .ensures) (s .ensures)
+    (sym (c .before .before .before .plan-disk .ensures .number) ∙ c .before .if2 .left) (c .steps-text .ensures)
+
+pub plan-text-spec : {M : Type 1} → statement M
+plan-text-spec =
+    tie.close
+    (tie.spec
+    first-value-requires
+    second-value-requires
+    is-form-requires
+    refusal-text-requires
+    returns
+    plan-disk-requires
+    cast-refusal-text
+    refusal-text-requires-2
+    returns-2
+    steps-text-requires
+    returns-3)

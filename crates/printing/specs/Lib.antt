@@ -1,0 +1,4 @@
+-- The printed plan.
+pub mod Text
+pub mod Writing
+pub mod Says

@@ -1,0 +1,84 @@
+-- The printed plan (document 01, "The printed plan"): the input's form, and the whole output as a function of the whole input.
+use mathlib.Core.Bool.{Bool, true, false, _&&_}
+use mathlib.Core.List.{List, [], _∷_, _++_}
+use Prim.Native.Nat.{ℕ, zero, suc, _+_, _-_, _*_, _/_, _%_}
+use lib.Dec.{eqb, ltb}
+use lib.ListN.{length, getD, drop}
+use Rattle.laws.specs.Choice.{pick, firstOf, when}
+use Rattle.laws.specs.Lists.{same, added}
+use Rattle.liberation.specs.Sets.{setOf, survivingIn, widthFault, diskFault}
+use Rattle.liberation.specs.Plans.{Step, planOf}
+
+-- fixed byte strings, each line ended by LF: `p,lost` and `step,row,set,number,new`; `refused,`
+abbrev pub namesLine : List ℕ
+namesLine = 112 ∷ (44 ∷ (108 ∷ (111 ∷ (115 ∷ (116 ∷ (10 ∷ []))))))
+
+abbrev pub headLine : List ℕ
+headLine =
+    115 ∷ (116 ∷ (101 ∷ (112 ∷ (44 ∷ (114 ∷ (111 ∷ (119 ∷ (44 ∷ (115 ∷ (101 ∷ (116 ∷ (44
+    ∷ (110 ∷ (117 ∷ (109 ∷ (98 ∷ (101 ∷ (114 ∷ (44 ∷ (110 ∷ (101 ∷ (119 ∷ (10 ∷ [])))))))))))))))))))))))
+
+abbrev pub refusedWord : List ℕ
+refusedWord = 114 ∷ (101 ∷ (102 ∷ (117 ∷ (115 ∷ (101 ∷ (100 ∷ (44 ∷ [])))))))
+
+-- a number below 100 in decimal, no leading zero except 0 itself
+abbrev pub digitsOf : ℕ → List ℕ
+digitsOf n = pick (ltb n 10) ((48 + n) ∷ []) ((48 + n / 10) ∷ ((48 + n % 10) ∷ []))
+
+-- the input for width a and lost disk b
+abbrev pub inputOf : ℕ → ℕ → List ℕ
+inputOf a b = namesLine ++ (digitsOf a ++ (44 ∷ (digitsOf b ++ (10 ∷ []))))
+
+-- the number before the byte `stop`, if it has one or two digits
+abbrev pub valueTo : ℕ → List ℕ → ℕ
+valueTo stop t = pick (eqb (getD t 1 0) stop) (getD t 0 0 - 48) (10 * (getD t 0 0 - 48) + (getD t 1 0 - 48))
+
+-- the two numbers of an input that has the form; what follows the first comma of the values line
+abbrev pub firstValue : List ℕ → ℕ
+firstValue t = valueTo 44 (drop 7 t)
+
+abbrev pub afterFirst : List ℕ → List ℕ
+afterFirst t = drop (pick (eqb (getD t 8 0) 44) 9 10) t
+
+abbrev pub secondValue : List ℕ → ℕ
+secondValue t = valueTo 10 (afterFirst t)
+
+-- the input is of its form exactly if it is the input of two numbers below 100
+unfoldable pub isForm : List ℕ → Bool
+isForm t = ltb (firstValue t) 100 && (ltb (secondValue t) 100 && same t (inputOf (firstValue t) (secondValue t)))
+
+-- "R or D"
+abbrev pub letterOf : ℕ → ℕ
+letterOf kind = pick (eqb kind 0) 82 68
+
+-- a line: step, row, set, number, new
+abbrev pub lineOf : ℕ → Step → ℕ → List ℕ
+lineOf i s new = digitsOf i ++ (44 ∷ (digitsOf (s .row) ++ (44 ∷ (letterOf (s .kind) ∷ (44 ∷ (digitsOf (s .number) ++ (44 ∷ (digitsOf new ++ (10 ∷ [])))))))))
+
+-- the column `new`, step by step: "cells no earlier step read"; ys are the cells that the steps before these read
+unfoldable pub newFrom : ℕ → ℕ → List ℕ → List Step → List ℕ
+newFrom p f ys [] = []
+newFrom p f ys (s ∷ ss) =
+    let zs = added (survivingIn p f (setOf p p (s .kind) (s .number))) ys in
+    (length zs - length ys) ∷ newFrom p f zs ss
+
+-- the lines of the steps from step i on, each with its number of new cells
+unfoldable pub linesFrom : ℕ → List Step → List ℕ → List ℕ
+linesFrom i [] ns = []
+linesFrom i (s ∷ ss) [] = []
+linesFrom i (s ∷ ss) (n ∷ ns) = lineOf i s n ++ linesFrom (suc i) ss ns
+
+unfoldable pub planText : ℕ → ℕ → List ℕ
+planText p f = headLine ++ linesFrom 0 (planOf p p f) (newFrom p f [] (planOf p p f))
+
+-- "A refusal prints `refused`, then its number on a line"
+abbrev pub refusedLine : ℕ → List ℕ
+refusedLine n = refusedWord ++ (digitsOf n ++ (10 ∷ []))
+
+-- 12 first, then 1, then 3
+unfoldable pub inputFault : List ℕ → ℕ
+inputFault t = pick (isForm t) (firstOf (widthFault (firstValue t)) (diskFault (firstValue t) (secondValue t))) 12
+
+-- the whole output for the whole input
+unfoldable pub printed : List ℕ → List ℕ
+printed t = pick (eqb (inputFault t) 0) (planText (firstValue t) (secondValue t)) (refusedLine (inputFault t))
