@@ -151,3 +151,14 @@ zeros-bytes (suc n) = zeros-bytes n
 -- three in a row: the first two may be exchanged
 pub xorL-swap : (a b c : List ℕ) → xorL a (xorL b c) ≡ xorL b (xorL a c)
 xorL-swap a b c = sym (xorL-assoc a b c) ∙ ap (λ (l : List ℕ). xorL l c) (xorL-comm a b) ∙ xorL-assoc b a c
+
+-- zeros on the right
+pub xorL-zeros : (n : ℕ) (a : List ℕ) → length a ≡ n → allBytes a ≡ true → xorL a (replicate n 0) ≡ a
+xorL-zeros n a e h = xorL-comm a (replicate n 0) ∙ zero-xorL n a e h
+
+-- a list twice is nothing
+pub xorL-twice : (n : ℕ) (a b : List ℕ) → length a ≡ n → length b ≡ n → allBytes b ≡ true → xorL a (xorL a b) ≡ b
+xorL-twice n a b ea eb hb = sym (xorL-assoc a a b) ∙ ap (λ (c : List ℕ). xorL c b) (xorL-self a ∙ ap (λ (k : ℕ). replicate k 0) ea) ∙ zero-xorL n b eb hb
+
+pub xorL-long : (n : ℕ) (a b : List ℕ) → length a ≡ n → length b ≡ n → length (xorL a b) ≡ n
+xorL-long n a b ea eb = length-xorL a b (ea ∙ sym eb) ∙ ea

@@ -1,0 +1,13 @@
+-- Theorems about the rebuild of two lost disks: steps that stand, the lost cells of a set, a parity disk with another disk, the rows of the walk and its roles, its start, and what the rebuild does.
+pub mod Standing
+pub mod LostLaws
+pub mod Upward
+pub mod ParityPairs
+pub mod WalkRows
+pub mod Roles
+pub mod WalkLaws
+pub mod StartLaws
+pub mod FirstCell
+pub mod Restoring
+pub mod PairLaws
+pub mod PairColumns
