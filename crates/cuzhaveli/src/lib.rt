@@ -3,10 +3,13 @@
 ghost use Rattle.planner.specs.Says.{PlanSays, ListSays};
 ghost use Rattle.judge.specs.Says.{JudgeSays};
 ghost use Rattle.space.specs.Says.{SpaceSays};
+ghost use Rattle.stripes.specs.Says.{EncodeSays, CheckSays};
+ghost use Rattle.rebuild.specs.Says.{OneSays};
 use judge::Judged;
 use planner::Plan;
 use sets::Answer;
 use space::Space;
+use stripes::Checked;
 
 // Our plan for a lost disk.
 #[no_mangle]
@@ -38,4 +41,34 @@ pub extern "C" fn cuzhaveli_package_space(width: usize, size: usize, bytes: u64,
     ensures { λ r. ⌜ SpaceSays width size bytes free r ⌝ }
 {
     space::package_space(width, size, bytes, free)
+}
+
+// Writes P and Q of a lent stripe.
+#[no_mangle]
+pub extern "C" fn cuzhaveli_encode_stripe(width: usize, size: usize, stripe: &mut [u8]) -> Answer
+    ensures { λ r. ⌜ EncodeSays width size (now (stripe .entry)) (now (stripe .exit)) r ⌝ }
+{
+    stripes::encode_stripe(width, size, stripe)
+}
+
+// Is a lent stripe clean?
+#[no_mangle]
+pub extern "C" fn cuzhaveli_check_stripe(width: usize, size: usize, stripe: &[u8]) -> Checked
+    ensures { λ r. ⌜ CheckSays width size (now (stripe .entry)) r ⌝ }
+{
+    stripes::check_stripe(width, size, stripe)
+}
+
+// Rebuilds one lost disk of a lent stripe into a lent column of p × s bytes.
+#[no_mangle]
+pub extern "C" fn cuzhaveli_rebuild_one(
+    width: usize,
+    size: usize,
+    disk: usize,
+    stripe: &[u8],
+    column: &mut [u8],
+) -> Answer
+    ensures { λ r. ⌜ OneSays width size disk (now (stripe .entry)) (now (column .entry)) (now (column .exit)) r ⌝ }
+{
+    rebuild::rebuild_one(width, size, disk, stripe, column)
 }

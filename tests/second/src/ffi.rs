@@ -2,10 +2,18 @@
 
 use crate::model;
 
+/// What a call gives that has nothing else to give.
 #[repr(C)]
-struct Answer {
+pub struct Answer {
     number: u8,
     place: u32,
+}
+
+impl Answer {
+    /// The answer in the model's type.
+    pub fn given(self) -> model::Answer {
+        model::Answer { number: self.number, place: self.place }
+    }
 }
 
 #[repr(C)]
@@ -49,7 +57,16 @@ pub fn plan_disk(width: usize, disk: usize) -> model::Plan {
 /// The read list of our plan for a disk.
 pub fn read_list(width: usize, disk: usize, list: &mut [u8]) -> model::Answer {
     let answer = unsafe { cuzhaveli_read_list(width, disk, list.as_mut_ptr(), list.len()) };
-    model::Answer { number: answer.number, place: answer.place }
+    answer.given()
+}
+
+/// A yes or no that the library gives as one byte.
+pub fn yes(byte: u8) -> bool {
+    match byte {
+        0 => false,
+        1 => true,
+        _ => panic!("a bool of the library holds {byte}"),
+    }
 }
 
 /// The judge's word on a plan.

@@ -40,8 +40,7 @@ impl Group {
         }
         let place = expected.iter().zip(got).take_while(|(a, b)| a == b).count();
         let call = format!("{}, first differing byte {place}", call());
-        let show = |bytes: &[u8]| format!("{} bytes \"{}\"", bytes.len(), bytes.escape_ascii());
-        self.differ(&call, &show(expected), &show(got));
+        self.differ(&call, &show(expected, place), &show(got, place));
     }
 
     fn differ(&mut self, call: &str, expected: &str, got: &str) {
@@ -65,6 +64,16 @@ impl Group {
         }
         self.differences == 0
     }
+}
+
+/// The bytes as text; of a long stretch, those around the place.
+fn show(bytes: &[u8], place: usize) -> String {
+    let length = bytes.len();
+    if length <= SHOWN_LENGTH {
+        return format!("{length} bytes \"{}\"", bytes.escape_ascii());
+    }
+    let part = &bytes[place.saturating_sub(8)..(place + 24).min(length)];
+    format!("{length} bytes, around the place \"{}\"", part.escape_ascii())
 }
 
 fn cut(text: &str) -> String {

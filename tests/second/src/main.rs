@@ -9,14 +9,27 @@ mod checks_list;
 mod checks_plan;
 mod checks_price;
 mod checks_print;
+#[allow(dead_code)] // its group may be left out
+mod checks_rebuild;
 mod checks_sets;
+#[allow(dead_code)] // its group may be left out
+mod checks_space;
+#[allow(dead_code)] // its group may be left out
+mod checks_stripes;
 mod ffi;
+mod ffi_rebuild;
+mod ffi_space;
+mod ffi_stripes;
 mod group;
 mod lent;
 mod model;
+mod model_rebuild;
+mod model_space;
+mod model_stripes;
 mod numbers;
 mod plans;
 mod random;
+mod small_stack;
 
 use std::path::PathBuf;
 use std::process::ExitCode;
@@ -43,6 +56,11 @@ const GROUPS: &[(&str, Check)] = &[
     ("price", checks_price::run),
     ("examples", checks_examples::run),
     ("printed plan", checks_print::run),
+    // Each line below can be left out, made a comment, while the library
+    // lacks its calls; nothing else needs to change.
+    ("space", checks_space::run),
+    ("stripes", checks_stripes::run),
+    ("rebuild one", checks_rebuild::run),
 ];
 
 fn main() -> ExitCode {

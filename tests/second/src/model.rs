@@ -87,12 +87,8 @@ pub fn lost_rows(p: usize, disk: usize, kind: usize, number: usize) -> Vec<usize
 
 /// The different surviving cells in the sets used.
 pub fn cells_read(p: usize, disk: usize, steps: &[Step]) -> HashSet<Cell> {
-    let mut cells = HashSet::with_capacity(p * (p + 2));
-    for step in steps {
-        cells.extend(set_cells(p, step.kind, step.number));
-    }
-    cells.retain(|cell| cell.1 != disk);
-    cells
+    let used = steps.iter().flat_map(|step| set_cells(p, step.kind, step.number));
+    used.filter(|cell| cell.1 != disk).collect()
 }
 
 // Our plan.
@@ -149,6 +145,17 @@ pub fn refuse_disk(width: usize, disk: usize) -> u8 {
         1
     } else if disk > width + 1 {
         3
+    } else {
+        0
+    }
+}
+
+/// The refusal a width and a cell size give, or 0.
+pub fn refuse_size(width: usize, size: usize) -> u8 {
+    if !WIDTHS.contains(&width) {
+        1
+    } else if size == 0 || size > 4_096 {
+        2
     } else {
         0
     }

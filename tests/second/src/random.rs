@@ -28,6 +28,11 @@ impl Random {
         (self.next() >> 56) as u8
     }
 
+    /// Random bytes all through a part.
+    pub fn fill(&mut self, part: &mut [u8]) {
+        part.fill_with(|| self.byte());
+    }
+
     /// True once in so many.
     pub fn once_in(&mut self, times: usize) -> bool {
         self.below(times) == 0

@@ -1,0 +1,6 @@
+-- The laws behind the functions: a step's sources, its other lost cells, the step, the steps in order, the promise.
+pub mod CollectLaws
+pub mod AddLaws
+pub mod StepLaws
+pub mod FollowLaws
+pub mod SaysLaws

@@ -1,0 +1,149 @@
+// The rebuild of one lost disk: our plan's steps, one after another, from a lent stripe into a lent column. Each cell goes to its own stretch of the column.
+use planner::Plan;
+use sets::Answer;
+use xor::Sources;
+ghost use mathlib.Core.Path.{_≡_};
+ghost use mathlib.Core.Bool.{_&&_, not};
+ghost use Prim.Native.Nat.{_+_, _*_, _≤_, _<_};
+ghost use lib.Dec.{eqb};
+ghost use lib.ListN.{length};
+ghost use Rattle.laws.specs.Choice.{pick};
+ghost use Rattle.laws.specs.Xor.{xorL};
+ghost use Rattle.liberation.specs.Sets.{place, rowAt, diskAt, setOf, lostIn};
+ghost use Rattle.parity.specs.Stripes.{cellAt, withCell, withColumn, xorOver, without, solved, stripeLong, rebuilt};
+ghost use Rattle.sets.specs.Limits.{Within};
+ghost use Rattle.rebuild.specs.Cells.{Surviving, Ready, Ours};
+ghost use Rattle.rebuild.specs.Says.{OneSays};
+
+// Where the surviving cells of a set are: the offsets in a stripe of those that are not on the lost disk.
+fn surviving(width: usize, size: usize, disk: usize, kind: usize, number: usize) -> Sources
+    requires { ⌜ Within width width number × (size ≤ 4096) ⌝ }
+    ensures { λ r. ⌜ Surviving width size disk kind number r ⌝ }
+{
+    let cells = sets::set_size(width, width, kind, number);
+    let mut at: [usize; 33] = [0; 33];
+    let mut count = 0;
+    let mut i = 0;
+    while i < cells {
+        let cell = sets::set_cell(width, width, kind, number, i);
+        if cell / width != disk {
+            at[count] = cell * size;
+            count += 1;
+        }
+        i += 1;
+    }
+    Sources {
+        at: at,
+        count: count,
+    }
+}
+
+// A cell on the lost disk, of another row, is added to the cell of this row.
+fn add_cell(width: usize, size: usize, disk: usize, row: usize, cell: usize, column: &mut [u8])
+    requires { ⌜ (row < width) × (length (now column) ≡ width * size) ⌝ }
+    ensures { λ _. ⌜ now (column .exit) ≡ pick (eqb (diskAt width cell) disk && not (eqb row (rowAt width cell))) (withCell size row (xorL (cellAt size (now (column .entry)) row) (cellAt size (now (column .entry)) (rowAt width cell))) (now (column .entry))) (now (column .entry)) ⌝ }
+{
+    if cell / width != disk {
+        return;
+    }
+    let other = cell % width;
+    if row == other {
+        return;
+    }
+    xor::add_one_within(column, row * size, size, other * size);
+}
+
+// The set's other cells on the lost disk, which earlier steps have rebuilt, are added to the cell of this row.
+fn add_lost(
+    width: usize,
+    size: usize,
+    disk: usize,
+    row: usize,
+    kind: usize,
+    number: usize,
+    column: &mut [u8],
+)
+    requires { ⌜ Within width width number × (row < width) × (length (now column) ≡ width * size) ⌝ }
+    ensures { λ _. ⌜ now (column .exit) ≡ withCell size row (xorL (cellAt size (now (column .entry)) row) (xorOver size (cellAt size (now (column .entry))) (without row (lostIn width disk (setOf width width kind number))))) (now (column .entry)) ⌝ }
+{
+    let cells = sets::set_size(width, width, kind, number);
+    let mut i = 0;
+    while i < cells {
+        let cell = sets::set_cell(width, width, kind, number, i);
+        add_cell(width, size, disk, row, cell, column);
+        i += 1;
+    }
+}
+
+// One step: the lost disk's cell of this row becomes the XOR of the set's other cells. The surviving ones come from the stripe, the others from the column.
+fn rebuild_cell(
+    width: usize,
+    size: usize,
+    disk: usize,
+    row: usize,
+    kind: usize,
+    number: usize,
+    stripe: &[u8],
+    column: &mut [u8],
+)
+    requires { ⌜ Ready width size disk row number (now stripe) (now column) ⌝ }
+    ensures { λ _. ⌜ withColumn width size disk (now (column .exit)) (now (stripe .entry)) ≡ solved size (place width row disk) (setOf width width kind number) (withColumn width size disk (now (column .entry)) (now (stripe .entry))) ⌝ }
+{
+    let sources = surviving(width, size, disk, kind, number);
+    let start = row * size;
+    let end = start + size;
+    xor::gather(&mut column[start..end], stripe, sources);
+    add_lost(width, size, disk, row, kind, number, column);
+}
+
+// The steps of our plan, in order.
+fn follow(width: usize, size: usize, disk: usize, plan: Plan, stripe: &[u8], column: &mut [u8])
+    requires { ⌜ Ours width disk plan × (size ≤ 4096) ⌝ }
+    requires { ⌜ (length (now stripe) ≡ stripeLong width width size) × (length (now column) ≡ width * size) ⌝ }
+    ensures { λ _. ⌜ now (column .exit) ≡ rebuilt width width size disk (now (stripe .entry)) ⌝ }
+{
+    let rows = plan.rows;
+    let kinds = plan.kinds;
+    let numbers = plan.sets;
+    let mut i = 0;
+    while i < width {
+        let row = rows[i] as usize;
+        let kind = kinds[i] as usize;
+        let number = numbers[i] as usize;
+        rebuild_cell(width, size, disk, row, kind, number, stripe, column);
+        i += 1;
+    }
+}
+
+// Rebuilds one lost disk into the column. Refusals: 1, 2, 3, 5.
+pub fn rebuild_one(
+    width: usize,
+    size: usize,
+    disk: usize,
+    stripe: &[u8],
+    column: &mut [u8],
+) -> Answer
+    ensures { λ r. ⌜ OneSays width size disk (now (stripe .entry)) (now (column .entry)) (now (column .exit)) r ⌝ }
+{
+    if !sets::is_width(width) {
+        return sets::answered(1);
+    }
+    if size == 0 {
+        return sets::answered(2);
+    }
+    if 4096 < size {
+        return sets::answered(2);
+    }
+    if width + 1 < disk {
+        return sets::answered(3);
+    }
+    if stripe.len() != (width + 2) * (width * size) {
+        return sets::answered(5);
+    }
+    if column.len() != width * size {
+        return sets::answered(5);
+    }
+    let plan = planner::plan_disk(width, disk);
+    follow(width, size, disk, plan, stripe, column);
+    sets::answered(0)
+}

@@ -1,0 +1,99 @@
+-- Refusals 1, 2 and 5 of a call on a stripe, and the promises of the calls from what was refused or done.
+use mathlib.Core.Path.{_≡_, refl, sym, ap, ap₂, _∙_}
+use mathlib.Core.Bool.{Bool, true, false, _&&_, _||_, not}
+use mathlib.Core.List.{List}
+use Prim.Native.Nat.{ℕ, suc, _+_, _*_, _≤_}
+use native.Mathlib.Nat.{mul-le-mul}
+use native.Mathlib.Omega.{arith}
+use lib.Dec.{eqb, ltb}
+use lib.ListN.{length}
+use borrow.Author.Tests.{ne-eqb, eq-eqb, ltb-false, eqb-true, not-false}
+use Rattle.laws.specs.Choice.{pick, when, firstOf}
+use Rattle.laws.specs.Sums.{allTo}
+use Rattle.laws.proofs.Flags.{or-false-r}
+use Rattle.laws.proofs.ChoiceLaws.{first-none, when-none}
+use Rattle.liberation.specs.Sets.{isWidth, widthFault, longFault, sizeFault}
+use Rattle.liberation.specs.Plans.{Step, allOf}
+use Rattle.liberation.proofs.Widths.{width-most}
+use Rattle.liberation.proofs.ParityPlans.{plan-row-parity, plan-diagonal-parity}
+use Rattle.sets.specs.declared.Answer.{Answer}
+use Rattle.parity.specs.Stripes.{stripeLong, encoded, followed, clean, setClean}
+use Rattle.stripes.specs.Cells.{Sized}
+use Rattle.stripes.specs.Says.{stripeFault, EncodeSays, CheckSays}
+
+-- the refusal from the four tests
+pub fault-is : (p s n : ℕ) (a b d e : Bool) → isWidth p ≡ a → eqb s 0 ≡ b → ltb 4096 s ≡ d → eqb n (stripeLong p p s) ≡ e → firstOf (widthFault p) (firstOf (sizeFault s) (when (not (eqb n (stripeLong p p s))) 5)) ≡ firstOf (when (not a) 1) (firstOf (when (b || d) 2) (when (not e) 5))
+fault-is p s n a b d e ea eb ed ee =
+    ap₂ (λ (x y : Bool). firstOf (when (not x) 1) (firstOf (when (y || ltb 4096 s) 2) (when (not (eqb n (stripeLong p p s))) 5))) ea eb
+    ∙ ap₂ (λ (x y : Bool). firstOf (when (not a) 1) (firstOf (when (b || x) 2) (when (not y) 5))) ed ee
+
+-- a stripe within the limits has few enough bytes to count
+pub bytes-most : (p s : ℕ) → p ≤ 31 → s ≤ 4096 → (p * s ≤ 126976) × ((p + 2) * (p * s) ≤ 4190208)
+bytes-most p s h k =
+    let l : p * s ≤ 31 * 4096 = mul-le-mul h k in
+    let m : p + 2 ≤ 33 = omega arith in
+    (omega arith, omega (arith, mul-le-mul m l))
+
+-- no refusal: the stripe is within the limits
+pub fault-none : (p s : ℕ) (t : List ℕ) → stripeFault p s t ≡ 0 → Sized p p s t
+fault-none p s t e =
+    let w = first-none (widthFault p) (firstOf (sizeFault s) (longFault (stripeLong p p s) t)) e in
+    let v = first-none (sizeFault s) (longFault (stripeLong p p s) t) (w .1) in
+    record {
+      widest = width-most p (not-false (isWidth p) (when-none (not (isWidth p)) 0 (w .0)));
+      disks = omega arith;
+      small = ltb-false 4096 s (or-false-r (eqb s 0) (ltb 4096 s) (when-none (eqb s 0 || ltb 4096 s) 1 (v .0)));
+      long = eqb-true (length t) (stripeLong p p s) (not-false (eqb (length t) (stripeLong p p s)) (when-none (not (eqb (length t) (stripeLong p p s))) 4 (v .1)));
+    }
+
+pub encode-refused : (p s n : ℕ) (t : List ℕ) (r : Answer) → n ≡ stripeFault p s t → (n ≡ 0 → ⊥) → (r .number ≡ n) × (r .place ≡ 0) → EncodeSays p s t t r
+encode-refused p s n t r e z a =
+    record {
+      number = a .0 ∙ e;
+      place = a .1;
+      stripe = sym (ap (λ (b : Bool). pick b (encoded p p s t) t) (ne-eqb (stripeFault p s t) 0 (λ q. z (e ∙ q))));
+    }
+
+-- P by the row sets, then Q by the diagonal sets
+both-kinds : (p s : ℕ) (t u v : List ℕ) → u ≡ followed p p s (p + 0) (allOf p 0 0) t → v ≡ followed p p s (p + 1) (allOf p 1 0) u → v ≡ encoded p p s t
+unfolding encoded
+both-kinds p s t u v e q =
+    let z : p + 0 ≡ p = omega arith in
+    let o : p + 1 ≡ suc p = omega arith in
+    q
+    ∙ ap₂ (λ (f : ℕ) (l : List ℕ). followed p p s f (allOf p 1 0) l) o (e ∙ ap (λ (f : ℕ). followed p p s f (allOf p 0 0) t) z)
+    ∙ sym (ap₂ (λ (x y : List Step). followed p p s (suc p) y (followed p p s p x t)) (plan-row-parity p p) (plan-diagonal-parity p p))
+
+pub encode-done : (p s : ℕ) (t u v : List ℕ) (r : Answer) → stripeFault p s t ≡ 0 → u ≡ followed p p s (p + 0) (allOf p 0 0) t → v ≡ followed p p s (p + 1) (allOf p 1 0) u → (r .number ≡ 0) × (r .place ≡ 0) → EncodeSays p s t v r
+encode-done p s t u v r z e q a =
+    record {
+      number = a .0 ∙ sym z;
+      place = a .1;
+      stripe = both-kinds p s t u v e q ∙ sym (ap (λ (b : Bool). pick b (encoded p p s t) t) (eq-eqb (stripeFault p s t) 0 z));
+    }
+
+pub check-refused : (p s n : ℕ) (t : List ℕ) → n ≡ stripeFault p s t → (n ≡ 0 → ⊥) → CheckSays p s t (record { number = n; place = 0; clean = false })
+check-refused p s n t e z =
+    record {
+      number = e;
+      place = refl;
+      clean = sym (ap (λ (b : Bool). b && clean p p s t) (ne-eqb (stripeFault p s t) 0 (λ q. z (e ∙ q))));
+    }
+
+-- not refused: clean if the sets of both kinds are
+check-done : (p s : ℕ) (t : List ℕ) (b : Bool) → stripeFault p s t ≡ 0 → b ≡ (allTo p (λ i. setClean p p s t 0 i) && allTo p (λ i. setClean p p s t 1 i)) → CheckSays p s t (record { number = 0; place = 0; clean = b })
+unfolding clean
+check-done p s t b z e =
+    record {
+      number = sym z;
+      place = refl;
+      clean = e ∙ sym (ap (λ (f : Bool). f && clean p p s t) (eq-eqb (stripeFault p s t) 0 z));
+    }
+
+-- a row set is not clean
+pub check-rows : (p s : ℕ) (t : List ℕ) (b : Bool) → stripeFault p s t ≡ 0 → b ≡ allTo p (λ i. setClean p p s t 0 i) → b ≡ false → CheckSays p s t (record { number = 0; place = 0; clean = b })
+check-rows p s t b z e f = check-done p s t b z (f ∙ sym (ap (λ (x : Bool). x && allTo p (λ i. setClean p p s t 1 i)) (sym e ∙ f)))
+
+-- all row sets are clean, so the diagonal sets decide
+pub check-both : (p s : ℕ) (t : List ℕ) (b d : Bool) → stripeFault p s t ≡ 0 → b ≡ allTo p (λ i. setClean p p s t 0 i) → b ≡ true → d ≡ allTo p (λ i. setClean p p s t 1 i) → CheckSays p s t (record { number = 0; place = 0; clean = d })
+check-both p s t b d z e f q = check-done p s t d z (q ∙ sym (ap (λ (x : Bool). x && allTo p (λ i. setClean p p s t 1 i)) (sym e ∙ f)))

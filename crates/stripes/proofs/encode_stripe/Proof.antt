@@ -1,0 +1,70 @@
+-- `encode_stripe`: a refusal leaves the stripe as it was; else P is written by the row sets, then Q by the diagonal sets.
+use mathlib.Core.Path.{_≡_, sym, _∙_}
+use native.Mathlib.Omega.{arith}
+use lib.ListN.{length}
+use borrow.Author.Needs.{needs}
+use Rattle.stripes.specs.Cells.{Sized}
+use Rattle.stripes.specs.Says.{stripeFault}
+use Rattle.stripes.proofs.FaultLaws.{fault-none, encode-refused, encode-done}
+use Rattle.stripes.proofs.encode_stripe.Statement.{statement}
+use Rattle.stripes.proofs.encode_stripe.Tie as tie
+
+-- past the refusals
+passed : (c : tie.Else1) → let a = c .before .before .before .args in stripeFault (a .width) (a .size) (a .stripe .now) ≡ 0
+passed c = sym (c .before .stripe-fault .ensures) ∙ c .if1 .left
+
+sized : (c : tie.Else1) → let a = c .before .before .before .args in Sized (a .width) (a .width) (a .size) (a .stripe .now)
+sized c = let a = c .before .before .before .args in fault-none (a .width) (a .size) (a .stripe .now) (passed c)
+
+stripe-fault-requires : tie.Need-stripe-fault-requires
+stripe-fault-requires c κs = search needs
+
+answered-requires : tie.Need-answered-requires
+answered-requires c κs = search needs
+
+returns : tie.Need-returns
+returns c =
+    let q = c .before in
+    let f = q .before .stripe-fault in
+    let a = q .before .before .before .args in
+    encode-refused (a .width) (a .size) (f .result) (a .stripe .now) (c .answered .result) (f .ensures) (q .if1 .taken) (c .answered .ensures)
+
+encode-kind-requires : tie.Need-encode-kind-requires
+encode-kind-requires c κs = (sized (c .before), omega arith)
+
+-- the stripe is as long once P is written
+long : (c : tie.After-encode-kind) → length (c .encode-kind .last .1 .1 .1 .0) ≡ length (c .before .before .before .before .before .args .stripe .now)
+long c = search needs
+
+encode-kind-requires-2 : tie.Need-encode-kind-requires-2
+encode-kind-requires-2 c κs =
+    let k = c .before .before .before in
+    let q = sized (k .before .before) in
+    (record { widest = q .widest; disks = q .disks; small = q .small; long = long k ∙ q .long }, omega arith)
+
+answered-requires-2 : tie.Need-answered-requires-2
+answered-requires-2 c κs = search needs
+
+same-length : tie.Need-same-length
+same-length c = search needs
+
+returns-2 : tie.Need-returns-2
+returns-2 c =
+    let d = c .before .before .before in
+    let k = d .before .before .before .before in
+    let e = k .before .before in
+    let a = e .before .before .before .args in
+    encode-done (a .width) (a .size) (a .stripe .now) (k .encode-kind .last .1 .1 .1 .0) (d .encode-kind2 .last .1 .1 .1 .0) (c .answered2 .result) (passed e) (k .encode-kind .ensures) (d .encode-kind2 .ensures) (c .answered2 .ensures)
+
+pub encode-stripe-spec : {M : Type 1} → statement M
+encode-stripe-spec =
+    tie.close
+    (tie.spec
+    stripe-fault-requires
+    answered-requires
+    returns
+    encode-kind-requires
+    encode-kind-requires-2
+    answered-requires-2
+    same-length
+    returns-2)

@@ -1,0 +1,3 @@
+-- What encoding and checking a stripe promise.
+pub mod Cells
+pub mod Says

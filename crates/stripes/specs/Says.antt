@@ -1,0 +1,26 @@
+-- The promises of the two public calls, for accepted and refused calls alike. Stripes have p data disks.
+use mathlib.Core.Path.{_≡_}
+use mathlib.Core.Bool.{_&&_}
+use mathlib.Core.List.{List}
+use Prim.Native.Nat.{ℕ}
+use lib.Dec.{eqb}
+use Rattle.laws.specs.Choice.{pick, firstOf}
+use Rattle.liberation.specs.Sets.{widthFault, sizeFault, longFault}
+use Rattle.parity.specs.Stripes.{stripeLong, encoded, clean}
+use Rattle.sets.specs.declared.Answer.{Answer}
+use Rattle.stripes.specs.declared.Checked.{Checked}
+
+-- both calls refuse by 1, 2 and 5
+abbrev pub stripeFault : ℕ → ℕ → List ℕ → ℕ
+stripeFault p s t = firstOf (widthFault p) (firstOf (sizeFault s) (longFault (stripeLong p p s) t))
+
+-- the stripe t becomes t′: encoded, or as it was on a refusal
+pub record EncodeSays (p s : ℕ) (t t′ : List ℕ) (r : Answer) : Type 0 where
+  pub number : r .number ≡ stripeFault p s t
+  pub place : r .place ≡ 0
+  pub stripe : t′ ≡ pick (eqb (stripeFault p s t) 0) (encoded p p s t) t
+
+pub record CheckSays (p s : ℕ) (t : List ℕ) (r : Checked) : Type 0 where
+  pub number : r .number ≡ stripeFault p s t
+  pub place : r .place ≡ 0
+  pub clean : r .clean ≡ (eqb (stripeFault p s t) 0 && clean p p s t)
