@@ -1,2 +1,3 @@
 -- Theorems about the calls, from their promises alone.
 pub mod Plans
+pub mod Stripes

@@ -1,8 +1,7 @@
 -- The record that the library returns: a text written at the start of zeros, and which text it is for an input.
-use mathlib.Core.Path.{_≡_, refl, sym, ap, ap₂, _∙_}
+use mathlib.Core.Path.{_≡_, sym, ap, ap₂, _∙_}
 use mathlib.Core.Bool.{Bool, true, false, not}
 use mathlib.Core.List.{List}
-use mathlib.Core.Logic.{⊎-elim}
 use Prim.Native.Nat.{ℕ, _+_, _-_, _≤_}
 use native.Mathlib.Omega.{arith}
 use lib.Dec.{ltb}
@@ -10,9 +9,11 @@ use lib.ListN.{length, take, replicate, length-append}
 use lib.Seq.{take-at}
 use borrow.Author.Tests.{ltb-false}
 use Rattle.laws.specs.Choice.{when, firstOf}
+use Rattle.laws.proofs.ChoiceLaws.{first-none, when-none}
 use Rattle.liberation.specs.Sets.{isWidth, widthFault, diskFault}
+use Rattle.liberation.proofs.FaultLaws.{width-of}
 use Rattle.planner.specs.Says.{planFault}
-use Rattle.printing.specs.Text.{firstValue, secondValue, isForm, planText, refusedLine, printed}
+use Rattle.printing.specs.Text.{firstValue, secondValue, isForm, planText, refusedLine}
 use Rattle.printing.specs.Writing.{Wrote}
 use Rattle.printing.specs.Says.{Holds, TextSays}
 use Rattle.printing.specs.declared.Text.{Text}
@@ -34,12 +35,9 @@ holds-same e h = rw e at h
 
 -- the planner refuses nothing: the two numbers are within their limits
 pub fault-zero : (p f : ℕ) → planFault p f ≡ 0 → (isWidth p ≡ true) × (f ≤ p + 1)
-fault-zero p f e = go (isWidth p) (ltb (p + 1) f) refl refl e
-  where
-    go : (a b : Bool) → isWidth p ≡ a → ltb (p + 1) f ≡ b → firstOf (when (not a) 1) (when b 3) ≡ 0 → (isWidth p ≡ true) × (f ≤ p + 1)
-    go true true ea eb z = absurd (omega arith)
-    go true false ea eb z = (ea, ltb-false (p + 1) f eb)
-    go false b ea eb z = absurd (omega arith)
+fault-zero p f e =
+    let w = first-none (widthFault p) (diskFault p f) e in
+    (width-of p (w .0), ltb-false (p + 1) f (when-none (ltb (p + 1) f) 2 (w .1)))
 
 pub fault-small : (p f : ℕ) → planFault p f ≤ 3
 fault-small p f = go (isWidth p) (ltb (p + 1) f)

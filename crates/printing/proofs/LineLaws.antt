@@ -1,13 +1,11 @@
 -- The loop that prints the steps of our plan: after i of them their lines are written and their cells marked, and with the lines still to come that is the whole text.
-use mathlib.Core.Path.{_≡_, refl, sym, ap, ap₂, _∙_}
+use mathlib.Core.Path.{_≡_, refl, sym, ap, _∙_}
 use mathlib.Core.Bool.{true}
 use mathlib.Core.List.{List, [], _∷_, _++_, append-assoc, append-nil}
 use Prim.Native.Nat.{ℕ, zero, suc, _+_, _-_, _*_, _≤_, _<_}
 use native.Mathlib.Numerals.{add-one}
 use native.Mathlib.Omega.{arith}
-use lib.Dec.{eqb}
-use lib.ListN.{length, getD, drop, replicate, length-append, drop-of-length-le}
-use Rattle.laws.specs.Choice.{pick}
+use lib.ListN.{length, getD, drop, length-append, drop-of-length-le}
 use Rattle.laws.specs.Lists.{added, allBelow}
 use Rattle.liberation.specs.Sets.{isWidth, setOf, survivingIn}
 use Rattle.liberation.specs.Plans.{Step, planOf, marksFrom}
@@ -20,9 +18,9 @@ use Rattle.sets.proofs.SizeLaws.{size-most}
 use Rattle.planner.specs.declared.Plan.{Plan}
 use Rattle.planner.specs.Records.{listed, padded}
 use Rattle.planner.specs.Says.{plannedSteps, PlanSays}
-use Rattle.planner.proofs.PlanLaws.{fault-none}
+use Rattle.planner.proofs.PlanLaws.{planned-is}
 use Rattle.planner.proofs.ReadingLaws.{StepAt, step-at, plan-length, plan-number, surviving-few}
-use Rattle.printing.specs.Text.{digitsOf, lineOf, newFrom, linesFrom}
+use Rattle.printing.specs.Text.{lineOf, newFrom, linesFrom}
 use Rattle.printing.specs.Writing.{Wrote}
 use Rattle.printing.proofs.WriteLaws.{wrote-none, wrote-more}
 use Rattle.printing.proofs.TextLaws.{line-most}
@@ -64,7 +62,7 @@ plan-step p f i r w h k l =
     a = step-at (planOf p p f) i (omega (arith, plan-length p f w h))
 
     held : (g : Step → ℕ) → padded (listed g (plannedSteps p f)) ≡ padded (listed g (planOf p p f))
-    held g = ap (λ (n : ℕ). padded (listed g (pick (eqb n 0) (planOf p p f) []))) (fault-none p f w h)
+    held g = ap (λ (ss : List Step). padded (listed g ss)) (planned-is p f w h)
 
 -- a set has at most p + 2 cells, so no more are new
 pub new-few : (p f kind number : ℕ) {m m′ : List ℕ} {r : ℕ} → Marked m m′ (survivingIn p f (setOf p p kind number)) r → r ≤ p + 2

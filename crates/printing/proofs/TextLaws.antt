@@ -1,8 +1,8 @@
 -- The pieces that the writers put, joined to the texts of the definitions, and how long these can be.
-use mathlib.Core.Path.{_≡_, refl, sym, ap, ap₂, _∙_}
+use mathlib.Core.Path.{_≡_, sym, ap, ap₂, _∙_}
 use mathlib.Core.Bool.{Bool, true, false}
 use mathlib.Core.List.{List, [], _∷_, _++_, append-assoc}
-use Prim.Native.Nat.{ℕ, suc, _+_, _-_, _*_, _/_, _%_, _≤_, _<_}
+use Prim.Native.Nat.{ℕ, _+_, _-_, _*_, _/_, _%_, _≤_, _<_}
 use native.Mathlib.Omega.{arith}
 use lib.Dec.{eqb, ltb}
 use lib.ListN.{length, getD, drop, length-append}
@@ -10,7 +10,7 @@ use lib.Seq.{getD-drop}
 use borrow.Author.Tests.{lt-ltb, le-ltb, eq-eqb, ne-eqb}
 use Rattle.laws.specs.Choice.{pick}
 use Rattle.liberation.specs.Plans.{Step, step}
-use Rattle.printing.specs.Text.{digitsOf, letterOf, lineOf, refusedWord, refusedLine, namesLine, inputOf, valueTo, firstValue, secondValue, afterFirst}
+use Rattle.printing.specs.Text.{digitsOf, letterOf, lineOf, namesLine, inputOf, valueTo, secondValue}
 
 -- one digit, or two
 pub one-digit : (n : ℕ) → n < 10 → (48 + n) ∷ [] ≡ digitsOf n

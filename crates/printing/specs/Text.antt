@@ -1,10 +1,10 @@
 -- The printed plan (document 01, "The printed plan"): the input's form, and the whole output as a function of the whole input.
-use mathlib.Core.Bool.{Bool, true, false, _&&_}
+use mathlib.Core.Bool.{Bool, _&&_}
 use mathlib.Core.List.{List, [], _∷_, _++_}
-use Prim.Native.Nat.{ℕ, zero, suc, _+_, _-_, _*_, _/_, _%_}
+use Prim.Native.Nat.{ℕ, suc, _+_, _-_, _*_, _/_, _%_}
 use lib.Dec.{eqb, ltb}
 use lib.ListN.{length, getD, drop}
-use Rattle.laws.specs.Choice.{pick, firstOf, when}
+use Rattle.laws.specs.Choice.{pick, firstOf}
 use Rattle.laws.specs.Lists.{same, added}
 use Rattle.liberation.specs.Sets.{setOf, survivingIn, widthFault, diskFault}
 use Rattle.liberation.specs.Plans.{Step, planOf}

@@ -1,11 +1,11 @@
 // The printed plan as text: the input's form, the plan's lines or a refusal.
 ghost use mathlib.Core.Path.{_≡_};
 ghost use mathlib.Core.Bool.{true};
-ghost use mathlib.Core.List.{List, [], _∷_, _++_};
-ghost use Prim.Native.Nat.{ℕ, _+_, _-_, _*_, _≤_, _<_};
+ghost use mathlib.Core.List.{[], _∷_, _++_};
+ghost use Prim.Native.Nat.{_+_, _-_, _*_, _≤_, _<_};
 ghost use lib.ListN.{length, getD, drop, replicate};
 ghost use Rattle.liberation.specs.Sets.{isWidth};
-ghost use Rattle.liberation.specs.Plans.{Step, step, planOf, marksFrom};
+ghost use Rattle.liberation.specs.Plans.{step, planOf, marksFrom};
 ghost use Rattle.planner.specs.Says.{PlanSays};
 ghost use Rattle.printing.specs.Text.{digitsOf, letterOf, lineOf, newFrom, linesFrom, planText, refusedLine, inputOf, valueTo, firstValue, secondValue, isForm};
 ghost use Rattle.printing.specs.Writing.{Wrote};
@@ -13,7 +13,7 @@ ghost use Rattle.printing.specs.Says.{Holds, TextSays};
 use planner::Plan;
 
 // A printed text: its bytes, zeros after them, and how many they are.
-// The longest has less than 458 bytes: 24 of the head line, and 31 lines of at most 14 (four numbers of at most two digits, four commas, a letter, LF).
+// There is room for a head line of 24 bytes and 31 lines of 14: four numbers of two digits, four commas, a letter and LF. The longest text has 433.
 pub struct Text {
     pub bytes: [u8; 458],
     pub length: usize,
@@ -159,7 +159,7 @@ fn second_value(text: &[u8]) -> usize
     }
 }
 
-// Is the input of its form: the very input that these two numbers, which stand in it, would have?
+// Is the input of its form? The two numbers are those that stand in it, and the input has to be theirs, byte for byte.
 fn is_form(text: &[u8], first: usize, second: usize) -> bool
     requires { ⌜ (first ≡ firstValue (now text)) × (second ≡ secondValue (now text)) ⌝ }
     ensures { λ r. ⌜ r ≡ isForm (now (text .entry)) ⌝ }

@@ -1,0 +1,104 @@
+-- Demand 2, and the last sentence of demand 3, said of the calls that encode, check and rebuild one disk: whatever they return, as long as they keep their promises.
+-- The lent slices are lists of bytes; t, u are stripes, o a column as it was lent, o′ as it is given back.
+use mathlib.Core.Path.{_≡_, refl, sym, ap, ap₂, _∙_}
+use mathlib.Core.Bool.{Bool, true, false, _&&_, not}
+use mathlib.Core.List.{List}
+use Prim.Native.Nat.{ℕ, suc, _+_, _*_, _≤_, _<_}
+use native.Mathlib.Omega.{arith}
+use lib.Dec.{eqb, ltb}
+use lib.ListN.{length, getD}
+use borrow.Author.Tests.{eqb-true, eq-eqb, ltb-false, not-false}
+use Rattle.laws.specs.Choice.{pick, firstOf, when}
+use Rattle.laws.specs.Xor.{allBytes}
+use Rattle.laws.proofs.ChoiceLaws.{first-none, when-none}
+use Rattle.laws.proofs.Flags.{and-i}
+use Rattle.liberation.specs.Sets.{isWidth, diskAt, widthFault, sizeFault, diskFault, longFault}
+use Rattle.liberation.specs.Plans.{readList}
+use Rattle.liberation.proofs.FaultLaws.{width-of}
+use Rattle.liberation.proofs.Demand3.{plan-accepted}
+use Rattle.parity.specs.Stripes.{cellAt, columnOf, stripeLong, isStripe, clean, encoded, rebuilt}
+use Rattle.parity.proofs.Encoding.{encoded-stripe, encoded-data, encoded-clean, encoded-only}
+use Rattle.parity.proofs.Rebuilding.{one-back, only-read}
+use Rattle.sets.specs.declared.Answer.{Answer}
+use Rattle.planner.specs.Says.{ListSays, planFault, listFault}
+use Rattle.stripes.specs.declared.Checked.{Checked}
+use Rattle.stripes.specs.Says.{stripeFault, EncodeSays, CheckSays}
+use Rattle.rebuild.specs.Says.{oneFault, OneSays}
+
+-- what an accepted call on a stripe shows of its arguments
+is-long : (n : ℕ) (t : List ℕ) → longFault n t ≡ 0 → length t ≡ n
+is-long n t e = eqb-true (length t) n (not-false (eqb (length t) n) (when-none (not (eqb (length t) n)) 4 e))
+
+is-stripe : (p s : ℕ) (t : List ℕ) → length t ≡ stripeLong p p s → allBytes t ≡ true → isStripe p p s t ≡ true
+is-stripe p s t e b = and-i (eqb (length t) (stripeLong p p s)) (allBytes t) (eq-eqb (length t) (stripeLong p p s) e) b
+
+stripe-length : (p s : ℕ) (t : List ℕ) → stripeFault p s t ≡ 0 → length t ≡ stripeLong p p s
+stripe-length p s t e =
+    let a = first-none (widthFault p) (firstOf (sizeFault s) (longFault (stripeLong p p s) t)) e in
+    let b = first-none (sizeFault s) (longFault (stripeLong p p s) t) (a .1) in
+    is-long (stripeLong p p s) t (b .1)
+
+-- An accepted encoding of t leaves t′.
+pub record Encodes (p s : ℕ) (t t′ : List ℕ) : Type 0 where
+  pub is-clean : clean p p s t′ ≡ true
+  -- no data cell is touched
+  pub kept : (x : ℕ) → x < p * p → cellAt s t′ x ≡ cellAt s t x
+  -- no other clean stripe has those data
+  pub only : (u : List ℕ) → isStripe p p s u ≡ true → clean p p s u ≡ true → ((x : ℕ) → x < p * p → cellAt s u x ≡ cellAt s t x) → u ≡ t′
+
+pub encodes : (p s : ℕ) (t t′ : List ℕ) (r : Answer) → allBytes t ≡ true → EncodeSays p s t t′ r → r .number ≡ 0 → Encodes p s t t′
+encodes p s t t′ r b k z =
+    let e : stripeFault p s t ≡ 0 = sym (k .number) ∙ z in
+    let done : t′ ≡ encoded p p s t = k .stripe ∙ ap (λ (n : ℕ). pick (eqb n 0) (encoded p p s t) t) e in
+    let ok : isStripe p p s t ≡ true = is-stripe p s t (stripe-length p s t e) b in
+    record {
+      is-clean = ap (clean p p s) done ∙ encoded-clean p p s t ok;
+      kept = λ x h. ap (λ (l : List ℕ). cellAt s l x) done ∙ encoded-data p p s t ok x h;
+      only = λ u a c h. encoded-only p p s t ok u a c h ∙ sym done;
+    }
+
+-- "The check says yes exactly for clean stripes."
+pub checks : (p s : ℕ) (t : List ℕ) (r : Checked) → CheckSays p s t r → r .number ≡ 0 → r .clean ≡ clean p p s t
+checks p s t r k z = k .clean ∙ ap (λ (n : ℕ). eqb n 0 && clean p p s t) (sym (k .number) ∙ z)
+
+-- what an accepted rebuild shows of its arguments
+record Taken (p s f : ℕ) (t : List ℕ) : Type 0 where
+  width : isWidth p ≡ true
+  disk : f ≤ p + 1
+  long : length t ≡ stripeLong p p s
+
+taken : (p s f : ℕ) (t o : List ℕ) → oneFault p s f t o ≡ 0 → Taken p s f t
+taken p s f t o e =
+    let a = first-none (widthFault p) (firstOf (sizeFault s) (firstOf (diskFault p f) (firstOf (longFault (stripeLong p p s) t) (longFault (p * s) o)))) e in
+    let b = first-none (sizeFault s) (firstOf (diskFault p f) (firstOf (longFault (stripeLong p p s) t) (longFault (p * s) o))) (a .1) in
+    let c = first-none (diskFault p f) (firstOf (longFault (stripeLong p p s) t) (longFault (p * s) o)) (b .1) in
+    let d = first-none (longFault (stripeLong p p s) t) (longFault (p * s) o) (c .1) in
+    record {
+      width = width-of p (a .0);
+      disk = ltb-false (p + 1) f (when-none (ltb (p + 1) f) 2 (c .0));
+      long = is-long (stripeLong p p s) t (d .0);
+    }
+
+column-is : (p s f : ℕ) (t o o′ : List ℕ) (r : Answer) → OneSays p s f t o o′ r → r .number ≡ 0 → o′ ≡ rebuilt p p s f t
+column-is p s f t o o′ r k z = k .column ∙ ap (λ (n : ℕ). pick (eqb n 0) (rebuilt p p s f t) o) (sym (k .number) ∙ z)
+
+-- Demand 2 for one lost disk: survivors of a clean stripe u bring the disk back as it was in u, whatever stood in the lost column.
+pub brings-back :
+    (p s f : ℕ) (t u o o′ : List ℕ) (r : Answer) → allBytes t ≡ true → isStripe p p s u ≡ true → clean p p s u ≡ true → OneSays p s f t o o′ r → r .number ≡ 0
+    → ((x : ℕ) → x < p * (p + 2) → (diskAt p x ≡ f → ⊥) → cellAt s t x ≡ cellAt s u x) → o′ ≡ columnOf p s f u
+brings-back p s f t u o o′ r b v c k z h =
+    let a = taken p s f t o (sym (k .number) ∙ z) in
+    column-is p s f t o o′ r k z ∙ one-back p p s f (plan-accepted p f (a .width) (a .disk)) (omega (arith, a .disk)) t u (is-stripe p s t (a .long) b) v c h
+
+-- The last sentence of demand 3: stripes alike in every cell marked 1 in the list that `read_list` writes give one rebuilt disk, dirty stripes too.
+pub one-column :
+    (p s f : ℕ) (t u o o′ n n′ l l′ : List ℕ) (r q a : Answer) → allBytes t ≡ true → allBytes u ≡ true
+    → OneSays p s f t o o′ r → r .number ≡ 0 → OneSays p s f u n n′ q → q .number ≡ 0 → ListSays p f l l′ a → a .number ≡ 0
+    → ((x : ℕ) → getD l′ x 0 ≡ 1 → cellAt s t x ≡ cellAt s u x) → o′ ≡ n′
+one-column p s f t u o o′ n n′ l l′ r q a bt bu k z m y w e h =
+    let i = taken p s f t o (sym (k .number) ∙ z) in
+    let j = taken p s f u n (sym (m .number) ∙ y) in
+    let list : l′ ≡ readList p p f = w .list ∙ ap (λ (x : ℕ). pick (eqb x 0) (readList p p f) l) (sym (w .number) ∙ e) in
+    column-is p s f t o o′ r k z
+    ∙ only-read p p s f (plan-accepted p f (i .width) (i .disk)) (omega (arith, i .disk)) t u (is-stripe p s t (i .long) bt) (is-stripe p s u (j .long) bu) (λ x g. h x (ap (λ (v : List ℕ). getD v x 0) list ∙ g))
+    ∙ sym (column-is p s f u n n′ q m y)
