@@ -1,16 +1,16 @@
 -- The other lost cells of a set, added one by one to the cell of one row: what stands there, with the cells still to come, gives the XOR of the whole. The other rows are as they were, so each is read as it stood at first.
 use mathlib.Core.Path.{_≡_, refl, sym, ap, ap₂, subst, _∙_}
 use mathlib.Core.Bool.{Bool, true, false, _&&_, not}
-use mathlib.Core.Logic.{_⊎_, inl, inr, ⊎-elim}
+use mathlib.Core.Logic.{inl, inr, ⊎-elim}
 use mathlib.Core.List.{List, [], _∷_}
-use Prim.Native.Nat.{ℕ, suc, _+_, _*_, _%_, _≤_, _<_}
+use Prim.Native.Nat.{ℕ, _+_, _*_, _≤_, _<_}
 use native.Mathlib.Nat.{mod-lt}
 use native.Mathlib.Numerals.{add-one}
 use native.Mathlib.Omega.{arith}
 use lib.Dec.{eqb}
 use lib.ListN.{length, getD, drop, replicate, drop-of-length-le}
 use lib.Seq.{drop-cons}
-use borrow.Author.Tests.{eqb-true, eqb-false, eq-eqb, ne-eqb}
+use borrow.Author.Tests.{eqb-false, eq-eqb, ne-eqb}
 use Rattle.laws.specs.Choice.{pick}
 use Rattle.laws.specs.Xor.{xorL, allBytes}
 use Rattle.laws.proofs.Modulo.{lt-or-le}
@@ -21,7 +21,7 @@ use Rattle.parity.proofs.CellLaws.{cell-fits, cell-long, with-same, cell-with, 
 use Rattle.parity.proofs.Solving.{cell-bytes}
 use Rattle.xor.specs.Parts.{Apart}
 
--- does this cell, on disk f and of another row, go to the cell of the row
+-- a cell on disk f, of another row than this one: it is added
 abbrev pub goes : ℕ → ℕ → ℕ → ℕ → Bool
 goes p f row cell = eqb (diskAt p cell) f && not (eqb row (rowAt p cell))
 
@@ -29,7 +29,7 @@ goes p f row cell = eqb (diskAt p cell) f && not (eqb row (rowAt p cell))
 abbrev pub withRow : ℕ → ℕ → ℕ → List ℕ → List ℕ
 withRow s row other col = withCell s row (xorL (cellAt s col row) (cellAt s col other)) col
 
--- a cell that does not go, and one that does
+-- a cell that is not added, and one that is
 pub goes-off : (p f row cell : ℕ) (a b : List ℕ) → (diskAt p cell ≡ f → ⊥) → b ≡ pick (goes p f row cell) a b
 goes-off p f row cell a b n = sym (ap (λ (t : Bool). pick (t && not (eqb row (rowAt p cell))) a b) (ne-eqb (diskAt p cell) f n))
 

@@ -1,6 +1,6 @@
 -- The surviving cells of a set, collected one by one: the offsets collected so far, with those of the cells still to come, are those of the whole set. So each source lies in the stripe, and their XOR is that of the cells.
 use mathlib.Core.Path.{_≡_, refl, sym, ap, ap₂, subst₂, _∙_}
-use mathlib.Core.Bool.{Bool, true, false}
+use mathlib.Core.Bool.{Bool}
 use mathlib.Core.List.{List, [], _∷_, _++_, append-assoc, append-nil}
 use Prim.Native.Nat.{ℕ, zero, suc, _+_, _*_, _≤_, _<_}
 use native.Mathlib.Nat.{mul-le-mul}
@@ -17,7 +17,7 @@ use Rattle.liberation.specs.Sets.{diskAt, setOf, survivingIn}
 use Rattle.liberation.proofs.SetLaws.{set-below, survivors-below}
 use Rattle.parity.specs.Stripes.{cellAt, xorOver, stripeLong}
 use Rattle.parity.proofs.CellLaws.{cell-fits}
-use Rattle.xor.specs.Reach.{offsets, Inside}
+use Rattle.xor.specs.Reach.{Inside}
 use Rattle.xor.specs.declared.Sources.{Sources}
 use Rattle.stripes.specs.Cells.{scaled}
 use Rattle.stripes.proofs.SourceLaws.{length-scaled, scaled-at}

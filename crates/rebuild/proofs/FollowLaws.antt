@@ -1,6 +1,6 @@
 -- The steps of our plan, one after another: the steps still to come, on the stripe with the column as it stands, give what all steps give. What the column held at first does not matter, since every row is rebuilt from surviving cells.
 use mathlib.Core.Path.{_≡_, refl, sym, ap, _∙_}
-use mathlib.Core.Bool.{true, false≢true}
+use mathlib.Core.Bool.{true}
 use mathlib.Core.List.{List, [], _∷_, _++_}
 use Prim.Native.Nat.{ℕ, zero, suc, _+_, _*_, _≤_, _<_}
 use native.Mathlib.Numerals.{add-one}

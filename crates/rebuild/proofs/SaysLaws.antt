@@ -1,8 +1,8 @@
 -- The promise of `rebuild_one`: its refusals 1, 2, 3 and 5 in this order, which leave the column as it was, and the accepted call.
-use mathlib.Core.Path.{_≡_, refl, sym, ap, ap₂, _∙_}
-use mathlib.Core.Bool.{Bool, true, false, _||_, not, or-true}
+use mathlib.Core.Path.{_≡_, sym, ap, ap₂, _∙_}
+use mathlib.Core.Bool.{Bool, true, false, _||_, not}
 use mathlib.Core.List.{List}
-use Prim.Native.Nat.{ℕ, zero, suc, _+_, _*_, _≤_, _<_}
+use Prim.Native.Nat.{ℕ, _+_, _*_, _≤_, _<_}
 use native.Mathlib.Nat.{mul-le-mul}
 use native.Mathlib.Omega.{arith}
 use lib.Dec.{eqb, ltb}
@@ -11,7 +11,7 @@ use borrow.Author.Tests.{eq-eqb, ne-eqb, lt-ltb, le-ltb}
 use Rattle.laws.specs.Choice.{pick, firstOf, when}
 use Rattle.laws.proofs.Flags.{or-l, or-r}
 use Rattle.liberation.specs.Sets.{isWidth, widthFault, diskFault, longFault, sizeFault}
-use Rattle.liberation.specs.Plans.{planOf, Step}
+use Rattle.liberation.specs.Plans.{Step}
 use Rattle.parity.specs.Stripes.{stripeLong, rebuilt}
 use Rattle.sets.specs.declared.Answer.{Answer}
 use Rattle.planner.specs.declared.Plan.{Plan}
@@ -36,8 +36,8 @@ fault-width p s f t o e = ap (λ (b : Bool). firstOf (when (not b) 1) (firstOf (
 no-width : (p : ℕ) → isWidth p ≡ true → widthFault p ≡ 0
 no-width p e = ap (λ (b : Bool). when (not b) 1) e
 
-pub fault-none : (p s f : ℕ) (t o : List ℕ) → isWidth p ≡ true → s ≡ 0 → oneFault p s f t o ≡ 2
-fault-none p s f t o w e =
+pub fault-empty : (p s f : ℕ) (t o : List ℕ) → isWidth p ≡ true → s ≡ 0 → oneFault p s f t o ≡ 2
+fault-empty p s f t o w e =
     ap₂ (λ (a b : ℕ). firstOf a (firstOf b (firstOf (diskFault p f) (firstOf (longFault (stripeLong p p s) t) (longFault (p * s) o))))) (no-width p w)
     (ap (λ (b : Bool). when b 2) (or-l (eqb s 0) (ltb 4096 s) (eq-eqb s 0 e)))
 

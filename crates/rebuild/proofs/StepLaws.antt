@@ -1,7 +1,7 @@
 -- One step: the XOR of the surviving cells of the set, read in the stripe, and of its other lost cells, read in the column, is that of the set's other cells in the stripe with the column put in.
 -- The cell of the step itself is none of the survivors, and among the lost cells it is the one of its row.
 use mathlib.Core.Path.{_≡_, refl, sym, ap, ap₂, subst, _∙_}
-use mathlib.Core.Bool.{Bool, true, false, _&&_, _||_, not, false≢true}
+use mathlib.Core.Bool.{Bool, true, false, _&&_, not, false≢true}
 use mathlib.Core.Logic.{⊎-elim}
 use mathlib.Core.List.{List, [], _∷_}
 use Prim.Native.Nat.{ℕ, _+_, _-_, _*_, _≤_, _<_}
@@ -12,13 +12,12 @@ use lib.ListN.{length, length-take, length-drop}
 use borrow.Rule.Slice.PartMut.{putMid, midOf}
 use borrow.Author.Tests.{eqb-true, eqb-false, eq-eqb, ne-eqb, not-true}
 use Rattle.laws.specs.Choice.{pick}
-use Rattle.laws.specs.Lists.{isIn, allBelow}
+use Rattle.laws.specs.Lists.{isIn}
 use Rattle.laws.specs.Xor.{xorL}
 use Rattle.laws.proofs.Flags.{and-l, and-r, or-cases}
-use Rattle.laws.proofs.TestLaws.{eqb-sym}
 use Rattle.liberation.specs.Sets.{place, rowAt, diskAt, setOf, lostIn, survivingIn}
 use Rattle.liberation.proofs.SetLaws.{disk-place, row-place, place-of, in-surviving, survivors-below}
-use Rattle.parity.specs.Stripes.{cellAt, withCell, withColumn, xorOver, without, solved, stripeLong}
+use Rattle.parity.specs.Stripes.{cellAt, withCell, withColumn, xorOver, without, solved}
 use Rattle.parity.proofs.CellLaws.{cell-fits, cell-long, cell-with, with-with, cell-other, cell-on, cell-off, column-put}
 use Rattle.parity.proofs.OverLaws.{over-long, over-ext, over-split, in-without}
 use Rattle.parity.proofs.Solving.{cells-long}

@@ -4,7 +4,7 @@ use mathlib.Core.List.{List}
 use Prim.Native.Nat.{ℕ, _*_}
 use lib.Dec.{eqb}
 use Rattle.laws.specs.Choice.{pick, firstOf}
-use Rattle.liberation.specs.Sets.{widthFault, diskFault, sizeFault, longFault}
+use Rattle.liberation.specs.Sets.{widthFault, sizeFault, diskFault, longFault}
 use Rattle.parity.specs.Stripes.{stripeLong, rebuilt}
 use Rattle.sets.specs.declared.Answer.{Answer}
 

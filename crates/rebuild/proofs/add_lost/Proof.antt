@@ -1,11 +1,10 @@
 -- `add_lost`: the cells of the set come one by one, and each lost one of another row is added. The invariant: what stands in the row, with the cells still to come, gives the XOR of the whole.
-use mathlib.Core.Path.{_≡_, refl, sym, ap, _∙_}
-use Prim.Native.Nat.{ℕ, _+_, _-_, _*_, _≤_, _<_}
+use mathlib.Core.Path.{_≡_, sym, _∙_}
+use Prim.Native.Nat.{_-_}
 use native.Mathlib.Omega.{arith}
 use lib.ListN.{length}
 use borrow.Author.Needs.{needs}
 use Rattle.liberation.specs.Sets.{setOf}
-use Rattle.sets.proofs.SizeLaws.{size-most}
 use Rattle.xor.proofs.SourceLaws.{bytes-all}
 use Rattle.rebuild.proofs.AddLaws.{Adding, adding-start, adding-turn, adding-end}
 use Rattle.rebuild.proofs.add_lost.Statement.{statement}

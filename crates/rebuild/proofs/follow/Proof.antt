@@ -1,11 +1,11 @@
 -- `follow`: each turn does the next step of our plan. The invariant: the steps still to come, on the stripe with the column as it stands, give what all steps give.
-use mathlib.Core.Path.{_≡_, refl, sym, ap, _∙_}
+use mathlib.Core.Path.{_≡_, sym, ap, _∙_}
 use mathlib.Core.List.{List}
-use Prim.Native.Nat.{ℕ, _+_, _-_, _*_, _≤_, _<_}
+use Prim.Native.Nat.{ℕ, _-_, _≤_}
 use native.Mathlib.Omega.{arith}
-use lib.ListN.{length, getD}
+use lib.ListN.{getD}
 use borrow.Author.Needs.{needs}
-use Rattle.liberation.specs.Plans.{Step, planOf}
+use Rattle.liberation.specs.Plans.{planOf}
 use Rattle.liberation.proofs.Widths.{width-most}
 use Rattle.planner.proofs.ReadingLaws.{StepAt, step-at, plan-length, plan-number}
 use Rattle.xor.proofs.SourceLaws.{bytes-all}

@@ -1,10 +1,9 @@
 -- `rebuild_cell`: the surviving cells are gathered into the row's part of the column, then the other lost cells are added. Both together are the step.
-use mathlib.Core.Path.{_≡_, refl, sym, ap, _∙_}
-use Prim.Native.Nat.{ℕ, _+_, _-_, _*_, _≤_, _<_}
+use mathlib.Core.Path.{_≡_}
+use Prim.Native.Nat.{_+_, _-_, _*_, _≤_}
 use native.Mathlib.Omega.{arith}
 use lib.ListN.{length}
 use borrow.Rule.Slice.PartMut.{putMid}
-use Rattle.rebuild.specs.Cells.{Surviving}
 use Rattle.rebuild.proofs.StepLaws.{row-fits, sources-fit, gathered, step-done}
 use borrow.Author.Needs.{needs}
 use Rattle.rebuild.proofs.rebuild_cell.Statement.{statement}

@@ -1,12 +1,11 @@
 -- `rebuild_one`: refusals 1, 2, 3 and 5 in this order leave the column as it was; else our plan is made and followed.
 use mathlib.Core.Path.{_≡_, refl, sym, _∙_}
 use mathlib.Core.Bool.{true}
-use Prim.Native.Nat.{ℕ, _+_, _*_, _≤_}
 use native.Mathlib.Omega.{arith}
 use borrow.Author.Tests.{not-true, not-false}
 use Rattle.liberation.specs.Sets.{isWidth}
 use Rattle.liberation.proofs.Widths.{width-most}
-use Rattle.rebuild.proofs.SaysLaws.{refused, fault-width, fault-none, fault-large, fault-disk, fault-stripe, fault-column, accepted, plan-ours, column-small, stripe-small}
+use Rattle.rebuild.proofs.SaysLaws.{refused, fault-width, fault-empty, fault-large, fault-disk, fault-stripe, fault-column, accepted, plan-ours, column-small, stripe-small}
 use borrow.Author.Needs.{needs}
 use Rattle.rebuild.proofs.rebuild_one.Statement.{statement}
 use Rattle.rebuild.proofs.rebuild_one.Tie as tie
@@ -37,7 +36,7 @@ returns-2 c =
     let q = c .before in
     let a = q .before .before .before .before .before .args in
     refused (a .width) (a .size) (a .disk) 2 (a .stripe .now) (a .column .now) (c .answered2 .result) refl
-    (fault-none (a .width) (a .size) (a .disk) (a .stripe .now) (a .column .now) (wide (q .before)) (q .if2 .taken))
+    (fault-empty (a .width) (a .size) (a .disk) (a .stripe .now) (a .column .now) (wide (q .before)) (q .if2 .taken))
     (c .answered2 .ensures)
 
 answered-requires-3 : tie.Need-answered-requires-3

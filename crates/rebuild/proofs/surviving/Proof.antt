@@ -1,7 +1,7 @@
 -- `surviving`: the cells of the set come one by one, and the offset of each that is not on the lost disk is put into the array. The invariant: what is collected, with the cells still to come, gives the offsets of the whole set.
 use mathlib.Core.Path.{_≡_, refl}
 use mathlib.Core.Logic.{⊎-elim}
-use Prim.Native.Nat.{ℕ, _+_, _-_, _*_, _≤_, _<_}
+use Prim.Native.Nat.{_+_, _-_, _*_, _≤_, _<_}
 use native.Mathlib.Omega.{arith}
 use lib.ListN.{length, set}
 use borrow.Author.Needs.{needs}
