@@ -5,6 +5,7 @@ ghost use Rattle.judge.specs.Says.{JudgeSays};
 ghost use Rattle.space.specs.Says.{SpaceSays};
 ghost use Rattle.stripes.specs.Says.{EncodeSays, CheckSays};
 ghost use Rattle.rebuild.specs.Says.{OneSays};
+ghost use Rattle.repair.specs.Says.{TwoSays};
 use judge::Judged;
 use planner::Plan;
 use sets::Answer;
@@ -71,4 +72,18 @@ pub extern "C" fn cuzhaveli_rebuild_one(
     ensures { λ r. ⌜ OneSays width size disk (now (stripe .entry)) (now (column .entry)) (now (column .exit)) r ⌝ }
 {
     rebuild::rebuild_one(width, size, disk, stripe, column)
+}
+
+// Rebuilds two lost disks of a lent stripe in place.
+#[no_mangle]
+pub extern "C" fn cuzhaveli_rebuild_two(
+    width: usize,
+    size: usize,
+    first: usize,
+    second: usize,
+    stripe: &mut [u8],
+) -> Answer
+    ensures { λ r. ⌜ TwoSays width size first second (now (stripe .entry)) (now (stripe .exit)) r ⌝ }
+{
+    repair::rebuild_two(width, size, first, second, stripe)
 }

@@ -1,3 +1,4 @@
 -- Theorems about the calls, from their promises alone.
 pub mod Plans
 pub mod Stripes
+pub mod Pairs

@@ -29,7 +29,7 @@ use Rattle.rebuild.specs.Says.{oneFault, OneSays}
 is-long : (n : ℕ) (t : List ℕ) → longFault n t ≡ 0 → length t ≡ n
 is-long n t e = eqb-true (length t) n (not-false (eqb (length t) n) (when-none (not (eqb (length t) n)) 4 e))
 
-is-stripe : (p s : ℕ) (t : List ℕ) → length t ≡ stripeLong p p s → allBytes t ≡ true → isStripe p p s t ≡ true
+pub is-stripe : (p s : ℕ) (t : List ℕ) → length t ≡ stripeLong p p s → allBytes t ≡ true → isStripe p p s t ≡ true
 is-stripe p s t e b = and-i (eqb (length t) (stripeLong p p s)) (allBytes t) (eq-eqb (length t) (stripeLong p p s) e) b
 
 stripe-length : (p s : ℕ) (t : List ℕ) → stripeFault p s t ≡ 0 → length t ≡ stripeLong p p s

@@ -6,6 +6,8 @@
 mod checks_examples;
 mod checks_judge;
 mod checks_list;
+#[allow(dead_code)]
+mod checks_pairs;
 mod checks_plan;
 mod checks_price;
 mod checks_print;
@@ -17,6 +19,7 @@ mod checks_space;
 #[allow(dead_code)] // its group may be left out
 mod checks_stripes;
 mod ffi;
+mod ffi_pairs;
 mod ffi_rebuild;
 mod ffi_space;
 mod ffi_stripes;
@@ -61,6 +64,7 @@ const GROUPS: &[(&str, Check)] = &[
     ("space", checks_space::run),
     ("stripes", checks_stripes::run),
     ("rebuild one", checks_rebuild::run),
+    ("rebuild two", checks_pairs::run),
 ];
 
 fn main() -> ExitCode {

@@ -1,0 +1,3 @@
+-- What the rebuild of two lost disks promises.
+pub mod Adding
+pub mod Says
