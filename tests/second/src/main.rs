@@ -6,7 +6,7 @@
 mod checks_examples;
 mod checks_judge;
 mod checks_list;
-#[allow(dead_code)]
+#[allow(dead_code)] // its group may be left out
 mod checks_pairs;
 mod checks_plan;
 mod checks_price;
@@ -18,6 +18,8 @@ mod checks_sets;
 mod checks_space;
 #[allow(dead_code)] // its group may be left out
 mod checks_stripes;
+#[allow(dead_code)] // its group may be left out
+mod checks_vectors;
 mod ffi;
 mod ffi_pairs;
 mod ffi_rebuild;
@@ -65,6 +67,7 @@ const GROUPS: &[(&str, Check)] = &[
     ("stripes", checks_stripes::run),
     ("rebuild one", checks_rebuild::run),
     ("rebuild two", checks_pairs::run),
+    ("vectors", checks_vectors::run),
 ];
 
 fn main() -> ExitCode {
