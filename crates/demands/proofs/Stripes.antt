@@ -1,29 +1,29 @@
 -- Demand 2, and the last sentence of demand 3, said of the calls that encode, check and rebuild one disk: whatever they return, as long as they keep their promises.
 -- The lent slices are lists of bytes; t, u are stripes, o a column as it was lent, o′ as it is given back.
-use mathlib.Core.Path.{_≡_, refl, sym, ap, ap₂, _∙_}
-use mathlib.Core.Bool.{Bool, true, false, _&&_, not}
+use mathlib.Core.Path.{_≡_, sym, ap, _∙_}
+use mathlib.Core.Bool.{true, _&&_, not}
 use mathlib.Core.List.{List}
-use Prim.Native.Nat.{ℕ, suc, _+_, _*_, _≤_, _<_}
+use Prim.Native.Nat.{ℕ, _+_, _*_, _<_}
 use native.Mathlib.Omega.{arith}
-use lib.Dec.{eqb, ltb}
+use lib.Dec.{eqb}
 use lib.ListN.{length, getD}
-use borrow.Author.Tests.{eqb-true, eq-eqb, ltb-false, not-false}
-use Rattle.laws.specs.Choice.{pick, firstOf, when}
+use borrow.Author.Tests.{eqb-true, eq-eqb, not-false}
+use Rattle.laws.specs.Choice.{pick, firstOf}
 use Rattle.laws.specs.Xor.{allBytes}
 use Rattle.laws.proofs.ChoiceLaws.{first-none, when-none}
 use Rattle.laws.proofs.Flags.{and-i}
-use Rattle.liberation.specs.Sets.{isWidth, diskAt, widthFault, sizeFault, diskFault, longFault}
+use Rattle.liberation.specs.Sets.{diskAt, widthFault, sizeFault, longFault}
 use Rattle.liberation.specs.Plans.{readList}
-use Rattle.liberation.proofs.FaultLaws.{width-of}
 use Rattle.liberation.proofs.Demand3.{plan-accepted}
 use Rattle.parity.specs.Stripes.{cellAt, columnOf, stripeLong, isStripe, clean, encoded, rebuilt}
-use Rattle.parity.proofs.Encoding.{encoded-stripe, encoded-data, encoded-clean, encoded-only}
+use Rattle.parity.proofs.Encoding.{encoded-data, encoded-clean, encoded-only}
 use Rattle.parity.proofs.Rebuilding.{one-back, only-read}
 use Rattle.sets.specs.declared.Answer.{Answer}
-use Rattle.planner.specs.Says.{ListSays, planFault, listFault}
+use Rattle.planner.specs.Says.{ListSays}
 use Rattle.stripes.specs.declared.Checked.{Checked}
 use Rattle.stripes.specs.Says.{stripeFault, EncodeSays, CheckSays}
-use Rattle.rebuild.specs.Says.{oneFault, OneSays}
+use Rattle.rebuild.specs.Says.{OneSays}
+use Rattle.rebuild.proofs.SaysLaws.{Fit, fault-none}
 
 -- what an accepted call on a stripe shows of its arguments
 is-long : (n : ℕ) (t : List ℕ) → longFault n t ≡ 0 → length t ≡ n
@@ -62,22 +62,8 @@ pub checks : (p s : ℕ) (t : List ℕ) (r : Checked) → CheckSays p s t r → 
 checks p s t r k z = k .clean ∙ ap (λ (n : ℕ). eqb n 0 && clean p p s t) (sym (k .number) ∙ z)
 
 -- what an accepted rebuild shows of its arguments
-record Taken (p s f : ℕ) (t : List ℕ) : Type 0 where
-  width : isWidth p ≡ true
-  disk : f ≤ p + 1
-  long : length t ≡ stripeLong p p s
-
-taken : (p s f : ℕ) (t o : List ℕ) → oneFault p s f t o ≡ 0 → Taken p s f t
-taken p s f t o e =
-    let a = first-none (widthFault p) (firstOf (sizeFault s) (firstOf (diskFault p f) (firstOf (longFault (stripeLong p p s) t) (longFault (p * s) o)))) e in
-    let b = first-none (sizeFault s) (firstOf (diskFault p f) (firstOf (longFault (stripeLong p p s) t) (longFault (p * s) o))) (a .1) in
-    let c = first-none (diskFault p f) (firstOf (longFault (stripeLong p p s) t) (longFault (p * s) o)) (b .1) in
-    let d = first-none (longFault (stripeLong p p s) t) (longFault (p * s) o) (c .1) in
-    record {
-      width = width-of p (a .0);
-      disk = ltb-false (p + 1) f (when-none (ltb (p + 1) f) 2 (c .0));
-      long = is-long (stripeLong p p s) t (d .0);
-    }
+taken : (p s f : ℕ) (t o o′ : List ℕ) (r : Answer) → OneSays p s f t o o′ r → r .number ≡ 0 → Fit p s f (length t) (length o)
+taken p s f t o o′ r k z = fault-none p s f (length t) (length o) (sym (k .number) ∙ z)
 
 column-is : (p s f : ℕ) (t o o′ : List ℕ) (r : Answer) → OneSays p s f t o o′ r → r .number ≡ 0 → o′ ≡ rebuilt p p s f t
 column-is p s f t o o′ r k z = k .column ∙ ap (λ (n : ℕ). pick (eqb n 0) (rebuilt p p s f t) o) (sym (k .number) ∙ z)
@@ -87,8 +73,8 @@ pub brings-back :
     (p s f : ℕ) (t u o o′ : List ℕ) (r : Answer) → allBytes t ≡ true → isStripe p p s u ≡ true → clean p p s u ≡ true → OneSays p s f t o o′ r → r .number ≡ 0
     → ((x : ℕ) → x < p * (p + 2) → (diskAt p x ≡ f → ⊥) → cellAt s t x ≡ cellAt s u x) → o′ ≡ columnOf p s f u
 brings-back p s f t u o o′ r b v c k z h =
-    let a = taken p s f t o (sym (k .number) ∙ z) in
-    column-is p s f t o o′ r k z ∙ one-back p p s f (plan-accepted p f (a .width) (a .disk)) (omega (arith, a .disk)) t u (is-stripe p s t (a .long) b) v c h
+    let a = taken p s f t o o′ r k z in
+    column-is p s f t o o′ r k z ∙ one-back p p s f (plan-accepted p f (a .width) (a .disk)) (omega (arith, a .disk)) t u (is-stripe p s t (a .stripe) b) v c h
 
 -- The last sentence of demand 3: stripes alike in every cell marked 1 in the list that `read_list` writes give one rebuilt disk, dirty stripes too.
 pub one-column :
@@ -96,9 +82,9 @@ pub one-column :
     → OneSays p s f t o o′ r → r .number ≡ 0 → OneSays p s f u n n′ q → q .number ≡ 0 → ListSays p f l l′ a → a .number ≡ 0
     → ((x : ℕ) → getD l′ x 0 ≡ 1 → cellAt s t x ≡ cellAt s u x) → o′ ≡ n′
 one-column p s f t u o o′ n n′ l l′ r q a bt bu k z m y w e h =
-    let i = taken p s f t o (sym (k .number) ∙ z) in
-    let j = taken p s f u n (sym (m .number) ∙ y) in
+    let i = taken p s f t o o′ r k z in
+    let j = taken p s f u n n′ q m y in
     let list : l′ ≡ readList p p f = w .list ∙ ap (λ (x : ℕ). pick (eqb x 0) (readList p p f) l) (sym (w .number) ∙ e) in
     column-is p s f t o o′ r k z
-    ∙ only-read p p s f (plan-accepted p f (i .width) (i .disk)) (omega (arith, i .disk)) t u (is-stripe p s t (i .long) bt) (is-stripe p s u (j .long) bu) (λ x g. h x (ap (λ (v : List ℕ). getD v x 0) list ∙ g))
+    ∙ only-read p p s f (plan-accepted p f (i .width) (i .disk)) (omega (arith, i .disk)) t u (is-stripe p s t (i .stripe) bt) (is-stripe p s u (j .stripe) bu) (λ x g. h x (ap (λ (v : List ℕ). getD v x 0) list ∙ g))
     ∙ sym (column-is p s f u n n′ q m y)

@@ -1,17 +1,15 @@
 -- The promise of `rebuild_one`: its refusals 1, 2, 3 and 5 in this order, which leave the column as it was, and the accepted call.
 use mathlib.Core.Path.{_≡_, sym, ap, ap₂, _∙_}
-use mathlib.Core.Bool.{Bool, true, false, _||_, not}
+use mathlib.Core.Bool.{Bool, true, not}
 use mathlib.Core.List.{List}
 use Prim.Native.Nat.{ℕ, _+_, _*_, _≤_, _<_}
-use native.Mathlib.Nat.{mul-le-mul}
-use native.Mathlib.Omega.{arith}
-use lib.Dec.{eqb, ltb}
-use lib.ListN.{length}
-use borrow.Author.Tests.{eq-eqb, ne-eqb, lt-ltb, le-ltb}
+use lib.Dec.{eqb}
+use borrow.Author.Tests.{ne-eqb, eqb-true, not-false}
 use Rattle.laws.specs.Choice.{pick, firstOf, when}
-use Rattle.laws.proofs.Flags.{or-l, or-r}
-use Rattle.liberation.specs.Sets.{isWidth, widthFault, diskFault, longFault, sizeFault}
+use Rattle.laws.proofs.ChoiceLaws.{first-none, when-none}
+use Rattle.liberation.specs.Sets.{isWidth, numbersFault}
 use Rattle.liberation.specs.Plans.{Step}
+use Rattle.liberation.proofs.FaultLaws.{numbers-of}
 use Rattle.parity.specs.Stripes.{stripeLong, rebuilt}
 use Rattle.sets.specs.declared.Answer.{Answer}
 use Rattle.planner.specs.declared.Plan.{Plan}
@@ -19,62 +17,47 @@ use Rattle.planner.specs.Records.{rowsOf, kindsOf, numbersOf, padded}
 use Rattle.planner.specs.Says.{PlanSays}
 use Rattle.planner.proofs.PlanLaws.{planned-is}
 use Rattle.rebuild.specs.Cells.{Ours}
-use Rattle.rebuild.specs.Says.{oneFault, OneSays}
+use Rattle.rebuild.specs.Says.{lengthsFault, oneFault, OneSays}
 
--- a refusal by a number that is not 0
-pub refused : (p s f n : ℕ) (t o : List ℕ) (r : Answer) → eqb n 0 ≡ false → oneFault p s f t o ≡ n → (r .number ≡ n) × (r .place ≡ 0) → OneSays p s f t o o r
-refused p s f n t o r z e a =
-    record { number = a .0 ∙ sym e; place = a .1; column = ap (λ (b : Bool). pick b (rebuilt p p s f t) o) (sym (ap (λ (x : ℕ). eqb x 0) e ∙ z)) }
+-- the refusal from the tests of the lengths, where numbers and disk are accepted
+pub lengths-are : (p s f n m : ℕ) (a b : Bool) → numbersFault p p s f ≡ 0 → eqb n (stripeLong p p s) ≡ a → eqb m (p * s) ≡ b → firstOf (when (not a) 5) (when (not b) 5) ≡ lengthsFault p s f n m
+lengths-are p s f n m a b z x y =
+    sym (ap (λ (u : ℕ). firstOf u (firstOf (when (not (eqb n (stripeLong p p s))) 5) (when (not (eqb m (p * s))) 5))) z ∙ ap₂ (λ (u v : Bool). firstOf (when (not u) 5) (when (not v) 5)) x y)
 
--- the tests after those that have passed
-past : (a b c d : ℕ) → a ≡ 0 → b ≡ 0 → firstOf a (firstOf b (firstOf c d)) ≡ firstOf c d
-past a b c d x y = ap₂ (λ (u v : ℕ). firstOf u (firstOf v (firstOf c d))) x y
+-- none of the refusals: all is within the limits and the lengths are those required
+pub record Fit (p s f n m : ℕ) : Type 0 where
+  pub width : isWidth p ≡ true
+  pub some : 0 < s
+  pub small : s ≤ 4096
+  pub disk : f ≤ p + 1
+  pub stripe : n ≡ stripeLong p p s
+  pub column : m ≡ p * s
 
-pub fault-width : (p s f : ℕ) (t o : List ℕ) → isWidth p ≡ false → oneFault p s f t o ≡ 1
-fault-width p s f t o e = ap (λ (b : Bool). firstOf (when (not b) 1) (firstOf (sizeFault s) (firstOf (diskFault p f) (firstOf (longFault (stripeLong p p s) t) (longFault (p * s) o))))) e
+pub fault-none : (p s f n m : ℕ) → lengthsFault p s f n m ≡ 0 → Fit p s f n m
+fault-none p s f n m e =
+    let a : Bool = eqb n (stripeLong p p s) in
+    let b : Bool = eqb m (p * s) in
+    let w = first-none (numbersFault p p s f) (firstOf (when (not a) 5) (when (not b) 5)) e in
+    let v = first-none (when (not a) 5) (when (not b) 5) (w .1) in
+    let q = numbers-of p p s f (w .0) in
+    record {
+      width = q .0;
+      some = q .1;
+      small = q .2;
+      disk = q .3;
+      stripe = eqb-true n (stripeLong p p s) (not-false a (when-none (not a) 4 (v .0)));
+      column = eqb-true m (p * s) (not-false b (when-none (not b) 4 (v .1)));
+    }
 
-no-width : (p : ℕ) → isWidth p ≡ true → widthFault p ≡ 0
-no-width p e = ap (λ (b : Bool). when (not b) 1) e
+-- a refusal
+pub refused : (p s f n : ℕ) (t o : List ℕ) (r : Answer) → n ≡ oneFault p s f t o → (n ≡ 0 → ⊥) → (r .number ≡ n) × (r .place ≡ 0) → OneSays p s f t o o r
+refused p s f n t o r e z a =
+    record { number = a .0 ∙ e; place = a .1; column = sym (ap (λ (b : Bool). pick b (rebuilt p p s f t) o) (ne-eqb (oneFault p s f t o) 0 (λ q. z (e ∙ q)))) }
 
-pub fault-empty : (p s f : ℕ) (t o : List ℕ) → isWidth p ≡ true → s ≡ 0 → oneFault p s f t o ≡ 2
-fault-empty p s f t o w e =
-    ap₂ (λ (a b : ℕ). firstOf a (firstOf b (firstOf (diskFault p f) (firstOf (longFault (stripeLong p p s) t) (longFault (p * s) o))))) (no-width p w)
-    (ap (λ (b : Bool). when b 2) (or-l (eqb s 0) (ltb 4096 s) (eq-eqb s 0 e)))
-
-pub fault-large : (p s f : ℕ) (t o : List ℕ) → isWidth p ≡ true → 4096 < s → oneFault p s f t o ≡ 2
-fault-large p s f t o w h =
-    ap₂ (λ (a b : ℕ). firstOf a (firstOf b (firstOf (diskFault p f) (firstOf (longFault (stripeLong p p s) t) (longFault (p * s) o))))) (no-width p w)
-    (ap (λ (b : Bool). when b 2) (or-r (eqb s 0) (ltb 4096 s) (lt-ltb 4096 s h)))
-
--- width and size accepted
-module _ (p s f : ℕ) (t o : List ℕ) (w : isWidth p ≡ true) (n : s ≡ 0 → ⊥) (h : s ≤ 4096) where
-  no-size : sizeFault s ≡ 0
-  no-size = ap₂ (λ (a b : Bool). when (a || b) 2) (ne-eqb s 0 n) (le-ltb 4096 s h)
-
-  disk-on : oneFault p s f t o ≡ firstOf (diskFault p f) (firstOf (longFault (stripeLong p p s) t) (longFault (p * s) o))
-  disk-on = past (widthFault p) (sizeFault s) (diskFault p f) (firstOf (longFault (stripeLong p p s) t) (longFault (p * s) o)) (no-width p w) no-size
-
-  pub fault-disk : p + 1 < f → oneFault p s f t o ≡ 3
-  fault-disk l = disk-on ∙ ap (λ (b : Bool). firstOf (when b 3) (firstOf (longFault (stripeLong p p s) t) (longFault (p * s) o))) (lt-ltb (p + 1) f l)
-
-  module _ (d : f ≤ p + 1) where
-    long-on : oneFault p s f t o ≡ firstOf (longFault (stripeLong p p s) t) (longFault (p * s) o)
-    long-on = disk-on ∙ ap (λ (b : Bool). firstOf (when b 3) (firstOf (longFault (stripeLong p p s) t) (longFault (p * s) o))) (le-ltb (p + 1) f d)
-
-    pub fault-stripe : (length t ≡ stripeLong p p s → ⊥) → oneFault p s f t o ≡ 5
-    fault-stripe z = long-on ∙ ap (λ (b : Bool). firstOf (when (not b) 5) (longFault (p * s) o)) (ne-eqb (length t) (stripeLong p p s) z)
-
-    column-on : length t ≡ stripeLong p p s → oneFault p s f t o ≡ longFault (p * s) o
-    column-on l = long-on ∙ ap (λ (b : Bool). firstOf (when (not b) 5) (longFault (p * s) o)) (eq-eqb (length t) (stripeLong p p s) l)
-
-    pub fault-column : length t ≡ stripeLong p p s → (length o ≡ p * s → ⊥) → oneFault p s f t o ≡ 5
-    fault-column l z = column-on l ∙ ap (λ (b : Bool). when (not b) 5) (ne-eqb (length o) (p * s) z)
-
-    -- the accepted call
-    pub accepted : (o′ : List ℕ) (r : Answer) → length t ≡ stripeLong p p s → length o ≡ p * s → o′ ≡ rebuilt p p s f t → (r .number ≡ 0) × (r .place ≡ 0) → OneSays p s f t o o′ r
-    accepted o′ r l m e a =
-        let z : oneFault p s f t o ≡ 0 = column-on l ∙ ap (λ (b : Bool). when (not b) 5) (eq-eqb (length o) (p * s) m) in
-        record { number = a .0 ∙ sym z; place = a .1; column = e ∙ ap (λ (x : ℕ). pick (eqb x 0) (rebuilt p p s f t) o) (sym z) }
+-- the accepted call
+pub accepted : (p s f : ℕ) (t o o′ : List ℕ) (r : Answer) → oneFault p s f t o ≡ 0 → o′ ≡ rebuilt p p s f t → (r .number ≡ 0) × (r .place ≡ 0) → OneSays p s f t o o′ r
+accepted p s f t o o′ r z e a =
+    record { number = a .0 ∙ sym z; place = a .1; column = e ∙ sym (ap (λ (x : ℕ). pick (eqb x 0) (rebuilt p p s f t) o) z) }
 
 -- the planner's record holds our plan
 pub plan-ours : (p f : ℕ) (r : Plan) → isWidth p ≡ true → f ≤ p + 1 → PlanSays p f r → Ours p f r
@@ -86,10 +69,3 @@ plan-ours p f r w h k =
       kinds = k .kinds ∙ ap (λ (ss : List Step). padded (kindsOf ss)) (planned-is p f w h);
       sets = k .sets ∙ ap (λ (ss : List Step). padded (numbersOf ss)) (planned-is p f w h);
     }
-
--- the lengths that are tested are small numbers
-pub column-small : (p s : ℕ) → p ≤ 31 → s ≤ 4096 → p * s ≤ 31 * 4096
-column-small p s h l = mul-le-mul h l
-
-pub stripe-small : (p s : ℕ) → p ≤ 31 → s ≤ 4096 → (p + 2) * (p * s) ≤ 33 * (31 * 4096)
-stripe-small p s h l = let a : p + 2 ≤ 33 = omega arith in mul-le-mul a (column-small p s h l)

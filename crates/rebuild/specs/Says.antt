@@ -1,16 +1,22 @@
 -- The promise of `rebuild_one`, for accepted and refused calls alike.
 use mathlib.Core.Path.{_≡_}
+use mathlib.Core.Bool.{not}
 use mathlib.Core.List.{List}
 use Prim.Native.Nat.{ℕ, _*_}
 use lib.Dec.{eqb}
-use Rattle.laws.specs.Choice.{pick, firstOf}
-use Rattle.liberation.specs.Sets.{widthFault, sizeFault, diskFault, longFault}
+use lib.ListN.{length}
+use Rattle.laws.specs.Choice.{pick, when, firstOf}
+use Rattle.liberation.specs.Sets.{numbersFault}
 use Rattle.parity.specs.Stripes.{stripeLong, rebuilt}
 use Rattle.sets.specs.declared.Answer.{Answer}
 
--- the rebuild refuses by 1, 2, 3 and 5: t is the stripe, o the column
+-- the rebuild refuses by 1, 2, 3 and 5: n and m are the bytes of the stripe and of the column
+abbrev pub lengthsFault : ℕ → ℕ → ℕ → ℕ → ℕ → ℕ
+lengthsFault p s f n m = firstOf (numbersFault p p s f) (firstOf (when (not (eqb n (stripeLong p p s))) 5) (when (not (eqb m (p * s))) 5))
+
+-- t is the stripe, o the column
 abbrev pub oneFault : ℕ → ℕ → ℕ → List ℕ → List ℕ → ℕ
-oneFault p s f t o = firstOf (widthFault p) (firstOf (sizeFault s) (firstOf (diskFault p f) (firstOf (longFault (stripeLong p p s) t) (longFault (p * s) o))))
+oneFault p s f t o = lengthsFault p s f (length t) (length o)
 
 -- the column o becomes o′
 pub record OneSays (p s f : ℕ) (t o o′ : List ℕ) (r : Answer) : Type 0 where

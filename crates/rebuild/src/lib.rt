@@ -13,7 +13,7 @@ ghost use Rattle.liberation.specs.Sets.{place, rowAt, diskAt, setOf, lostIn};
 ghost use Rattle.parity.specs.Stripes.{cellAt, withCell, withColumn, xorOver, without, solved, stripeLong, rebuilt};
 ghost use Rattle.sets.specs.Limits.{Within};
 ghost use Rattle.rebuild.specs.Cells.{Surviving, Ready, Ours};
-ghost use Rattle.rebuild.specs.Says.{OneSays};
+ghost use Rattle.rebuild.specs.Says.{lengthsFault, OneSays};
 
 // Where the surviving cells of a set are: the offsets in a stripe of those that are not on the lost disk.
 fn surviving(width: usize, size: usize, disk: usize, kind: usize, number: usize) -> Sources
@@ -115,7 +115,24 @@ fn follow(width: usize, size: usize, disk: usize, plan: Plan, stripe: &[u8], col
     }
 }
 
-// Rebuilds one lost disk into the column. Refusals: 1, 2, 3, 5.
+// The refusal of a call on a stripe and a column of these many bytes, 0 for none.
+pub fn one_fault(width: usize, size: usize, disk: usize, stripe: usize, column: usize) -> u8
+    ensures { λ r. ⌜ r ≡ lengthsFault width size disk stripe column ⌝ }
+{
+    let fault = sets::numbers_fault(width, size, disk);
+    if fault != 0 {
+        return fault;
+    }
+    if stripe != (width + 2) * (width * size) {
+        return 5;
+    }
+    if column != width * size {
+        return 5;
+    }
+    0
+}
+
+// Rebuilds one lost disk into the column. Refusals: 1, 2, 3, 5; a refused call leaves the column as it was.
 pub fn rebuild_one(
     width: usize,
     size: usize,
@@ -125,23 +142,9 @@ pub fn rebuild_one(
 ) -> Answer
     ensures { λ r. ⌜ OneSays width size disk (now (stripe .entry)) (now (column .entry)) (now (column .exit)) r ⌝ }
 {
-    if !sets::is_width(width) {
-        return sets::answered(1);
-    }
-    if size == 0 {
-        return sets::answered(2);
-    }
-    if 4096 < size {
-        return sets::answered(2);
-    }
-    if width + 1 < disk {
-        return sets::answered(3);
-    }
-    if stripe.len() != (width + 2) * (width * size) {
-        return sets::answered(5);
-    }
-    if column.len() != width * size {
-        return sets::answered(5);
+    let fault = one_fault(width, size, disk, stripe.len(), column.len());
+    if fault != 0 {
+        return sets::answered(fault);
     }
     let plan = planner::plan_disk(width, disk);
     follow(width, size, disk, plan, stripe, column);

@@ -3,7 +3,7 @@ ghost use mathlib.Core.Path.{_≡_};
 ghost use mathlib.Core.List.{[], _∷_};
 ghost use Prim.Native.Nat.{_+_, _*_, _≤_, _<_};
 ghost use lib.ListN.{length, getD};
-ghost use Rattle.liberation.specs.Sets.{isWidth, extraDisk, setOf, survivingIn};
+ghost use Rattle.liberation.specs.Sets.{isWidth, numbersFault, extraDisk, setOf, survivingIn};
 ghost use Rattle.liberation.specs.Plans.{marksFrom};
 ghost use Rattle.sets.specs.Limits.{Within};
 ghost use Rattle.sets.specs.Marks.{Marked};
@@ -33,6 +33,25 @@ pub fn is_width(width: usize) -> bool
         3 | 5 | 7 | 11 | 13 | 17 | 19 | 23 | 29 | 31 => true,
         _ => false,
     }
+}
+
+// The refusal of these numbers by 1, 2 or 3, 0 for none.
+pub fn numbers_fault(width: usize, size: usize, disk: usize) -> u8
+    ensures { λ r. ⌜ r ≡ numbersFault width width size disk ⌝ }
+{
+    if !is_width(width) {
+        return 1;
+    }
+    if size == 0 {
+        return 2;
+    }
+    if 4096 < size {
+        return 2;
+    }
+    if width + 1 < disk {
+        return 3;
+    }
+    0
 }
 
 // The disk of the extra cell of diagonal `number`.
