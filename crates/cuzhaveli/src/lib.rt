@@ -6,8 +6,12 @@ ghost use Rattle.space.specs.Says.{SpaceSays};
 ghost use Rattle.stripes.specs.Says.{EncodeSays, CheckSays};
 ghost use Rattle.rebuild.specs.Says.{OneSays};
 ghost use Rattle.repair.specs.Says.{TwoSays};
+ghost use Rattle.runs.specs.Runs.{OpenSays, StepSays, ProgressSays};
 use judge::Judged;
 use planner::Plan;
+use runs::Progress;
+use runs::Run;
+use runs::RunAnswer;
 use sets::Answer;
 use space::Space;
 use stripes::Checked;
@@ -86,4 +90,40 @@ pub extern "C" fn cuzhaveli_rebuild_two(
     ensures { λ r. ⌜ TwoSays width size first second (now (stripe .entry)) (now (stripe .exit)) r ⌝ }
 {
     repair::rebuild_two(width, size, first, second, stripe)
+}
+
+// Opens a rebuild run over `stripes` stripes.
+#[no_mangle]
+pub extern "C" fn cuzhaveli_open_run(
+    width: usize,
+    size: usize,
+    disk: usize,
+    stripes: u32,
+) -> RunAnswer
+    ensures { λ r. ⌜ OpenSays width size disk stripes r ⌝ }
+{
+    runs::open_run(width, size, disk, stripes)
+}
+
+// A step of a run over its lent record: rebuilds stripe `which` into the column and moves the record on by one.
+#[no_mangle]
+pub extern "C" fn cuzhaveli_step_run(
+    run: &mut Run,
+    which: u64,
+    stripe: &[u8],
+    column: &mut [u8],
+) -> Answer
+    ensures { λ r. ⌜ StepSays (now (run .entry)) (now (run .exit)) which (now (stripe .entry)) (now (column .entry)) (now (column .exit)) r ⌝ }
+{
+    let r = runs::stepped(*run, which, stripe, column);
+    *run = r.run;
+    r.answer
+}
+
+// How far a run is: its record is only read.
+#[no_mangle]
+pub extern "C" fn cuzhaveli_run_progress(run: &Run) -> Progress
+    ensures { λ r. ⌜ ProgressSays (now (run .entry)) r ⌝ }
+{
+    runs::progress_of(*run)
 }

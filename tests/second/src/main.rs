@@ -13,6 +13,8 @@ mod checks_price;
 mod checks_print;
 #[allow(dead_code)] // its group may be left out
 mod checks_rebuild;
+#[allow(dead_code)] // its group may be left out
+mod checks_runs;
 mod checks_sets;
 #[allow(dead_code)] // its group may be left out
 mod checks_space;
@@ -23,12 +25,14 @@ mod checks_vectors;
 mod ffi;
 mod ffi_pairs;
 mod ffi_rebuild;
+mod ffi_runs;
 mod ffi_space;
 mod ffi_stripes;
 mod group;
 mod lent;
 mod model;
 mod model_rebuild;
+mod model_runs;
 mod model_space;
 mod model_stripes;
 mod numbers;
@@ -67,6 +71,7 @@ const GROUPS: &[(&str, Check)] = &[
     ("stripes", checks_stripes::run),
     ("rebuild one", checks_rebuild::run),
     ("rebuild two", checks_pairs::run),
+    ("runs", checks_runs::run),
     ("vectors", checks_vectors::run),
 ];
 

@@ -1,0 +1,103 @@
+-- The promises of opening, stepping and reading a run, from what was refused or done.
+use mathlib.Core.Path.{_≡_, refl, sym, ap, ap₂, _∙_}
+use mathlib.Core.Bool.{Bool, true, false, _&&_, _||_, not}
+use mathlib.Core.List.{List}
+use Prim.Native.Nat.{ℕ, _*_, _≤_, _<_, _^_}
+use native.Mathlib.Nat.{mul-le-mul}
+use native.Mathlib.Omega.{arith}
+use lib.Dec.{eqb, leb}
+use borrow.Author.Tests.{eq-eqb, ne-eqb, leb-false}
+use Rattle.laws.specs.Choice.{pick, when, firstOf}
+use Rattle.laws.proofs.Flags.{or-false-l}
+use Rattle.laws.proofs.ChoiceLaws.{first-none, when-none}
+use Rattle.liberation.specs.Sets.{numbersFault, widthFault, sizeFault, diskFault}
+use Rattle.liberation.specs.Plans.{planOf, readCount}
+use Rattle.sets.specs.declared.Answer.{Answer}
+use Rattle.planner.specs.declared.Plan.{Plan}
+use Rattle.planner.specs.Says.{planFault, PlanSays}
+use Rattle.rebuild.specs.Says.{lengthsFault, oneFault, OneSays}
+use Rattle.runs.specs.declared.Run.{Run}
+use Rattle.runs.specs.Runs.{opened, noRun, isOver, cellsSoFar, runFault, nextFault, stepLengthsFault, stepFault, stepOk, moved, runColumn, OpenSays, StepSays, ProgressSays}
+
+pub open-refused : (p s f n m : ℕ) (a : Answer) → m ≡ numbersFault p p s f → (m ≡ 0 → ⊥) → (a .number ≡ m) × (a .place ≡ 0) → OpenSays p s f n (record { answer = a; run = noRun })
+open-refused p s f n m a e z k =
+    record {
+      number = k .0 ∙ e;
+      place = k .1;
+      run = sym (ap (λ (b : Bool). pick b (opened p s f n) noRun) (ne-eqb (numbersFault p p s f) 0 (λ q. z (e ∙ q))));
+    }
+
+pub open-done : (p s f n : ℕ) (a : Answer) → numbersFault p p s f ≡ 0 → (a .number ≡ 0) × (a .place ≡ 0) → OpenSays p s f n (record { answer = a; run = opened p s f n })
+open-done p s f n a z k =
+    record {
+      number = k .0 ∙ sym z;
+      place = k .1;
+      run = sym (ap (λ (m : ℕ). pick (eqb m 0) (opened p s f n) noRun) z);
+    }
+
+-- the refusal of a step from its tests, where the rebuild's own are passed
+pub fault-is : (x : Run) (i n m : ℕ) (a b : Bool) → lengthsFault (x .width) (x .size) (x .disk) n m ≡ 0 → leb (x .stripes) (x .next) ≡ a → eqb i (x .next) ≡ b → when (a || not b) 10 ≡ stepLengthsFault x i n m
+fault-is x i n m a b z u v = sym (ap₂ (λ (c d : Bool). firstOf (lengthsFault (x .width) (x .size) (x .disk) n m) (when (c || not d) 10)) u v ∙ ap (λ (c : ℕ). firstOf c (when (a || not b) 10)) z)
+
+-- no refusal: there is a next stripe
+pub not-over : (x : Run) (i n m : ℕ) → stepLengthsFault x i n m ≡ 0 → x .next < x .stripes
+not-over x i n m e =
+    let a : Bool = leb (x .stripes) (x .next) in
+    let b : Bool = not (eqb i (x .next)) in
+    leb-false (x .stripes) (x .next) (or-false-l a b (when-none (a || b) 9 (first-none (lengthsFault (x .width) (x .size) (x .disk) n m) (when (a || b) 10) e .1)))
+
+pub step-refused : (x : Run) (i n : ℕ) (t o : List ℕ) (a : Answer) → n ≡ stepFault x i t o → (n ≡ 0 → ⊥) → (a .number ≡ n) × (a .place ≡ 0) → StepSays x x i t o o a
+step-refused x i n t o a e z k =
+    let f : stepOk x i t o ≡ false = ne-eqb (stepFault x i t o) 0 (λ q. z (e ∙ q)) in
+    record {
+      number = k .0 ∙ e;
+      place = k .1;
+      run = sym (ap (λ (b : Bool). pick b (moved x) x) f);
+      column = sym (ap (λ (b : Bool). pick b (runColumn x t) o) f);
+    }
+
+-- no refusal: the rebuild of one disk is accepted, and its answer is the step's
+pub step-done : (x : Run) (i : ℕ) (t o o′ : List ℕ) (a : Answer) → stepFault x i t o ≡ 0 → OneSays (x .width) (x .size) (x .disk) t o o′ a → StepSays x (moved x) i t o o′ a
+step-done x i t o o′ a z k =
+    let one : oneFault (x .width) (x .size) (x .disk) t o ≡ 0 = first-none (oneFault (x .width) (x .size) (x .disk) t o) (nextFault x i) z .0 in
+    record {
+      number = k .number ∙ one ∙ sym z;
+      place = k .place;
+      run = sym (ap (λ (n : ℕ). pick (eqb n 0) (moved x) x) z);
+      column = k .column ∙ ap (λ (n : ℕ). pick (eqb n 0) (runColumn x t) o) (one ∙ sym z);
+    }
+
+pub progress-refused : (x : Run) (n : ℕ) → n ≡ runFault x → (n ≡ 0 → ⊥) → ProgressSays x (record { number = n; place = 0; over = false; cells = 0 })
+progress-refused x n e z =
+    let f : eqb (runFault x) 0 ≡ false = ne-eqb (runFault x) 0 (λ q. z (e ∙ q)) in
+    record {
+      number = e;
+      place = refl;
+      over = sym (ap (λ (b : Bool). b && isOver x) f);
+      cells = sym (ap (λ (b : Bool). pick b (cellsSoFar x) 0) f);
+    }
+
+-- our plan's count, where width, size and disk are accepted
+pub reads-are : (x : Run) (r : Plan) → runFault x ≡ 0 → PlanSays (x .width) (x .disk) r → r .reads ≡ readCount (x .width) (x .width) (x .disk) (planOf (x .width) (x .width) (x .disk))
+reads-are x r z k =
+    let w = first-none (widthFault (x .width)) (firstOf (sizeFault (x .size)) (diskFault (x .width) (x .disk))) z in
+    let v = first-none (sizeFault (x .size)) (diskFault (x .width) (x .disk)) (w .1) in
+    let f : planFault (x .width) (x .disk) ≡ 0 = ap₂ firstOf (w .0) (v .1) in
+    k .reads ∙ ap (λ (n : ℕ). pick (eqb n 0) (readCount (x .width) (x .width) (x .disk) (planOf (x .width) (x .width) (x .disk))) 0) f
+
+pub progress-done : (x : Run) (b : Bool) (n : ℕ) → runFault x ≡ 0 → b ≡ isOver x → n ≡ cellsSoFar x → ProgressSays x (record { number = 0; place = 0; over = b; cells = n })
+progress-done x b n z e q =
+    let f : eqb (runFault x) 0 ≡ true = eq-eqb (runFault x) 0 z in
+    record {
+      number = sym z;
+      place = refl;
+      over = e ∙ sym (ap (λ (b : Bool). b && isOver x) f);
+      cells = q ∙ sym (ap (λ (b : Bool). pick b (cellsSoFar x) 0) f);
+    }
+
+-- a product of two 32-bit numbers has at most 64 bits
+pub product-fits : (a b : ℕ) → a < 2 ^ 32 → b < 2 ^ 32 → a * b < 2 ^ 64
+product-fits a b h k =
+    let u : a ≤ 4294967295 = omega arith in
+    let v : b ≤ 4294967295 = omega arith in
+    omega (arith, mul-le-mul u v)

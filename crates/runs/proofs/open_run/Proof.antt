@@ -1,0 +1,31 @@
+-- `open_run`: a refusal gives the record of zeros, else the new record.
+use mathlib.Core.Path.{sym, _∙_}
+use borrow.Author.Needs.{needs}
+use Rattle.runs.proofs.SaysLaws.{open-refused, open-done}
+use Rattle.runs.proofs.open_run.Statement.{statement}
+use Rattle.runs.proofs.open_run.Tie as tie
+
+numbers-fault-requires : tie.Need-numbers-fault-requires
+numbers-fault-requires c κs = search needs
+
+answered-requires : tie.Need-answered-requires
+answered-requires c κs = search needs
+
+returns : tie.Need-returns
+returns c =
+    let i = c .before in
+    let f = i .before .numbers-fault in
+    let a = i .before .before .args in
+    open-refused (a .width) (a .size) (a .disk) (a .stripes) (f .result) (c .answered .result) (f .ensures) (i .if1 .taken) (c .answered .ensures)
+
+answered-requires-2 : tie.Need-answered-requires-2
+answered-requires-2 c κs = search needs
+
+returns-2 : tie.Need-returns-2
+returns-2 c =
+    let i = c .before in
+    let a = i .before .before .args in
+    open-done (a .width) (a .size) (a .disk) (a .stripes) (c .answered2 .result) (sym (i .before .numbers-fault .ensures) ∙ i .if1 .left) (c .answered2 .ensures)
+
+pub open-run-spec : {M : Type 1} → statement M
+open-run-spec = tie.close (tie.spec numbers-fault-requires answered-requires returns answered-requires-2 returns-2)

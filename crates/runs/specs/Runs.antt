@@ -1,0 +1,79 @@
+-- A rebuild run over many stripes (document 01, "Run and space"): its progress, its refusals, what a step does to its record and to the lent column, and the promises of the calls for accepted and refused calls alike.
+use mathlib.Core.Path.{_≡_}
+use mathlib.Core.Bool.{Bool, _&&_, _||_, not}
+use mathlib.Core.List.{List}
+use Prim.Native.Nat.{ℕ, _+_, _*_}
+use lib.Dec.{eqb, leb}
+use lib.ListN.{length}
+use Rattle.laws.specs.Choice.{pick, when, firstOf}
+use Rattle.liberation.specs.Sets.{numbersFault}
+use Rattle.liberation.specs.Plans.{planOf, readCount}
+use Rattle.parity.specs.Stripes.{rebuilt}
+use Rattle.sets.specs.declared.Answer.{Answer}
+use Rattle.rebuild.specs.Says.{lengthsFault}
+use Rattle.runs.specs.declared.Run.{Run}
+use Rattle.runs.specs.declared.RunAnswer.{RunAnswer}
+use Rattle.runs.specs.declared.Progress.{Progress}
+
+-- a run as it is opened
+abbrev pub opened : ℕ → ℕ → ℕ → ℕ → Run
+opened p s f n = record { width = p; size = s; disk = f; stripes = n; next = 0 }
+
+-- the record that a refused opening gives
+abbrev pub noRun : Run
+noRun = opened 0 0 0 0
+
+-- "The run is over exactly when next equals N"
+abbrev pub isOver : Run → Bool
+isOver x = eqb (x .next) (x .stripes)
+
+-- "Cells read so far are next × the read count."
+abbrev pub cellsSoFar : Run → ℕ
+cellsSoFar x = x .next * readCount (x .width) (x .width) (x .disk) (planOf (x .width) (x .width) (x .disk))
+
+-- reading a record refuses by 1, 2 and 3, as opening does
+abbrev pub runFault : Run → ℕ
+runFault x = numbersFault (x .width) (x .width) (x .size) (x .disk)
+
+-- refusal 10: "next is N or more, or the stripe number isn't next"
+abbrev pub nextFault : Run → ℕ → ℕ
+nextFault x i = when (leb (x .stripes) (x .next) || not (eqb i (x .next))) 10
+
+-- a step for stripe i refuses by 1, 2, 3, 5 and 10: n and m are the bytes of the stripe and of the column
+abbrev pub stepLengthsFault : Run → ℕ → ℕ → ℕ → ℕ
+stepLengthsFault x i n m = firstOf (lengthsFault (x .width) (x .size) (x .disk) n m) (nextFault x i)
+
+-- t is the stripe, o the column
+abbrev pub stepFault : Run → ℕ → List ℕ → List ℕ → ℕ
+stepFault x i t o = stepLengthsFault x i (length t) (length o)
+
+abbrev pub stepOk : Run → ℕ → List ℕ → List ℕ → Bool
+stepOk x i t o = eqb (stepFault x i t o) 0
+
+-- "which moves it on by one"
+abbrev pub moved : Run → Run
+moved x = record { width = x .width; size = x .size; disk = x .disk; stripes = x .stripes; next = x .next + 1 }
+
+-- "rebuilds that stripe"
+abbrev pub runColumn : Run → List ℕ → List ℕ
+runColumn x t = rebuilt (x .width) (x .width) (x .size) (x .disk) t
+
+-- opening a run
+pub record OpenSays (p s f n : ℕ) (r : RunAnswer) : Type 0 where
+  pub number : r .answer .number ≡ numbersFault p p s f
+  pub place : r .answer .place ≡ 0
+  pub run : r .run ≡ pick (eqb (numbersFault p p s f) 0) (opened p s f n) noRun
+
+-- a step for stripe i: x, o before it and x′, o′ after it
+pub record StepSays (x x′ : Run) (i : ℕ) (t o o′ : List ℕ) (r : Answer) : Type 0 where
+  pub number : r .number ≡ stepFault x i t o
+  pub place : r .place ≡ 0
+  pub run : x′ ≡ pick (stepOk x i t o) (moved x) x
+  pub column : o′ ≡ pick (stepOk x i t o) (runColumn x t) o
+
+-- reading a record
+pub record ProgressSays (x : Run) (r : Progress) : Type 0 where
+  pub number : r .number ≡ runFault x
+  pub place : r .place ≡ 0
+  pub over : r .over ≡ (eqb (runFault x) 0 && isOver x)
+  pub cells : r .cells ≡ pick (eqb (runFault x) 0) (cellsSoFar x) 0

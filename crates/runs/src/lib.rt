@@ -1,0 +1,118 @@
+// Rebuild runs over many stripes (document 01, "Run and space"): the record is opened, stepped and read. Numbers that another program put into a record are tested like any others.
+ghost use mathlib.Core.Path.{_≡_};
+ghost use Rattle.runs.specs.Runs.{stepLengthsFault, OpenSays, StepSays, ProgressSays};
+use sets::Answer;
+
+// A run: the width, the bytes of a cell, the lost disk, how many stripes there are, and which of them is next.
+#[repr(C)]
+pub struct Run {
+    pub width: usize,
+    pub size: usize,
+    pub disk: usize,
+    pub stripes: u32,
+    pub next: u32,
+}
+
+// A refusal or none, and the record as it is then.
+#[repr(C)]
+pub struct RunAnswer {
+    pub answer: Answer,
+    pub run: Run,
+}
+
+// How far a run is: a refusal number (0 for none) and its place, whether it is over, and the cells read so far.
+#[repr(C)]
+pub struct Progress {
+    pub number: u8,
+    pub place: u32,
+    pub over: bool,
+    pub cells: u64,
+}
+
+// Opens a run over `stripes` stripes. Refusals: 1, 2, 3, with a record of zeros, which every call refuses.
+pub fn open_run(width: usize, size: usize, disk: usize, stripes: u32) -> RunAnswer
+    ensures { λ r. ⌜ OpenSays width size disk stripes r ⌝ }
+{
+    let number = sets::numbers_fault(width, size, disk);
+    if number != 0 {
+        return RunAnswer {
+            answer: sets::answered(number),
+            run: Run {
+                width: 0,
+                size: 0,
+                disk: 0,
+                stripes: 0,
+                next: 0,
+            },
+        };
+    }
+    RunAnswer {
+        answer: sets::answered(0),
+        run: Run {
+            width: width,
+            size: size,
+            disk: disk,
+            stripes: stripes,
+            next: 0,
+        },
+    }
+}
+
+// The refusal of a step for stripe `which` on a stripe and a column of these many bytes, 0 for none.
+fn step_fault(run: Run, which: u64, stripe: usize, column: usize) -> u8
+    ensures { λ r. ⌜ r ≡ stepLengthsFault run which stripe column ⌝ }
+{
+    let fault = rebuild::one_fault(run.width, run.size, run.disk, stripe, column);
+    if fault != 0 {
+        return fault;
+    }
+    if run.stripes <= run.next {
+        return 10;
+    }
+    if which != run.next as u64 {
+        return 10;
+    }
+    0
+}
+
+// A step by value: rebuilds stripe `which` into the column and gives the record moved on by one. Refusals: 1, 2, 3, 5, 10; they leave column and record as they were.
+pub fn stepped(run: Run, which: u64, stripe: &[u8], column: &mut [u8]) -> RunAnswer
+    ensures { λ r. ⌜ StepSays run (r .run) which (now (stripe .entry)) (now (column .entry)) (now (column .exit)) (r .answer) ⌝ }
+{
+    let fault = step_fault(run, which, stripe.len(), column.len());
+    if fault != 0 {
+        return RunAnswer {
+            answer: sets::answered(fault),
+            run: run,
+        };
+    }
+    let answer = rebuild::rebuild_one(run.width, run.size, run.disk, stripe, column);
+    let mut moved = run;
+    moved.next = run.next + 1;
+    RunAnswer {
+        answer: answer,
+        run: moved,
+    }
+}
+
+// How far a run is. Refusals: 1, 2, 3.
+pub fn progress_of(run: Run) -> Progress
+    ensures { λ r. ⌜ ProgressSays run r ⌝ }
+{
+    let number = sets::numbers_fault(run.width, run.size, run.disk);
+    if number != 0 {
+        return Progress {
+            number: number,
+            place: 0,
+            over: false,
+            cells: 0,
+        };
+    }
+    let plan = planner::plan_disk(run.width, run.disk);
+    Progress {
+        number: 0,
+        place: 0,
+        over: run.next == run.stripes,
+        cells: run.next as u64 * plan.reads as u64,
+    }
+}
