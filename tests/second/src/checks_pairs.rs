@@ -23,6 +23,7 @@ pub fn run(setting: &mut Setting, group: &mut Group) {
                 for second in (0..p + 2).filter(|second| *second != first) {
                     exact(group, random, (p, s, first, second));
                     any_survivors(group, random, (p, s, first, second));
+                    extreme_survivors(group, random, (p, s, first, second));
                 }
             }
         }
@@ -63,8 +64,30 @@ fn exact(group: &mut Group, random: &mut Random, (p, s, first, second): Numbers)
 }
 
 /// Any contents of the other disks: the result is clean, and the other disks are as they were.
-fn any_survivors(group: &mut Group, random: &mut Random, (p, s, first, second): Numbers) {
-    let mut stripe = Lent::noise(stripe_length(p, s), random);
+fn any_survivors(group: &mut Group, random: &mut Random, numbers: Numbers) {
+    let (p, s, _, _) = numbers;
+    let stripe = Lent::noise(stripe_length(p, s), random);
+    made_clean(group, numbers, stripe);
+}
+
+/// Survivors that are all zeros or all ones, and ones with a single bit set; the lost disks hold the opposite.
+fn extreme_survivors(group: &mut Group, random: &mut Random, numbers: Numbers) {
+    let (p, s, first, second) = numbers;
+    for (byte, single) in [(0x00, false), (0xFF, false), (0x00, true)] {
+        let mut stripe = Lent::of(&vec![byte; stripe_length(p, s)], random);
+        if single {
+            let place = random.below(stripe_length(p, s));
+            stripe.part()[place] ^= 1 << random.below(8);
+        }
+        for disk in [first, second] {
+            stripe.part()[disk_place(p, s, disk)].fill(!byte);
+        }
+        made_clean(group, numbers, stripe);
+    }
+}
+
+/// The call makes the stripe clean and leaves the other disks as they were.
+fn made_clean(group: &mut Group, (p, s, first, second): Numbers, mut stripe: Lent) {
     let mut before = stripe.clone();
     let got = rebuild_two(p, s, first, second, stripe.part());
     let call = || format!("rebuild_two({p}, {s}, {first}, {second}, any survivors)");

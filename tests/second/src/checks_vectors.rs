@@ -1,5 +1,6 @@
-//! Stripes that Jerasure encoded: the library and the model must agree with them.
+//! Stripes that Jerasure encoded or decoded: the library and the model must agree with them.
 
+use crate::ffi_pairs::rebuild_two;
 use crate::ffi_rebuild::rebuild_one;
 use crate::ffi_stripes::{check_stripe, encode_stripe};
 use crate::group::Group;
@@ -11,7 +12,7 @@ use crate::{model, model_rebuild, Setting};
 /// tests/vectors/make_vectors.c wrote it and tells its form.
 const TEXT: &str = include_str!("../../vectors/jerasure.txt");
 
-/// The widths that the file must hold.
+/// The widths that the file must hold, encoded and decoded.
 const WIDTHS: [usize; 6] = [3, 5, 7, 11, 17, 31];
 
 const ACCEPTED: model::Answer = model::Answer { number: 0, place: 0 };
@@ -20,10 +21,19 @@ pub fn run(setting: &mut Setting, group: &mut Group) {
     let random = &mut setting.random;
     let vectors = vectors();
     for p in WIDTHS {
-        let found = vectors.iter().any(|vector| vector.p == p);
-        group.same(|| format!("jerasure.txt holds width {p}"), true, found);
+        for decoded in [false, true] {
+            let holds = |vector: &Vector| vector.p == p && vector.lost.is_some() == decoded;
+            let call = || format!("jerasure.txt holds width {p}, decoded: {decoded}");
+            group.same(call, true, vectors.iter().any(holds));
+        }
     }
     for vector in &vectors {
+        if let Some([a, b]) = vector.lost {
+            decoded(group, random, vector, (a, b));
+            decoded(group, random, vector, (b, a));
+            checked(group, random, vector);
+            continue;
+        }
         encoded(group, random, vector);
         checked(group, random, vector);
         for disk in 0..vector.p + 2 {
@@ -34,10 +44,11 @@ pub fn run(setting: &mut Setting, group: &mut Group) {
 
 // The file.
 
-/// A stripe as Jerasure encoded it.
+/// A stripe as Jerasure encoded it, or decoded the two lost disks of it.
 struct Vector {
     p: usize,
     s: usize,
+    lost: Option<[usize; 2]>,
     stripe: Vec<u8>,
 }
 
@@ -51,12 +62,16 @@ fn vectors() -> Vec<Vector> {
     let mut lines = TEXT.lines().filter(|line| !line.starts_with('#'));
     let mut vectors = Vec::new();
     while let Some(line) = lines.next() {
-        let (p, s) = line.split_once(' ').expect("a line `p s`");
-        let p = p.parse().expect("a width");
-        let s = s.parse().expect("a cell size");
+        let numbers: Vec<usize> =
+            line.split(' ').map(|word| word.parse().expect("a number")).collect();
+        let (p, s, lost) = match numbers[..] {
+            [p, s] => (p, s, None),
+            [p, s, a, b] => (p, s, Some([a, b])),
+            _ => panic!("a line `p s` or `p s a b`"),
+        };
         let stripe: Vec<u8> = lines.by_ref().take(p + 2).flat_map(bytes_of).collect();
         assert_eq!(stripe.len(), stripe_length(p, s), "a stripe's length");
-        vectors.push(Vector { p, s, stripe });
+        vectors.push(Vector { p, s, lost, stripe });
     }
     vectors
 }
@@ -124,4 +139,15 @@ fn rebuilt(group: &mut Group, random: &mut Random, vector: &Vector, disk: usize)
         group.same(say, ACCEPTED, got);
         group.same_bytes(say, &vector.stripe[place.clone()], column.part());
     }
+}
+
+/// Two lost disks become what Jerasure decoded, whatever they held.
+fn decoded(group: &mut Group, random: &mut Random, vector: &Vector, (a, b): (usize, usize)) {
+    let (p, s) = (vector.p, vector.s);
+    let mut stripe = Lent::of(&vector.stripe, random);
+    random.fill(&mut stripe.part()[disk_place(p, s, a)]);
+    random.fill(&mut stripe.part()[disk_place(p, s, b)]);
+    let say = || format!("{}, disks {a} and {b}", vector.name("rebuild_two"));
+    group.same(say, ACCEPTED, rebuild_two(p, s, a, b, stripe.part()));
+    group.same_bytes(say, &vector.stripe, stripe.part());
 }
