@@ -1,5 +1,5 @@
-/* Times encode, check and the rebuild of one data disk, all contestants
-   interleaved, and prints speed ratios as Markdown.
+/* Times encode, check and the rebuild of one and of two data disks, all
+   contestants interleaved, and prints speed ratios as Markdown.
 
    Time is processor time of the thread. In a round each contestant is timed
    once, in an order that turns from round to round. A ratio is the
@@ -25,7 +25,8 @@ static const double WARM_SECONDS = 300e-6;
 enum { STREAM_ROUNDS = 9, MOST_ROUNDS = 41 };
 static const size_t STREAM_BYTES = (size_t)128 << 20;
 
-static const char *const OPERATION_NAMES[] = { "encode", "check", "rebuild of one data disk" };
+static const char *const OPERATION_NAMES[] = { "encode", "check", "rebuild of one data disk",
+                                               "rebuild of two data disks" };
 
 enum Mode { WARM, STREAMING, MODES };
 
@@ -107,12 +108,18 @@ static void measure(const struct Shelf *shelf, enum Operation operation, enum Mo
     for (int round = 0; round < rounds; round++) {
         for (int turn = 0; turn < CONTESTANTS; turn++) {
             int who = (turn + round) % CONTESTANTS;
+            if (CALLS[operation][who] == NULL) {
+                continue;
+            }
             times[who][round] = sample(shelf, CALLS[operation][who], mode, calls);
         }
     }
     result->ours = least(times[OURS], rounds);
     result->read = (double)bytes_read(shelf, operation);
     for (int who = 0; who < CONTESTANTS; who++) {
+        if (CALLS[operation][who] == NULL) {
+            continue;
+        }
         double ratios[MOST_ROUNDS];
         for (int round = 0; round < rounds; round++) {
             ratios[round] = times[who][round] / times[OURS][round];
@@ -136,12 +143,16 @@ static void measure_shape(enum Mode mode, int width, int size)
     close_shelf(&shelf);
 }
 
-static void print_row(const struct Result *result, int p, size_t s)
+static void print_row(const struct Result *result, Call *const *calls, int p, size_t s)
 {
     printf("| %d | %zu | %.2f | %.1f |", p, s, 1e6 * result->ours,
            1e-9 * result->read / result->ours);
     for (int who = JERASURE; who < CONTESTANTS; who++) {
-        printf(" %.2f / %.2f |", result->median[who], result->best[who]);
+        if (calls[who] == NULL) {
+            printf(" none |");
+        } else {
+            printf(" %.2f / %.2f |", result->median[who], result->best[who]);
+        }
     }
     printf("\n");
 }
@@ -153,7 +164,8 @@ static void print_table(enum Mode mode, enum Operation operation)
     printf("|---|---|---|---|---|---|---|\n");
     for (int width = 0; width < WIDTH_COUNT; width++) {
         for (int size = 0; size < SIZE_COUNT; size++) {
-            print_row(&results[mode][operation][width][size], WIDTHS[width], SIZES[size]);
+            print_row(&results[mode][operation][width][size], CALLS[operation],
+                      WIDTHS[width], SIZES[size]);
         }
     }
     printf("\n");
@@ -183,6 +195,9 @@ static void print_aims(void)
     }
     for (int width = 0; width < WIDTH_COUNT; width++) {
         print_aim(REBUILD, width, 2, WIDTHS[width] < 17 ? 1.2 : 1.5, 1);
+    }
+    for (int width = 0; width < WIDTH_COUNT; width++) {
+        print_aim(REBUILD_TWO, width, 2, WIDTHS[width] < 17 ? 1.2 : 1.4, 1);
     }
     for (int width = 0; width < WIDTH_COUNT; width++) {
         print_aim(ENCODE, width, 1, 2.0, 0);

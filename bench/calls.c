@@ -27,6 +27,8 @@ struct Checked cuzhaveli_check_stripe(size_t width, size_t size, const uint8_t *
 struct Answer cuzhaveli_rebuild_one(size_t width, size_t size, size_t disk,
                                     const uint8_t *stripe, size_t stripe_len,
                                     uint8_t *column, size_t column_len);
+struct Answer cuzhaveli_rebuild_two(size_t width, size_t size, size_t first, size_t second,
+                                    uint8_t *stripe, size_t stripe_len);
 
 static void demand(int holds, const struct Shelf *shelf, const char *what)
 {
@@ -58,6 +60,12 @@ static uint8_t *column_at(const struct Shelf *shelf, size_t number)
     return shelf->columns + number * shelf->column;
 }
 
+/* The disk that is lost together with this one: the gaps differ from disk to disk. */
+static int other_lost(const struct Shelf *shelf, int disk)
+{
+    return (disk + 1 + 7 * disk % (shelf->p - 1)) % shelf->p;
+}
+
 /* The library's calls. */
 
 static void our_encode(const struct Shelf *shelf, size_t number, int disk)
@@ -83,6 +91,14 @@ static void our_rebuild(const struct Shelf *shelf, size_t number, int disk)
                                                  stripe_at(shelf, number), shelf->stripe,
                                                  column_at(shelf, number), shelf->column);
     demand(answer.number == 0, shelf, "the library refuses to rebuild");
+}
+
+static void our_rebuild_two(const struct Shelf *shelf, size_t number, int disk)
+{
+    struct Answer answer = cuzhaveli_rebuild_two(shelf->p, shelf->s, disk,
+                                                 other_lost(shelf, disk),
+                                                 stripe_at(shelf, number), shelf->stripe);
+    demand(answer.number == 0, shelf, "the library refuses to rebuild two disks");
 }
 
 /* Jerasure: the same code in the same layout, schedules built beforehand. */
@@ -120,6 +136,17 @@ static void jerasure_rebuild(const struct Shelf *shelf, size_t number, int disk)
     }
     places[shelf->p] = (char *)column_at(shelf, number);
     jerasure_do_scheduled_operations(places, shelf->decoding[disk], (int)shelf->s);
+}
+
+static void jerasure_rebuild_two(const struct Shelf *shelf, size_t number, int disk)
+{
+    char *places[MOST_DISKS + 2];
+    for (int i = 0; i < shelf->p; i++) {
+        places[i] = (char *)disk_at(shelf, number, shelf->sources_two[disk][i]);
+    }
+    places[shelf->p] = (char *)disk_at(shelf, number, disk);
+    places[shelf->p + 1] = (char *)disk_at(shelf, number, other_lost(shelf, disk));
+    jerasure_do_scheduled_operations(places, shelf->decoding_two[disk], (int)shelf->s);
 }
 
 /* ISA-L: another code on disks of the same size. Its AVX routines leave the
@@ -181,6 +208,7 @@ size_t bytes_read(const struct Shelf *shelf, enum Operation operation)
     size_t p = shelf->p;
     switch (operation) {
     case ENCODE:
+    case REBUILD_TWO:
         return p * p * shelf->s;
     case CHECK:
         return p * (p + 2) * shelf->s;
@@ -213,10 +241,17 @@ static void copy_rebuild(const struct Shelf *shelf, size_t number, int disk)
     copy(shelf, number, REBUILD);
 }
 
+static void copy_rebuild_two(const struct Shelf *shelf, size_t number, int disk)
+{
+    (void)disk;
+    copy(shelf, number, REBUILD_TWO);
+}
+
 Call *const CALLS[OPERATIONS][CONTESTANTS] = {
     [ENCODE] = { our_encode, jerasure_encode, isal_encode, copy_encode },
     [CHECK] = { our_check, jerasure_check, isal_check, copy_check },
     [REBUILD] = { our_rebuild, jerasure_rebuild, isal_rebuild, copy_rebuild },
+    [REBUILD_TWO] = { our_rebuild_two, jerasure_rebuild_two, NULL, copy_rebuild_two },
 };
 
 /* Opening and closing. */
@@ -243,21 +278,29 @@ static void fill(uint8_t *bytes, size_t length)
     }
 }
 
-/* Jerasure's schedule for one lost data disk, from its own decoding matrix:
+/* Jerasure's schedule for one or two lost data disks, from its own decoding matrix:
    what jerasure_schedule_decode_cache keeps, without its search on each call. */
-static void schedule_loss(struct Shelf *shelf, int *bitmatrix, int disk)
+static int **schedule_loss(struct Shelf *shelf, int *bitmatrix, const int *lost, int count,
+                           int *sources)
 {
     int p = shelf->p;
+    size_t disk_rows = (size_t)p * p * p;
     int erased[MOST_DISKS + 2] = { 0 };
-    erased[disk] = 1;
-    int *matrix = malloc(sizeof(int) * p * p * p * p);
-    demand(matrix != NULL, shelf, "no memory");
-    int failed = jerasure_make_decoding_bitmatrix(p, 2, p, bitmatrix, erased, matrix,
-                                                  shelf->sources[disk]);
+    for (int i = 0; i < count; i++) {
+        erased[lost[i]] = 1;
+    }
+    int *matrix = malloc(sizeof(int) * p * disk_rows);
+    int *rows = malloc(sizeof(int) * count * disk_rows);
+    demand(matrix != NULL && rows != NULL, shelf, "no memory");
+    int failed = jerasure_make_decoding_bitmatrix(p, 2, p, bitmatrix, erased, matrix, sources);
     demand(failed == 0, shelf, "Jerasure has no decoding matrix");
-    int *rows = matrix + (size_t)disk * p * p * p;
-    shelf->decoding[disk] = jerasure_smart_bitmatrix_to_schedule(p, 1, p, rows);
+    for (int i = 0; i < count; i++) {
+        memcpy(rows + i * disk_rows, matrix + lost[i] * disk_rows, sizeof(int) * disk_rows);
+    }
+    int **schedule = jerasure_smart_bitmatrix_to_schedule(p, count, p, rows);
+    free(rows);
     free(matrix);
+    return schedule;
 }
 
 void open_shelf(struct Shelf *shelf, int p, size_t s, size_t stripes)
@@ -277,7 +320,10 @@ void open_shelf(struct Shelf *shelf, int p, size_t s, size_t stripes)
     demand(bitmatrix != NULL, shelf, "Jerasure has no such code");
     shelf->encoding = jerasure_smart_bitmatrix_to_schedule(p, 2, p, bitmatrix);
     for (int disk = 0; disk < p; disk++) {
-        schedule_loss(shelf, bitmatrix, disk);
+        int lost[] = { disk, other_lost(shelf, disk) };
+        shelf->decoding[disk] = schedule_loss(shelf, bitmatrix, lost, 1, shelf->sources[disk]);
+        shelf->decoding_two[disk] =
+            schedule_loss(shelf, bitmatrix, lost, 2, shelf->sources_two[disk]);
     }
     free(bitmatrix);
 }
@@ -286,6 +332,7 @@ void close_shelf(struct Shelf *shelf)
 {
     for (int disk = 0; disk < shelf->p; disk++) {
         jerasure_free_schedule(shelf->decoding[disk]);
+        jerasure_free_schedule(shelf->decoding_two[disk]);
     }
     jerasure_free_schedule(shelf->encoding);
     free(shelf->spare);
@@ -332,6 +379,20 @@ static void compare_rebuilding(const struct Shelf *shelf, size_t number, int dis
     }
 }
 
+static void compare_rebuilding_two(const struct Shelf *shelf, size_t number, int disk)
+{
+    Call *const calls[] = { our_rebuild_two, jerasure_rebuild_two };
+    uint8_t *stripe = stripe_at(shelf, number), *before = shelf->copies;
+    memcpy(before, stripe, shelf->stripe);
+    for (size_t i = 0; i < sizeof calls / sizeof *calls; i++) {
+        memset(disk_at(shelf, number, disk), 0x55, shelf->column);
+        memset(disk_at(shelf, number, other_lost(shelf, disk)), 0xAA, shelf->column);
+        calls[i](shelf, number, disk);
+        demand(memcmp(stripe, before, shelf->stripe) == 0, shelf,
+               i == 0 ? "the library rebuilds two wrongly" : "Jerasure rebuilds two wrongly");
+    }
+}
+
 void compare(const struct Shelf *shelf)
 {
     for (size_t number = 0; number < shelf->stripes; number++) {
@@ -340,5 +401,6 @@ void compare(const struct Shelf *shelf)
     compare_dirty(shelf, 0);
     for (int disk = 0; disk < shelf->p; disk++) {
         compare_rebuilding(shelf, 0, disk);
+        compare_rebuilding_two(shelf, 0, disk);
     }
 }

@@ -8,7 +8,7 @@
 
 enum { MOST_DISKS = 31 };
 
-enum Operation { ENCODE, CHECK, REBUILD, OPERATIONS };
+enum Operation { ENCODE, CHECK, REBUILD, REBUILD_TWO, OPERATIONS };
 
 enum Contestant { OURS, JERASURE, ISAL, MEMCPY, CONTESTANTS };
 
@@ -27,9 +27,12 @@ struct Shelf {
     int **encoding;     /* Jerasure's schedule */
     int **decoding[MOST_DISKS];     /* the same for each lost data disk */
     int sources[MOST_DISKS][MOST_DISKS];    /* the disks that one reads */
+    int **decoding_two[MOST_DISKS];         /* the same for each data disk with its other */
+    int sources_two[MOST_DISKS][MOST_DISKS];
 };
 
-/* A contestant's call on a stripe; only a rebuild looks at the disk. */
+/* A contestant's call on a stripe; only a rebuild looks at the disk. A NULL
+   stands where a contestant has no such operation. */
 typedef void Call(const struct Shelf *shelf, size_t number, int disk);
 
 extern Call *const CALLS[OPERATIONS][CONTESTANTS];
