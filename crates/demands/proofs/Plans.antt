@@ -1,20 +1,19 @@
 -- Demand 3 said of the planner's and the judge's calls: whatever bytes a host sends and whatever the two calls return, as long as they keep their promises.
-use mathlib.Core.Path.{_≡_, refl, sym, ap, ap₂, _∙_}
-use mathlib.Core.Bool.{Bool, true, false}
+use mathlib.Core.Path.{_≡_, sym, ap, ap₂, _∙_}
+use mathlib.Core.Bool.{true}
 use mathlib.Core.List.{List}
 use Prim.Native.Nat.{ℕ, _+_, _*_, _≤_, _<_}
 use native.Mathlib.Omega.{arith}
 use lib.Dec.{eqb}
-use lib.ListN.{length}
 use Rattle.laws.specs.Choice.{pick}
 use Rattle.liberation.specs.Sets.{isWidth}
 use Rattle.liberation.specs.Plans.{Step, planOf, readCount}
 use Rattle.liberation.specs.Judging.{accepted, stepsIn}
-use Rattle.liberation.specs.Claims.{isBest, Best}
+use Rattle.liberation.specs.Claims.{isBest}
 use Rattle.liberation.proofs.Demand3.{plans-best, plan-accepted}
 use Rattle.planner.specs.declared.Plan.{Plan}
 use Rattle.planner.specs.Records.{judgeForm}
-use Rattle.planner.specs.Says.{PlanSays, planFault}
+use Rattle.planner.specs.Says.{PlanSays}
 use Rattle.planner.proofs.PlanLaws.{fault-none}
 use Rattle.planner.proofs.FormLaws.{length-form, plan-form}
 use Rattle.judge.specs.declared.Judged.{Judged}

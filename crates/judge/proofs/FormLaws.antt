@@ -1,17 +1,14 @@
 -- Refusals 1, 3 and 5, which come before any step, and the judge's promise from them or from what the steps say.
-use mathlib.Core.Path.{_≡_, refl, sym, ap, ap₂, _∙_}
+use mathlib.Core.Path.{_≡_, sym, ap, ap₂, _∙_}
 use mathlib.Core.Bool.{Bool, false, not}
-use mathlib.Core.List.{List, _∷_}
-use Prim.Native.Nat.{ℕ, zero, suc, _+_, _*_, _≤_}
-use native.Mathlib.Nat.{mul-le-mul}
-use native.Mathlib.Omega.{arith}
+use mathlib.Core.List.{List}
+use Prim.Native.Nat.{ℕ, _+_, _*_}
 use lib.Dec.{eqb, ltb}
-use lib.ListN.{length, take}
+use lib.ListN.{length}
 use Rattle.laws.specs.Choice.{pick, when, firstOf}
-use Rattle.laws.specs.Lists.{isIn}
 use Rattle.laws.proofs.ChoiceLaws.{first-is}
 use Rattle.liberation.specs.Sets.{isWidth}
-use Rattle.liberation.specs.Plans.{readCount, marksFrom}
+use Rattle.liberation.specs.Plans.{readCount}
 use Rattle.liberation.specs.Judging.{judge, stepsIn}
 use Rattle.judge.specs.declared.Judged.{Judged}
 use Rattle.judge.specs.Says.{formFault, judgeFault, JudgeSays, StepsSay}
