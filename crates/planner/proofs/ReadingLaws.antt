@@ -1,18 +1,18 @@
 -- Marking the cells that the steps of a plan read, step by step; and the places of the record that hold a step.
-use mathlib.Core.Path.{_≡_, refl, sym, ap, ap₂, _∙_}
-use mathlib.Core.Bool.{Bool, true, false, _&&_, false≢true}
-use mathlib.Core.List.{List, [], _∷_, _++_}
+use mathlib.Core.Path.{_≡_, refl, sym, ap, _∙_}
+use mathlib.Core.Bool.{Bool, true, false}
+use mathlib.Core.List.{List, [], _∷_}
 use Prim.Native.Nat.{ℕ, zero, suc, _+_, _-_, _*_, _≤_, _<_}
 use native.Mathlib.Numerals.{add-one}
 use native.Mathlib.Omega.{arith}
 use lib.Dec.{eqb, ltb}
-use lib.ListN.{length, getD, drop, replicate, length-append, List·getD-append, drop-of-length-le}
+use lib.ListN.{length, getD, drop, replicate, List·getD-append, drop-of-length-le}
 use borrow.Author.Tests.{ltb-true}
 use Rattle.laws.specs.Choice.{pick}
 use Rattle.laws.specs.Lists.{added}
 use Rattle.laws.proofs.Flags.{and-l, and-r}
 use Rattle.liberation.specs.Sets.{isWidth, diskAt, setOf, survivingIn}
-use Rattle.liberation.specs.Plans.{Step, planOf, readFrom, cellsRead, readCount, marksFrom, readList}
+use Rattle.liberation.specs.Plans.{Step, planOf, readFrom, cellsRead, readCount, marksFrom}
 use Rattle.liberation.proofs.SetLaws.{survivors-below}
 use Rattle.liberation.proofs.ReadLaws.{numbersBelow}
 use Rattle.liberation.proofs.UsedLaws.{named-numbers}

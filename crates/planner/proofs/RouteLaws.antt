@@ -1,8 +1,8 @@
 -- Routes in an array of 31 places, the first p of which count, and their word: what the planner's functions leave there is what the definitions say.
 use mathlib.Core.Path.{_≡_, refl, sym, ap, ap₂, _∙_}
 use mathlib.Core.Bool.{Bool, true, false, _||_, true≢false, false≢true}
-use mathlib.Core.List.{List, [], _∷_}
-use Prim.Native.Nat.{ℕ, zero, suc, _+_, _-_, _*_, _/_, _%_, _^_, _≤_, _<_}
+use mathlib.Core.List.{List}
+use Prim.Native.Nat.{ℕ, zero, suc, _+_, _-_, _*_, _/_, _^_, _≤_, _<_}
 use native.Mathlib.Nat.{mod-lt}
 use native.Mathlib.Numerals.{add-one}
 use native.Mathlib.Omega.{arith}
@@ -15,7 +15,7 @@ use borrow.Author.Tests.{eq-eqb, ne-eqb, le-leb, lt-leb}
 use Rattle.laws.specs.Choice.{pick}
 use Rattle.laws.proofs.Flags.{or-l, or-r}
 use Rattle.laws.proofs.ListLaws.{take-replicate}
-use Rattle.liberation.specs.Plans.{diagonals, zeroRoutes, secondRow, firstRoutes, diagonalOf, partner, decided, turned, routesFrom, routes, wordFrom}
+use Rattle.liberation.specs.Plans.{diagonals, zeroRoutes, secondRow, firstRoutes, partner, decided, turned, routesFrom, routes, wordFrom}
 use Rattle.liberation.proofs.WordLaws.{ones-word, word-lt, set-word, word-none, word-same}
 use Rattle.planner.specs.declared.Routes.{Routes}
 use Rattle.planner.specs.Records.{RoutesAre}

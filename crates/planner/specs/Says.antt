@@ -3,8 +3,7 @@ use mathlib.Core.Path.{_≡_}
 use mathlib.Core.List.{List, []}
 use Prim.Native.Nat.{ℕ, _+_, _*_}
 use lib.Dec.{eqb}
-use lib.ListN.{length}
-use Rattle.laws.specs.Choice.{pick, firstOf, when}
+use Rattle.laws.specs.Choice.{pick, firstOf}
 use Rattle.liberation.specs.Sets.{widthFault, diskFault, longFault}
 use Rattle.liberation.specs.Plans.{Step, planOf, routeWord, readCount, readList}
 use Rattle.sets.specs.declared.Answer.{Answer}

@@ -2,7 +2,7 @@
 ghost use mathlib.Core.Path.{_≡_};
 ghost use mathlib.Core.Bool.{true};
 ghost use mathlib.Core.List.{List, [], _∷_, _++_};
-ghost use Prim.Native.Nat.{ℕ, _+_, _-_, _*_, _^_, _≤_, _<_};
+ghost use Prim.Native.Nat.{_+_, _-_, _*_, _^_, _≤_, _<_};
 ghost use lib.ListN.{length, getD, take, replicate};
 ghost use lib.Bits.{bitOr};
 ghost use Rattle.liberation.specs.Sets.{isWidth};
@@ -216,8 +216,8 @@ pub struct Planned {
     pub word: u32,
 }
 
-// Our plan for a disk of an array that is within its limits.
-fn our_plan(width: usize, disk: usize) -> Planned
+// Our plan for a disk of an array that is within its limits. The planner's own calls use it, and `rebuild::rebuild_one`, which needs no read count.
+pub fn our_plan(width: usize, disk: usize) -> Planned
     requires { ⌜ (isWidth width ≡ true) × (disk ≤ width + 1) ⌝ }
     ensures { λ r. ⌜ PlannedIs width disk r ⌝ }
 {

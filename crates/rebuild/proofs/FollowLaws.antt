@@ -1,14 +1,15 @@
 -- The steps of our plan, one after another: the steps still to come, on the stripe with the column as it stands, give what all steps give. What the column held at first does not matter, since every row is rebuilt from surviving cells.
-use mathlib.Core.Path.{_≡_, refl, sym, ap, _∙_}
+use mathlib.Core.Path.{_≡_, refl, sym, ap, subst, _∙_}
 use mathlib.Core.Bool.{true}
 use mathlib.Core.List.{List, [], _∷_, _++_}
 use Prim.Native.Nat.{ℕ, zero, suc, _+_, _*_, _≤_, _<_}
 use native.Mathlib.Numerals.{add-one}
 use native.Mathlib.Omega.{arith}
 use lib.ListN.{length, drop, take, drop-of-length-le}
+use Rattle.laws.specs.Lists.{isIn}
 use Rattle.laws.specs.Xor.{allBytes}
 use Rattle.laws.proofs.ByteLaws.{bytes-append, bytes-take, bytes-drop}
-use Rattle.liberation.specs.Sets.{isWidth, place, diskAt, setOf}
+use Rattle.liberation.specs.Sets.{isWidth, place, diskAt, setOf, lostIn}
 use Rattle.liberation.specs.Plans.{Step, planOf}
 use Rattle.liberation.proofs.AcceptedLaws.{Passes, none, next, accepted-passes}
 use Rattle.liberation.proofs.Demand3.{plan-accepted}
@@ -20,18 +21,19 @@ use Rattle.parity.proofs.Following.{followed-stripe}
 use Rattle.parity.proofs.Rebuilding.{column-long, steps-agree}
 use Rattle.planner.proofs.ReadingLaws.{StepAt, plan-length}
 
--- a step of an accepted plan names a row
-step-row : (p k f : ℕ) {done : List ℕ} {ss : List Step} (i : ℕ) (st : Step) → Passes p k f done ss → i < length ss → drop i ss ≡ st ∷ drop (suc i) ss → st .row < p
-step-row p k f i st none h e = absurd (omega arith)
-step-row p k f zero st (next {s = x} g rest) h e = let q : x .row ≡ st .row = ap first e in omega (arith, q, g .row-below)
+-- a step of an accepted plan passes the judge
+step-passed : (p k f : ℕ) {done : List ℕ} {ss : List Step} (i : ℕ) (st : Step) → Passes p k f done ss → i < length ss → drop i ss ≡ st ∷ drop (suc i) ss → (st .row < p) × (isIn (st .row) (lostIn p f (setOf p k (st .kind) (st .number))) ≡ true)
+step-passed p k f i st none h e = absurd (omega arith)
+step-passed p k f zero st (next {s = x} g rest) h e = subst (λ (y : Step). (y .row < p) × (isIn (y .row) (lostIn p f (setOf p k (y .kind) (y .number))) ≡ true)) (ap first e) (g .row-below, g .lost)
   where
-    first : List Step → ℕ
-    first [] = 0
-    first (y ∷ ys) = y .row
-step-row p k f (suc i) st (next g rest) h e = step-row p k f i st rest (omega arith) e
+    first : List Step → Step
+    first [] = st
+    first (y ∷ ys) = y
+step-passed p k f (suc i) st (next g rest) h e = step-passed p k f i st rest (omega arith) e
 
-pub plan-row : (p f i : ℕ) → isWidth p ≡ true → f ≤ p + 1 → (a : StepAt (planOf p p f) i) → i < p → a .this .row < p
-plan-row p f i w h a l = step-row p p f i (a .this) (accepted-passes p p f (planOf p p f) (plan-accepted p f w h)) (omega (arith, plan-length p f w h)) (a .split)
+-- so each step of our plan names a row, and its set holds the lost cell of that row
+pub plan-passed : (p f i : ℕ) → isWidth p ≡ true → f ≤ p + 1 → (a : StepAt (planOf p p f) i) → i < p → (a .this .row < p) × (isIn (a .this .row) (lostIn p f (setOf p p (a .this .kind) (a .this .number))) ≡ true)
+plan-passed p f i w h a l = step-passed p p f i (a .this) (accepted-passes p p f (planOf p p f) (plan-accepted p f w h)) (omega (arith, plan-length p f w h)) (a .split)
 
 -- the loop over the steps: i of them done
 pub record Stepping (p s f : ℕ) (t col₀ col : List ℕ) (i : ℕ) : Type 0 where

@@ -1,5 +1,4 @@
--- The laws behind the functions: a step's sources, its other lost cells, the step, the steps in order, the promise.
-pub mod CollectLaws
+-- The laws behind the functions: a step's other lost cells, the step, the steps in order, the promise.
 pub mod AddLaws
 pub mod StepLaws
 pub mod FollowLaws

@@ -8,15 +8,9 @@ use borrow.Author.Tests.{ne-eqb, eqb-true, not-false}
 use Rattle.laws.specs.Choice.{pick, firstOf, when}
 use Rattle.laws.proofs.ChoiceLaws.{first-none, when-none}
 use Rattle.liberation.specs.Sets.{isWidth, numbersFault}
-use Rattle.liberation.specs.Plans.{Step}
 use Rattle.liberation.proofs.FaultLaws.{numbers-of}
 use Rattle.parity.specs.Stripes.{stripeLong, rebuilt}
 use Rattle.sets.specs.declared.Answer.{Answer}
-use Rattle.planner.specs.declared.Plan.{Plan}
-use Rattle.planner.specs.Records.{rowsOf, kindsOf, numbersOf, padded}
-use Rattle.planner.specs.Says.{PlanSays}
-use Rattle.planner.proofs.PlanLaws.{planned-is}
-use Rattle.rebuild.specs.Cells.{Ours}
 use Rattle.rebuild.specs.Says.{lengthsFault, oneFault, OneSays}
 
 -- the refusal from the tests of the lengths, where numbers and disk are accepted
@@ -58,14 +52,3 @@ refused p s f n t o r e z a =
 pub accepted : (p s f : ℕ) (t o o′ : List ℕ) (r : Answer) → oneFault p s f t o ≡ 0 → o′ ≡ rebuilt p p s f t → (r .number ≡ 0) × (r .place ≡ 0) → OneSays p s f t o o′ r
 accepted p s f t o o′ r z e a =
     record { number = a .0 ∙ sym z; place = a .1; column = e ∙ sym (ap (λ (x : ℕ). pick (eqb x 0) (rebuilt p p s f t) o) z) }
-
--- the planner's record holds our plan
-pub plan-ours : (p f : ℕ) (r : Plan) → isWidth p ≡ true → f ≤ p + 1 → PlanSays p f r → Ours p f r
-plan-ours p f r w h k =
-    record {
-      width = w;
-      disk = h;
-      rows = k .rows ∙ ap (λ (ss : List Step). padded (rowsOf ss)) (planned-is p f w h);
-      kinds = k .kinds ∙ ap (λ (ss : List Step). padded (kindsOf ss)) (planned-is p f w h);
-      sets = k .sets ∙ ap (λ (ss : List Step). padded (numbersOf ss)) (planned-is p f w h);
-    }

@@ -4,30 +4,32 @@ use mathlib.Core.Path.{_≡_, refl, sym, ap, ap₂, subst, _∙_}
 use mathlib.Core.Bool.{Bool, true, false, _&&_, not, false≢true}
 use mathlib.Core.Logic.{⊎-elim}
 use mathlib.Core.List.{List, [], _∷_}
-use Prim.Native.Nat.{ℕ, _+_, _-_, _*_, _≤_, _<_}
+use Prim.Native.Nat.{ℕ, suc, _+_, _-_, _*_, _≤_, _<_}
 use native.Mathlib.Nat.{mod-lt}
 use native.Mathlib.Omega.{arith}
 use lib.Dec.{eqb}
-use lib.ListN.{length, length-take, length-drop}
+use lib.ListN.{length, replicate, length-take, length-drop}
 use borrow.Rule.Slice.PartMut.{putMid, midOf}
 use borrow.Author.Tests.{eqb-true, eqb-false, eq-eqb, ne-eqb, not-true}
 use Rattle.laws.specs.Choice.{pick}
 use Rattle.laws.specs.Lists.{isIn}
 use Rattle.laws.specs.Xor.{xorL}
 use Rattle.laws.proofs.Flags.{and-l, and-r, or-cases}
+use Rattle.laws.proofs.XorLaws.{xorL-zero}
 use Rattle.liberation.specs.Sets.{place, rowAt, diskAt, setOf, lostIn, survivingIn}
 use Rattle.liberation.proofs.SetLaws.{disk-place, row-place, place-of, in-surviving, survivors-below}
 use Rattle.parity.specs.Stripes.{cellAt, withCell, withColumn, xorOver, without, solved}
-use Rattle.parity.proofs.CellLaws.{cell-fits, cell-long, cell-with, with-with, cell-other, cell-on, cell-off, column-put}
-use Rattle.parity.proofs.OverLaws.{over-long, over-ext, over-split, in-without}
+use Rattle.parity.proofs.CellLaws.{cell-fits, cell-long, with-same, cell-with, with-with, cell-other, cell-on, cell-off, column-put}
+use Rattle.parity.proofs.OverLaws.{over-long, over-bytes, over-ext, over-split, in-without}
 use Rattle.parity.proofs.Solving.{cells-long}
 use Rattle.xor.specs.Parts.{xorOffsets}
-use Rattle.stripes.proofs.SourceLaws.{over-offsets}
+use Rattle.stripes.proofs.SourceLaws.{over-offsets, counted}
 use Rattle.xor.specs.Reach.{offsets, Inside}
 use Rattle.xor.specs.declared.Sources.{Sources}
 use Rattle.xor.proofs.PartLaws.{put-part}
-use Rattle.rebuild.specs.Cells.{Surviving, Ready}
-use Rattle.rebuild.proofs.CollectLaws.{sources-inside}
+use Rattle.stripes.specs.Cells.{scaled, Surviving}
+use Rattle.stripes.proofs.SurvivorLaws.{one-disk, survivors-inside}
+use Rattle.rebuild.specs.Cells.{Ready}
 
 -- the cell of the step is on the lost disk, so no survivor is left out
 surviving-without : (p f row : ℕ) (xs : List ℕ) → row < p → survivingIn p f (without (place p row f) xs) ≡ survivingIn p f xs
@@ -71,7 +73,24 @@ lost-below p f r (x ∷ xs) h e = go (eqb (diskAt p x) f) (λ t. lost-below p f 
     go true rest t = ⊎-elim (λ q. omega (arith, eqb-true r (rowAt p x) q, mod-lt x h)) rest (or-cases (eqb r (rowAt p x)) (isIn r (lostIn p f xs)) t)
     go false rest t = rest t
 
-module _ (p s f row kind number : ℕ) (t col : List ℕ) (ready : Ready p s f row number t col) where
+-- a cell survives or is lost
+lost-count : (p f : ℕ) (xs : List ℕ) → length (lostIn p f xs) + length (survivingIn p f xs) ≡ length xs
+unfolding lostIn survivingIn
+lost-count p f [] = refl
+lost-count p f (x ∷ xs) = go (eqb (diskAt p x) f) (lost-count p f xs)
+  where
+    go : (b : Bool) → length (lostIn p f xs) + length (survivingIn p f xs) ≡ length xs → length (pick b (rowAt p x ∷ lostIn p f xs) (lostIn p f xs)) + length (pick b (survivingIn p f xs) (x ∷ survivingIn p f xs)) ≡ suc (length xs)
+    go true e = omega arith
+    go false e = omega arith
+
+-- of one row, which is this one, no other is left
+only-row : (row : ℕ) (ys : List ℕ) → isIn row ys ≡ true → length ys ≤ 1 → without row ys ≡ []
+unfolding without
+only-row row [] h l = refl
+only-row row (y ∷ []) h l = ap (λ (b : Bool). pick b [] (y ∷ [])) (⊎-elim (λ q. q) (λ q. absurd (false≢true q)) (or-cases (eqb row y) false h))
+only-row row (y ∷ (z ∷ zs)) h l = absurd (omega arith)
+
+module _ (p s f row kind number : ℕ) (t col : List ℕ) (ready : Ready p s f row kind number t col) where
   abbrev xs : List ℕ
   xs = setOf p p kind number
 
@@ -119,31 +138,56 @@ module _ (p s f row kind number : ℕ) (t col : List ℕ) (ready : Ready p s f r
       (cells-long (p * (p + 2)) s (survivingIn p f xs) t (ready .stripe ∙ omega arith) (survivors-below p p f kind number (ready .within .numbered)))
 
   -- each source has the length of the row's part, and lies in the stripe
-  pub sources-fit : (src : Sources) → length (src .at) ≡ 33 → Surviving p s f kind number src → Inside (length (midOf (row * s) (row * s + s - row * s) col)) (length t) src
+  pub sources-fit : (src : Sources) → length (src .at) ≡ 33 → Surviving p s f f kind number src → Inside (length (midOf (row * s) (row * s + s - row * s) col)) (length t) src
   sources-fit src l k =
       let e : length (midOf (row * s) (row * s + s - row * s) col) ≡ s = simp (length-take, length-drop) (omega (arith, row-fits)) in
-      subst (λ (n : ℕ). Inside n (length t) src) (sym e) (sources-inside p s f kind number (length t) src (ready .within .numbered) (ready .stripe) l k)
+      subst (λ (n : ℕ). Inside n (length t) src) (sym e) (survivors-inside p s f f kind number t src (ready .within .numbered) (ready .stripe) l k)
 
-  -- the survivors, gathered into the row's part of the column
-  pub gathered : (src : Sources) (ys : List ℕ) → Surviving p s f kind number src → ys ≡ xorOffsets (length (midOf (row * s) (row * s + s - row * s) col)) t (offsets src) → putMid (row * s) (row * s + s - row * s) col ys ≡ withCell s row alive col
-  gathered src ys k e =
-      put-part (λ l. xorOffsets (length l) t (offsets src)) (row * s) s col ys e
-      ∙ ap (λ (n : ℕ). withCell s row (xorOffsets n t (offsets src)) col) (cell-long s row col row-fits)
-      ∙ ap (λ (l : List ℕ). withCell s row l col) (ap (xorOffsets s t) (k .cells) ∙ over-offsets s t (survivingIn p f xs))
+  -- the sources are the survivors, and ys is their XOR: it is put into the row's part of the column
+  module _ (src : Sources) (ys : List ℕ) (k : Surviving p s f f kind number src) (gathered : ys ≡ xorOffsets (length (midOf (row * s) (row * s + s - row * s) col)) t (offsets src)) where
+    places : offsets src ≡ scaled s (survivingIn p f xs)
+    places = k .places ∙ ap (scaled s) (one-disk p f xs)
 
-  -- the survivors are gathered, then the other lost cells added
-  pub step-done : (mid last : List ℕ) → mid ≡ withCell s row alive col → last ≡ withCell s row (xorL (cellAt s mid row) (lost mid)) mid → withColumn p s f last t ≡ solved s (place p row f) xs whole
-  step-done mid last e q =
-      ap (λ (c : List ℕ). withColumn p s f c t) (q ∙ ap₂ (λ (c m : List ℕ). withCell s row c m) (ap₂ xorL stands same ∙ sym others) e ∙ with-with s row alive col alive-long row-fits new)
-      ∙ column-put p s f col t (ready .column) disk-fits row new (ready .rows)
-    where
-      new : List ℕ
-      new = xorOver s (cellAt s whole) (without (place p row f) xs)
+    abbrev mid : List ℕ
+    mid = putMid (row * s) (row * s + s - row * s) col ys
 
-      stands : cellAt s mid row ≡ alive
-      stands = ap (λ (c : List ℕ). cellAt s c row) e ∙ cell-with s row alive col alive-long row-fits
+    mid-is : mid ≡ withCell s row alive col
+    mid-is =
+        put-part (λ l. xorOffsets (length l) t (offsets src)) (row * s) s col ys gathered
+        ∙ ap (λ (n : ℕ). withCell s row (xorOffsets n t (offsets src)) col) (cell-long s row col row-fits)
+        ∙ ap (λ (l : List ℕ). withCell s row l col) (ap (xorOffsets s t) places ∙ over-offsets s t (survivingIn p f xs))
 
-      same : lost mid ≡ lost col
-      same =
-          over-ext s (cellAt s mid) (cellAt s col) (without row (lostIn p f xs))
-          (λ y h. ap (λ (c : List ℕ). cellAt s c y) e ∙ cell-other s row alive col alive-long row-fits y (eqb-false y row (not-true (eqb y row) (and-r (isIn y (lostIn p f xs)) (not (eqb y row)) (kept-row y h)))))
+    stands : cellAt s mid row ≡ alive
+    stands = ap (λ (c : List ℕ). cellAt s c row) mid-is ∙ cell-with s row alive col alive-long row-fits
+
+    -- then the other lost cells are added
+    pub step-done : (last : List ℕ) → last ≡ withCell s row (xorL (cellAt s mid row) (lost mid)) mid → withColumn p s f last t ≡ solved s (place p row f) xs whole
+    step-done last q =
+        ap (λ (c : List ℕ). withColumn p s f c t) (q ∙ ap₂ (λ (c m : List ℕ). withCell s row c m) (ap₂ xorL stands same ∙ sym others) mid-is ∙ with-with s row alive col alive-long row-fits new)
+        ∙ column-put p s f col t (ready .column) disk-fits row new (ready .rows)
+      where
+        new : List ℕ
+        new = xorOver s (cellAt s whole) (without (place p row f) xs)
+
+        same : lost mid ≡ lost col
+        same =
+            over-ext s (cellAt s mid) (cellAt s col) (without row (lostIn p f xs))
+            (λ y h. ap (λ (c : List ℕ). cellAt s c y) mid-is ∙ cell-other s row alive col alive-long row-fits y (eqb-false y row (not-true (eqb y row) (and-r (isIn y (lostIn p f xs)) (not (eqb y row)) (kept-row y h)))))
+
+    -- where all cells of the set but one survive, none is to be added
+    pub step-alone : length (src .at) ≡ 33 → length xs ≤ src .count + 1 → withColumn p s f mid t ≡ solved s (place p row f) xs whole
+    unfolding xorOver
+    step-alone l few =
+        step-done mid
+        (sym
+        (ap (λ (c : List ℕ). withCell s row c mid)
+        (ap₂ xorL stands (ap (xorOver s (cellAt s mid)) none)
+        ∙ ap (λ (n : ℕ). xorL alive (replicate n 0)) (sym alive-long)
+        ∙ xorL-zero alive (over-bytes s (cellAt s t) (survivingIn p f xs))
+        ∙ sym stands)
+        ∙ with-same s row mid))
+      where
+        none : without row (lostIn p f xs) ≡ []
+        none =
+            only-row row (lostIn p f xs) (ready .own)
+            (omega (arith, few, lost-count p f xs, counted s (p * (p + 2)) (src .count) (survivingIn p f xs) (src .at) (survivors-below p p f kind number (ready .within .numbered)) (omega (arith, k .few)) places))

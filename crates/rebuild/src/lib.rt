@@ -1,5 +1,5 @@
 // The rebuild of one lost disk: our plan's steps, one after another, from a lent stripe into a lent column. Each cell goes to its own stretch of the column.
-use planner::Plan;
+use planner::Steps;
 use sets::Answer;
 use xor::Sources;
 ghost use mathlib.Core.Path.{_≡_};
@@ -12,31 +12,8 @@ ghost use Rattle.laws.specs.Xor.{xorL};
 ghost use Rattle.liberation.specs.Sets.{place, rowAt, diskAt, setOf, lostIn};
 ghost use Rattle.parity.specs.Stripes.{cellAt, withCell, withColumn, xorOver, without, solved, stripeLong, rebuilt};
 ghost use Rattle.sets.specs.Limits.{Within};
-ghost use Rattle.rebuild.specs.Cells.{Surviving, Ready, Ours};
+ghost use Rattle.rebuild.specs.Cells.{Ready, Ours};
 ghost use Rattle.rebuild.specs.Says.{lengthsFault, OneSays};
-
-// Where the surviving cells of a set are: the offsets in a stripe of those that are not on the lost disk.
-fn surviving(width: usize, size: usize, disk: usize, kind: usize, number: usize) -> Sources
-    requires { ⌜ Within width width number × (size ≤ 4096) ⌝ }
-    ensures { λ r. ⌜ Surviving width size disk kind number r ⌝ }
-{
-    let cells = sets::set_size(width, width, kind, number);
-    let mut at: [usize; 33] = [0; 33];
-    let mut count = 0;
-    let mut i = 0;
-    while i < cells {
-        let cell = sets::set_cell(width, width, kind, number, i);
-        if cell / width != disk {
-            at[count] = cell * size;
-            count += 1;
-        }
-        i += 1;
-    }
-    Sources {
-        at: at,
-        count: count,
-    }
-}
 
 // A cell on the lost disk, of another row, is added to the cell of this row.
 fn add_cell(width: usize, size: usize, disk: usize, row: usize, cell: usize, column: &mut [u8])
@@ -50,7 +27,7 @@ fn add_cell(width: usize, size: usize, disk: usize, row: usize, cell: usize, col
     if row == other {
         return;
     }
-    xor::add_one_within(column, row * size, size, other * size);
+    within::add_one_within(column, row * size, size, other * size);
 }
 
 // The set's other cells on the lost disk, which earlier steps have rebuilt, are added to the cell of this row.
@@ -75,7 +52,7 @@ fn add_lost(
     }
 }
 
-// One step: the lost disk's cell of this row becomes the XOR of the set's other cells. The surviving ones come from the stripe, the others from the column.
+// One step: the lost disk's cell of this row becomes the XOR of the set's other cells. The surviving ones come from the stripe, the others from the column. Where all cells but one survive, there are no others.
 fn rebuild_cell(
     width: usize,
     size: usize,
@@ -86,25 +63,27 @@ fn rebuild_cell(
     stripe: &[u8],
     column: &mut [u8],
 )
-    requires { ⌜ Ready width size disk row number (now stripe) (now column) ⌝ }
+    requires { ⌜ Ready width size disk row kind number (now stripe) (now column) ⌝ }
     ensures { λ _. ⌜ withColumn width size disk (now (column .exit)) (now (stripe .entry)) ≡ solved size (place width row disk) (setOf width width kind number) (withColumn width size disk (now (column .entry)) (now (stripe .entry))) ⌝ }
 {
-    let sources = surviving(width, size, disk, kind, number);
+    let sources = stripes::surviving(width, size, disk, disk, kind, number);
     let start = row * size;
     let end = start + size;
     xor::gather(&mut column[start..end], stripe, sources);
-    add_lost(width, size, disk, row, kind, number, column);
+    if sources.count + 1 < sets::set_size(width, width, kind, number) {
+        add_lost(width, size, disk, row, kind, number, column);
+    }
 }
 
 // The steps of our plan, in order.
-fn follow(width: usize, size: usize, disk: usize, plan: Plan, stripe: &[u8], column: &mut [u8])
-    requires { ⌜ Ours width disk plan × (size ≤ 4096) ⌝ }
+fn follow(width: usize, size: usize, disk: usize, steps: Steps, stripe: &[u8], column: &mut [u8])
+    requires { ⌜ Ours width disk steps × (size ≤ 4096) ⌝ }
     requires { ⌜ (length (now stripe) ≡ stripeLong width width size) × (length (now column) ≡ width * size) ⌝ }
     ensures { λ _. ⌜ now (column .exit) ≡ rebuilt width width size disk (now (stripe .entry)) ⌝ }
 {
-    let rows = plan.rows;
-    let kinds = plan.kinds;
-    let numbers = plan.sets;
+    let rows = steps.rows;
+    let kinds = steps.kinds;
+    let numbers = steps.sets;
     let mut i = 0;
     while i < width {
         let row = rows[i] as usize;
@@ -146,7 +125,8 @@ pub fn rebuild_one(
     if fault != 0 {
         return sets::answered(fault);
     }
-    let plan = planner::plan_disk(width, disk);
-    follow(width, size, disk, plan, stripe, column);
+    let plan = planner::our_plan(width, disk);
+    let steps = plan.steps;
+    follow(width, size, disk, steps, stripe, column);
     sets::answered(0)
 }

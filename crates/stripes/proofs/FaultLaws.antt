@@ -11,21 +11,27 @@ use borrow.Author.Tests.{ne-eqb, eq-eqb, ltb-false, eqb-true, not-false}
 use Rattle.laws.specs.Choice.{pick, when, firstOf}
 use Rattle.laws.specs.Sums.{allTo}
 use Rattle.laws.proofs.Flags.{or-false-r}
-use Rattle.laws.proofs.ChoiceLaws.{first-none, when-none}
-use Rattle.liberation.specs.Sets.{isWidth, widthFault, longFault, sizeFault}
+use Rattle.laws.proofs.ChoiceLaws.{first-none, first-kept, first-assoc, when-none}
+use Rattle.liberation.specs.Sets.{isWidth, widthFault, longFault, sizeFault, numbersFault}
 use Rattle.liberation.specs.Plans.{Step, allOf}
 use Rattle.liberation.proofs.Widths.{width-most}
+use Rattle.liberation.proofs.FaultLaws.{numbers-first}
 use Rattle.liberation.proofs.ParityPlans.{plan-row-parity, plan-diagonal-parity}
 use Rattle.sets.specs.declared.Answer.{Answer}
 use Rattle.parity.specs.Stripes.{stripeLong, encoded, followed, clean, setClean}
 use Rattle.stripes.specs.Cells.{Sized}
 use Rattle.stripes.specs.Says.{stripeFault, EncodeSays, CheckSays}
 
--- the refusal from the four tests
-pub fault-is : (p s n : ℕ) (a b d e : Bool) → isWidth p ≡ a → eqb s 0 ≡ b → ltb 4096 s ≡ d → eqb n (stripeLong p p s) ≡ e → firstOf (widthFault p) (firstOf (sizeFault s) (when (not (eqb n (stripeLong p p s))) 5)) ≡ firstOf (when (not a) 1) (firstOf (when (b || d) 2) (when (not e) 5))
-fault-is p s n a b d e ea eb ed ee =
-    ap₂ (λ (x y : Bool). firstOf (when (not x) 1) (firstOf (when (y || ltb 4096 s) 2) (when (not (eqb n (stripeLong p p s))) 5))) ea eb
-    ∙ ap₂ (λ (x y : Bool). firstOf (when (not a) 1) (firstOf (when (b || x) 2) (when (not y) 5))) ed ee
+-- the refusal from the test of the length, where the numbers are accepted
+pub fault-is : (p s n : ℕ) (e : Bool) → numbersFault p p s 0 ≡ 0 → eqb n (stripeLong p p s) ≡ e → when (not e) 5 ≡ firstOf (widthFault p) (firstOf (sizeFault s) (when (not (eqb n (stripeLong p p s))) 5))
+fault-is p s n e z q =
+    sym
+    (sym (first-assoc (widthFault p) (sizeFault s) (when (not (eqb n (stripeLong p p s))) 5))
+    ∙ ap₂ (λ (a : ℕ) (b : Bool). firstOf a (when (not b) 5)) (sym (numbers-first p p s) ∙ z) q)
+
+-- and where they are not
+pub fault-first : (p s n m : ℕ) → m ≡ numbersFault p p s 0 → (m ≡ 0 → ⊥) → m ≡ firstOf (widthFault p) (firstOf (sizeFault s) (when (not (eqb n (stripeLong p p s))) 5))
+fault-first p s n m e z = first-kept m (firstOf (widthFault p) (sizeFault s)) (when (not (eqb n (stripeLong p p s))) 5) (e ∙ numbers-first p p s) z ∙ first-assoc (widthFault p) (sizeFault s) (when (not (eqb n (stripeLong p p s))) 5)
 
 -- a stripe within the limits has few enough bytes to count
 pub bytes-most : (p s : ℕ) → p ≤ 31 → s ≤ 4096 → (p * s ≤ 126976) × ((p + 2) * (p * s) ≤ 4190208)

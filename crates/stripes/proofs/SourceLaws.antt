@@ -1,14 +1,13 @@
--- Cells as sources: sources are added one by one, their XOR as parts of the stripe is the XOR of the cells, and other cells lie apart.
+-- Cells as sources: which cells of a set they are, that their XOR as parts of the stripe is the XOR of the cells, and that they lie in the stripe, apart from the cell left out.
 use mathlib.Core.Path.{_≡_, refl, sym, ap, ap₂, _∙_}
 use mathlib.Core.Bool.{Bool, true, false, true≢false}
 use mathlib.Core.Logic.{inl, inr, ⊎-elim}
-use mathlib.Core.List.{List, [], _∷_, _++_, append-assoc, append-nil}
+use mathlib.Core.List.{List, [], _∷_, _++_}
 use Prim.Native.Nat.{ℕ, zero, suc, _+_, _*_, _≤_, _<_}
-use native.Mathlib.Numerals.{add-one}
 use native.Mathlib.Omega.{arith}
 use lib.Dec.{eqb, ltb}
-use lib.ListN.{length, getD, take, drop, set, replicate, drop-of-length-le}
-use lib.Seq.{drop-cons, take-suc-set, getD-take, length-take-le, take-at}
+use lib.ListN.{length, getD, take, replicate}
+use lib.Seq.{getD-take, length-take-le, take-at}
 use borrow.Author.Tests.{eq-eqb, ne-eqb, ltb-true}
 use Rattle.laws.specs.Choice.{pick}
 use Rattle.laws.specs.Lists.{allBelow, same}
@@ -24,31 +23,23 @@ use Rattle.xor.specs.declared.Sources.{Sources}
 use Rattle.xor.specs.Parts.{withPart, xorOffsets, Apart}
 use Rattle.xor.specs.Reach.{offsets, Inside, Beside}
 use Rattle.stripes.specs.Cells.{scaled, Others}
+use Rattle.stripes.proofs.CollectLaws.{Keeps}
 
-scaled-append : (s : ℕ) (xs ys : List ℕ) → scaled s (xs ++ ys) ≡ scaled s xs ++ scaled s ys
-unfolding scaled
-scaled-append s [] ys = refl
-scaled-append s (x ∷ xs) ys = ap (λ (l : List ℕ). x * s ∷ l) (scaled-append s xs ys)
-
-pub length-scaled : (s : ℕ) (xs : List ℕ) → length (scaled s xs) ≡ length xs
+length-scaled : (s : ℕ) (xs : List ℕ) → length (scaled s xs) ≡ length xs
 unfolding scaled
 length-scaled s [] = refl
 length-scaled s (x ∷ xs) = ap suc (length-scaled s xs)
 
-pub scaled-at : (s i : ℕ) (xs : List ℕ) → i < length xs → getD (scaled s xs) i 0 ≡ getD xs i 0 * s
+scaled-at : (s i : ℕ) (xs : List ℕ) → i < length xs → getD (scaled s xs) i 0 ≡ getD xs i 0 * s
 unfolding scaled
 scaled-at s i [] h = absurd (omega arith)
 scaled-at s zero (x ∷ xs) h = refl
 scaled-at s (suc i) (x ∷ xs) h = scaled-at s i xs (omega arith)
 
--- the first cell, then the others
-without-first : (x y : ℕ) (ys : List ℕ) → without x (y ∷ ys) ≡ without x (y ∷ []) ++ without x ys
+-- the cells but x are those that are not x
+pub others-kept : (x : ℕ) → Keeps (λ y. eqb x y) (without x)
 unfolding without
-without-first x y ys = go (eqb x y)
-  where
-    go : (b : Bool) → pick b (without x ys) (y ∷ without x ys) ≡ pick b [] (y ∷ []) ++ without x ys
-    go true = refl
-    go false = refl
+others-kept x = record { none = refl; next = λ y ys. refl }
 
 -- cells below n lack n
 pub without-none : (n : ℕ) (xs : List ℕ) → allBelow n xs ≡ true → without n xs ≡ xs
@@ -78,36 +69,6 @@ without-at x i (y ∷ ys) h e = go (eqb x y) refl i h e (λ j. without-at x j ys
     go false q zero l w rest = let z : _≡_ {A = Bool} true false = sym (eq-eqb x y (sym w)) ∙ q in absurd (true≢false z)
     go false q (suc j) l w rest = rest j (omega arith) w
 
--- one source more, or none
-pub one-more : (s x y n : ℕ) (at : List ℕ) → n < length at → (y ≡ x → ⊥) → take (n + 1) (set at n (y * s)) ≡ take n at ++ scaled s (without x (y ∷ []))
-unfolding scaled without
-one-more s x y n at h e =
-    ap (λ (m : ℕ). take m (set at n (y * s))) (add-one n)
-    ∙ take-suc-set at n (y * s) h
-    ∙ sym (ap (λ (b : Bool). take n at ++ scaled s (pick b [] (y ∷ []))) (ne-eqb x y (λ q. e (sym q))))
-
-pub none-more : (s x y n : ℕ) (at : List ℕ) → y ≡ x → take n at ≡ take n at ++ scaled s (without x (y ∷ []))
-unfolding scaled without
-none-more s x y n at e =
-    sym (ap (λ (b : Bool). take n at ++ scaled s (pick b [] (y ∷ []))) (eq-eqb x y (sym e)) ∙ append-nil (take n at))
-
--- The sources so far, with those of the cells from i on, are all.
-abbrev pub Gathered : ℕ → ℕ → List ℕ → ℕ → List ℕ → Type 0
-Gathered s x xs i so = so ++ scaled s (without x (drop i xs)) ≡ scaled s (without x xs)
-
-pub gathered-turn : (s x i y : ℕ) (xs so more : List ℕ) → i < length xs → y ≡ getD xs i 0 → more ≡ so ++ scaled s (without x (y ∷ [])) → Gathered s x xs i so → Gathered s x xs (i + 1) more
-gathered-turn s x i y xs so more h e q k =
-    let next : List ℕ = without x (drop (i + 1) xs) in
-    let cut : drop i xs ≡ y ∷ drop (i + 1) xs = drop-cons xs i 0 h ∙ ap₂ (λ (a m : ℕ). a ∷ drop m xs) (sym e) (sym (add-one i)) in
-    ap (λ (l : List ℕ). l ++ scaled s next) q
-    ∙ append-assoc so (scaled s (without x (y ∷ []))) (scaled s next)
-    ∙ ap (λ (l : List ℕ). so ++ l) (sym (scaled-append s (without x (y ∷ [])) next) ∙ ap (scaled s) (sym (without-first x y (drop (i + 1) xs)) ∙ ap (without x) (sym cut)))
-    ∙ k
-
-pub gathered-end : (s x i : ℕ) (xs so : List ℕ) → length xs ≤ i → Gathered s x xs i so → so ≡ scaled s (without x xs)
-unfolding scaled without
-gathered-end s x i xs so h k = sym (append-nil so) ∙ sym (ap (λ (l : List ℕ). so ++ scaled s (without x l)) (drop-of-length-le xs h)) ∙ k
-
 -- the XOR of the parts at the cells' offsets is that of the cells
 pub over-offsets : (s : ℕ) (t xs : List ℕ) → xorOffsets s t (scaled s xs) ≡ xorOver s (cellAt s t) xs
 unfolding xorOffsets xorOver scaled
@@ -122,28 +83,28 @@ sum-looked s n t at sum other r e long q k =
     ∙ ap (λ (m : ℕ). same sum (replicate m 0)) long
     ∙ ap (λ (l : List ℕ). same l (replicate s 0)) (q ∙ ap (λ (m : ℕ). xorOffsets m t at) e)
 
--- sources that are the cells of xs but x, xs within the n cells of a stripe
-module _ (s x n count : ℕ) (xs at : List ℕ) (within : allBelow n xs ≡ true) (few : count ≤ length at) (e : take count at ≡ scaled s (without x xs)) where
-  counted : count ≡ length (without x xs)
-  counted = sym (length-take-le count at few) ∙ ap length e ∙ length-scaled s (without x xs)
+-- sources that are these cells, of the n cells of a stripe
+module _ (s n count : ℕ) (cells at : List ℕ) (within : allBelow n cells ≡ true) (few : count ≤ length at) (e : take count at ≡ scaled s cells) where
+  pub counted : count ≡ length cells
+  counted = sym (length-take-le count at few) ∙ ap length e ∙ length-scaled s cells
 
-  source-at : (i : ℕ) → i < count → getD at i 0 ≡ getD (without x xs) i 0 * s
-  source-at i h = sym (getD-take count at i 0 h) ∙ ap (λ (l : List ℕ). getD l i 0) e ∙ scaled-at s i (without x xs) (omega (arith, counted))
+  source-at : (i : ℕ) → i < count → getD at i 0 ≡ getD cells i 0 * s
+  source-at i h = sym (getD-take count at i 0 h) ∙ ap (λ (l : List ℕ). getD l i 0) e ∙ scaled-at s i cells (omega (arith, counted))
 
   -- they lie in the stripe
   pub source-inside : (i : ℕ) → i < count → getD at i 0 + s ≤ n * s
   source-inside i h =
-      let l : getD (without x xs) i 0 < n = below-at n i (without x xs) (without-below n x xs within) (omega (arith, counted)) in
-      omega (arith, source-at i h, cell-fits n s (getD (without x xs) i 0) l)
+      let l : getD cells i 0 < n = below-at n i cells within (omega (arith, counted)) in
+      omega (arith, source-at i h, cell-fits n s (getD cells i 0) l)
 
-  -- and apart from x
-  pub source-apart : (i : ℕ) → i < count → Apart (x * s) (getD at i 0) s
-  source-apart i h =
+  -- and apart from a cell that is none of them
+  pub source-apart : (x : ℕ) → ((i : ℕ) → i < length cells → getD cells i 0 ≡ x → ⊥) → (i : ℕ) → i < count → Apart (x * s) (getD at i 0) s
+  source-apart x none i h =
       apart
-      (getD (without x xs) i 0)
+      (getD cells i 0)
       (getD at i 0)
       (source-at i h)
-      (without-at x i xs (omega (arith, counted)))
+      (none i (omega (arith, counted)))
     where
       apart : (y a : ℕ) → a ≡ y * s → (y ≡ x → ⊥) → Apart (x * s) a s
       apart y a q n = ⊎-elim (λ l. inl (omega (arith, cell-fits x s y l))) (λ l. inr (omega (arith, cell-fits y s x (after l)))) (lt-or-le y x)
@@ -153,11 +114,14 @@ module _ (s x n count : ℕ) (xs at : List ℕ) (within : allBelow n xs ≡ true
 
 -- the cells of set i but x, in a stripe of p rows and k data disks
 module _ (p k s x kind i : ℕ) (t : List ℕ) (src : Sources) (places : length (src .at) ≡ 33) (numbered : i < p) (long : length t ≡ stripeLong p k s) (others : Others s x (setOf p k kind i) src) where
+  below : allBelow (p * (k + 2)) (without x (setOf p k kind i)) ≡ true
+  below = without-below (p * (k + 2)) x (setOf p k kind i) (set-below p k kind i numbered)
+
   pub others-inside : Inside s (length t) src
   others-inside =
       record {
         few = others .few;
-        inside = λ j h. omega (arith, source-inside s x (p * (k + 2)) (src .count) (setOf p k kind i) (src .at) (set-below p k kind i numbered) (omega (arith, others .few)) (others .places) j h);
+        inside = λ j h. omega (arith, source-inside s (p * (k + 2)) (src .count) (without x (setOf p k kind i)) (src .at) below (omega (arith, others .few)) (others .places) j h);
       }
 
   pub others-beside : x < p * (k + 2) → Beside (x * s) s (length t) src
@@ -165,7 +129,7 @@ module _ (p k s x kind i : ℕ) (t : List ℕ) (src : Sources) (places : length 
       record {
         sources = others-inside;
         fits = omega (arith, cell-fits (p * (k + 2)) s x l);
-        apart = source-apart s x (p * (k + 2)) (src .count) (setOf p k kind i) (src .at) (set-below p k kind i numbered) (omega (arith, others .few)) (others .places);
+        apart = source-apart s (p * (k + 2)) (src .count) (without x (setOf p k kind i)) (src .at) below (omega (arith, others .few)) (others .places) x (λ j. without-at x j (setOf p k kind i));
       }
 
   -- their XOR put at x is the set's step

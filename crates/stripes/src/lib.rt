@@ -1,20 +1,19 @@
 // Encoding a stripe, which writes P and Q, and checking whether a stripe is clean.
 ghost use mathlib.Core.Path.{_≡_};
-ghost use mathlib.Core.Bool.{not};
-ghost use mathlib.Core.List.{[], _∷_, _++_};
+ghost use mathlib.Core.Bool.{_||_, not};
 ghost use Prim.Native.Nat.{_+_, _*_, _≤_, _<_};
 ghost use lib.Dec.{eqb};
 ghost use lib.ListN.{length, replicate};
 ghost use Rattle.laws.specs.Choice.{firstOf, when};
 ghost use Rattle.laws.specs.Lists.{same};
 ghost use Rattle.laws.specs.Sums.{allTo};
-ghost use Rattle.liberation.specs.Sets.{setOf, widthFault, sizeFault};
+ghost use Rattle.liberation.specs.Sets.{diskAt, setOf, widthFault, sizeFault};
 ghost use Rattle.liberation.specs.Plans.{allOf};
 ghost use Rattle.sets.specs.Limits.{Within};
-ghost use Rattle.parity.specs.Stripes.{without, solved, followed, setClean, stripeLong};
+ghost use Rattle.parity.specs.Stripes.{solved, followed, setClean, stripeLong};
 ghost use Rattle.xor.specs.Parts.{xorOffsets};
 ghost use Rattle.xor.specs.Reach.{offsets, Inside};
-ghost use Rattle.stripes.specs.Cells.{scaled, Others, Sized};
+ghost use Rattle.stripes.specs.Cells.{Others, Surviving, Sized};
 ghost use Rattle.stripes.specs.Says.{EncodeSays, CheckSays};
 use sets::Answer;
 use xor::Sources;
@@ -25,31 +24,6 @@ pub struct Checked {
     pub number: u8,
     pub place: u32,
     pub clean: bool,
-}
-
-// No sources yet.
-fn no_sources() -> Sources
-    ensures { λ r. ⌜ r .count ≡ 0 ⌝ }
-{
-    Sources {
-        at: [0; 33],
-        count: 0,
-    }
-}
-
-// One source more: the cell at place `x`, unless that is `cell`.
-fn with_other(src: Sources, size: usize, cell: usize, x: usize) -> Sources
-    requires { ⌜ (src .count < 33) × (size ≤ 4096) × (x < 1100) ⌝ }
-    ensures { λ r. ⌜ (r .count ≤ src .count + 1) × (offsets r ≡ offsets src ++ scaled size (without cell (x ∷ []))) ⌝ }
-{
-    if x == cell {
-        return src;
-    }
-    let at = src.count;
-    let mut n = src;
-    n.at[at] = x * size;
-    n.count = at + 1;
-    n
 }
 
 // The cells of a set but `cell`, as sources.
@@ -66,14 +40,74 @@ fn other_cells(
     ensures { λ r. ⌜ Others size cell (setOf width disks kind number) r ⌝ }
 {
     let n = sets::set_size(width, disks, kind, number);
-    let mut src = no_sources();
+    let mut at: [usize; 33] = [0; 33];
+    let mut count = 0;
     let mut i = 0;
     while i < n {
         let x = sets::set_cell(width, disks, kind, number, i);
-        src = with_other(src, size, cell, x);
+        if x != cell {
+            at[count] = x * size;
+            count += 1;
+        }
         i += 1;
     }
-    src
+    Sources {
+        at: at,
+        count: count,
+    }
+}
+
+// Is a cell on a disk? It is if it lies within the disk's cells, from the first one on: no division for each cell.
+fn is_on(width: usize, disk: usize, cell: usize) -> bool
+    requires { ⌜ (0 < width) × (width ≤ 31) × (disk ≤ 32) ⌝ }
+    ensures { λ r. ⌜ r ≡ eqb (diskAt width cell) disk ⌝ }
+{
+    let first = disk * width;
+    if cell < first {
+        return false;
+    }
+    cell - first < width
+}
+
+// Is a cell on one of two disks?
+fn is_on_either(width: usize, x: usize, y: usize, cell: usize) -> bool
+    requires { ⌜ (0 < width) × (width ≤ 31) × (x ≤ 32) × (y ≤ 32) ⌝ }
+    ensures { λ r. ⌜ r ≡ (eqb (diskAt width cell) x || eqb (diskAt width cell) y) ⌝ }
+{
+    if is_on(width, x, cell) {
+        return true;
+    }
+    is_on(width, y, cell)
+}
+
+// The cells of a set that are on neither of two lost disks, as sources. For one lost disk both are that disk.
+pub fn surviving(
+    width: usize,
+    size: usize,
+    x: usize,
+    y: usize,
+    kind: usize,
+    number: usize,
+) -> Sources
+    requires { ⌜ Within width width number × (size ≤ 4096) × (x ≤ 32) × (y ≤ 32) ⌝ }
+    ensures { λ r. ⌜ Surviving width size x y kind number r ⌝ }
+{
+    let cells = sets::set_size(width, width, kind, number);
+    let mut at: [usize; 33] = [0; 33];
+    let mut count = 0;
+    let mut i = 0;
+    while i < cells {
+        let cell = sets::set_cell(width, width, kind, number, i);
+        if !is_on_either(width, x, y, cell) {
+            at[count] = cell * size;
+            count += 1;
+        }
+        i += 1;
+    }
+    Sources {
+        at: at,
+        count: count,
+    }
 }
 
 // The cell becomes the XOR of the other cells of a set.
@@ -91,7 +125,7 @@ pub fn solve(
     ensures { λ _. ⌜ now (stripe .exit) ≡ solved size cell (setOf width disks kind number) (now (stripe .entry)) ⌝ }
 {
     let src = other_cells(width, disks, size, kind, number, cell);
-    xor::gather_within(stripe, cell * size, size, src);
+    within::gather_within(stripe, cell * size, size, src);
 }
 
 // Writes the parity cells of one kind, each by its set.
@@ -156,14 +190,9 @@ fn kind_is_clean(width: usize, size: usize, kind: usize, stripe: &[u8]) -> bool
 fn stripe_fault(width: usize, size: usize, long: usize) -> u8
     ensures { λ r. ⌜ r ≡ firstOf (widthFault width) (firstOf (sizeFault size) (when (not (eqb long (stripeLong width width size))) 5)) ⌝ }
 {
-    if !sets::is_width(width) {
-        return 1;
-    }
-    if size == 0 {
-        return 2;
-    }
-    if 4096 < size {
-        return 2;
+    let fault = sets::numbers_fault(width, size, 0);
+    if fault != 0 {
+        return fault;
     }
     if long != (width + 2) * (width * size) {
         return 5;

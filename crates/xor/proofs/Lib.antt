@@ -3,4 +3,3 @@ pub mod StoreLaws
 pub mod PartLaws
 pub mod ZeroLaws
 pub mod SourceLaws
-pub mod WithinLaws

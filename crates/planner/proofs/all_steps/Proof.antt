@@ -1,5 +1,5 @@
 -- `all_steps`: each turn adds the next set of the kind. The invariant: the steps so far, with those still to come, are all.
-use mathlib.Core.Path.{_≡_, refl, ap}
+use mathlib.Core.Path.{_≡_, ap}
 use Prim.Native.Nat.{ℕ, _+_, _-_, _≤_}
 use native.Mathlib.Omega.{arith}
 use Rattle.liberation.specs.Plans.{step, allOf}

@@ -2,10 +2,10 @@
 use mathlib.Core.Path.{_≡_, refl, sym, _∙_}
 use mathlib.Core.List.{_++_}
 use mathlib.Core.Logic.{⊎-elim}
-use Prim.Native.Nat.{ℕ, _+_, _-_, _≤_, _<_}
+use Prim.Native.Nat.{_+_, _-_, _≤_, _<_}
 use native.Mathlib.Nat.{mod-lt}
 use native.Mathlib.Omega.{arith}
-use lib.ListN.{length, getD, take, drop, length-append}
+use lib.ListN.{length, take, drop, length-append}
 use lib.Seq.{length-take-le, getD-take}
 use Rattle.liberation.specs.Plans.{step, diagonalOf, rowSteps, diagonalSteps}
 use Rattle.planner.proofs.StepLaws.{Collected, collect-push, collect-skip, collect-end, collect-room, diagonal-some, diagonal-none, diagonal-last, length-rows}

@@ -1,5 +1,5 @@
 -- `mark_steps`: each turn marks the set of the next step. The invariant: the marks stand for the cells read so far, and with the steps still to come they give all that the plan reads.
-use mathlib.Core.Path.{_≡_, refl, sym, ap, _∙_}
+use mathlib.Core.Path.{_≡_, refl, ap, _∙_}
 use mathlib.Core.List.{List, []}
 use Prim.Native.Nat.{ℕ, _+_, _-_, _*_, _≤_, _<_}
 use native.Mathlib.Nat.{mul-le-mul}

@@ -1,4 +1,3 @@
-use borrow.Author.Needs.{needs}
 -- `our_plan`: a data disk takes its routes' steps, P all row sets, Q all diagonals.
 use native.Mathlib.Omega.{arith}
 use Rattle.liberation.proofs.Widths.{width-most}

@@ -9,7 +9,7 @@ use Rattle.liberation.specs.Plans.{planOf}
 use Rattle.liberation.proofs.Widths.{width-most}
 use Rattle.planner.proofs.ReadingLaws.{StepAt, step-at, plan-length, plan-number}
 use Rattle.xor.proofs.SourceLaws.{bytes-all}
-use Rattle.rebuild.proofs.FollowLaws.{Stepping, stepping-start, stepping-turn, stepping-end, plan-row}
+use Rattle.rebuild.proofs.FollowLaws.{Stepping, stepping-start, stepping-turn, stepping-end, plan-passed}
 use Rattle.rebuild.proofs.follow.Statement.{statement}
 use Rattle.rebuild.proofs.follow.Tie as tie
 
@@ -28,15 +28,15 @@ this c =
     let z = c .before .before .before .before .before .before .before in
     step-at _ _ (omega (arith, plan-length (z .args .width) (z .args .disk) (z .pre .0 .0 .width) (z .pre .0 .0 .disk)))
 
--- and where the record has it
-row : (c : tie.In-loop Inv-loop μ-loop) → getD (c .before .before .before .before .before .before .before .args .plan .rows) (c .before .loop .i) 0 ≡ this c .this .row
-row c = ap (λ (x : List ℕ). getD x (c .before .loop .i) 0) (c .before .before .before .before .before .before .before .pre .0 .0 .rows) ∙ this c .held (λ s. s .row)
+-- and where the arrays have it
+row : (c : tie.In-loop Inv-loop μ-loop) → getD (c .before .before .before .before .before .before .before .args .steps .rows) (c .before .loop .i) 0 ≡ this c .this .row
+row c = ap (λ (x : List ℕ). getD x (c .before .loop .i) 0) (c .before .before .before .before .before .before .before .pre .0 .0 .held .rows) ∙ this c .held (λ s. s .row)
 
-kind : (c : tie.In-loop Inv-loop μ-loop) → getD (c .before .before .before .before .before .before .before .args .plan .kinds) (c .before .loop .i) 0 ≡ this c .this .kind
-kind c = ap (λ (x : List ℕ). getD x (c .before .loop .i) 0) (c .before .before .before .before .before .before .before .pre .0 .0 .kinds) ∙ this c .held (λ s. s .kind)
+kind : (c : tie.In-loop Inv-loop μ-loop) → getD (c .before .before .before .before .before .before .before .args .steps .kinds) (c .before .loop .i) 0 ≡ this c .this .kind
+kind c = ap (λ (x : List ℕ). getD x (c .before .loop .i) 0) (c .before .before .before .before .before .before .before .pre .0 .0 .held .kinds) ∙ this c .held (λ s. s .kind)
 
-number : (c : tie.In-loop Inv-loop μ-loop) → getD (c .before .before .before .before .before .before .before .args .plan .sets) (c .before .loop .i) 0 ≡ this c .this .number
-number c = ap (λ (x : List ℕ). getD x (c .before .loop .i) 0) (c .before .before .before .before .before .before .before .pre .0 .0 .sets) ∙ this c .held (λ s. s .number)
+number : (c : tie.In-loop Inv-loop μ-loop) → getD (c .before .before .before .before .before .before .before .args .steps .sets) (c .before .loop .i) 0 ≡ this c .this .number
+number c = ap (λ (x : List ℕ). getD x (c .before .loop .i) 0) (c .before .before .before .before .before .before .before .pre .0 .0 .held .sets) ∙ this c .held (λ s. s .number)
 
 loop-holds : tie.Need-loop-holds Inv-loop μ-loop
 loop-holds c = stepping-start _ _ _ _ _ (c .before .before .before .before .before .pre .1 .1)
@@ -66,9 +66,11 @@ rebuild-cell-requires c κs =
     let a = z .args in
     let w = z .pre .0 .0 .width in
     let d = z .pre .0 .0 .disk in
+    let passed = plan-passed (a .width) (a .disk) (t .before .loop .i) w d (this t) (t .loop-test .taken) in
     record {
       within = record { widest = small t; disks = omega arith; numbered = omega (arith, number t, plan-number (a .width) (a .disk) (t .before .loop .i) w d (this t) (t .loop-test .taken)) };
-      rows = omega (arith, row t, plan-row (a .width) (a .disk) (t .before .loop .i) w d (this t) (t .loop-test .taken));
+      rows = omega (arith, row t, passed .0);
+      own = rw (row t, kind t, number t) (passed .1);
       disk = d;
       size = z .pre .0 .1;
       stripe = z .pre .1 .0;

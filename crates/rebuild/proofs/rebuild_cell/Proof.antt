@@ -1,10 +1,9 @@
--- `rebuild_cell`: the surviving cells are gathered into the row's part of the column, then the other lost cells are added. Both together are the step.
+-- `rebuild_cell`: the surviving cells are gathered into the row's part of the column, then the other lost cells are added. Both together are the step. Where the survivors are all cells but one, that one is the row's own, and none is left to add.
 use mathlib.Core.Path.{_≡_}
 use Prim.Native.Nat.{_+_, _-_, _*_, _≤_}
 use native.Mathlib.Omega.{arith}
 use lib.ListN.{length}
-use borrow.Rule.Slice.PartMut.{putMid}
-use Rattle.rebuild.proofs.StepLaws.{row-fits, sources-fit, gathered, step-done}
+use Rattle.rebuild.proofs.StepLaws.{row-fits, sources-fit, step-done, step-alone}
 use borrow.Author.Needs.{needs}
 use Rattle.rebuild.proofs.rebuild_cell.Statement.{statement}
 use Rattle.rebuild.proofs.rebuild_cell.Tie as tie
@@ -41,6 +40,12 @@ gather-requires c κs =
     let a = z .args in
     sources-fit (a .width) (a .size) (a .disk) (a .row) (a .kind) (a .number) (a .stripe .now) (a .column .now) (z .pre) (c .before .surviving .result) (long (c .before)) (c .before .surviving .ensures)
 
+add-if1 : tie.Need-add-if1
+add-if1 c = search needs
+
+set-size-requires : tie.Need-set-size-requires
+set-size-requires c κs = search needs
+
 add-lost-requires : tie.Need-add-lost-requires
 add-lost-requires c κs = search needs
 
@@ -49,16 +54,25 @@ same-length c = search needs
 
 returns : tie.Need-returns
 returns c =
-    let g = c .before .before .before .before .before .before in
+    let m = c .before .before in
+    let g = m .before .before .before .before .before .before .before in
     let v = g .before .before in
     let z = v .before .before .before in
     let a = z .args in
-    let ys = g .gather .last .0 in
-    let last = c .before .before .add-lost .last .1 .1 .1 .1 .1 .1 .0 in
-    step-done (a .width) (a .size) (a .disk) (a .row) (a .kind) (a .number) (a .stripe .now) (a .column .now) (z .pre)
-    (putMid (a .row * a .size) (a .row * a .size + a .size - a .row * a .size) (a .column .now) ys) last
-    (gathered (a .width) (a .size) (a .disk) (a .row) (a .kind) (a .number) (a .stripe .now) (a .column .now) (z .pre) (v .surviving .result) ys (v .surviving .ensures) (g .gather .ensures))
-    (c .before .before .add-lost .ensures)
+    step-done (a .width) (a .size) (a .disk) (a .row) (a .kind) (a .number) (a .stripe .now) (a .column .now) (z .pre) (v .surviving .result) (g .gather .last .0) (v .surviving .ensures) (g .gather .ensures)
+    (m .add-lost .last .1 .1 .1 .1 .1 .1 .0) (m .add-lost .ensures)
+
+same-length-2 : tie.Need-same-length-2
+same-length-2 c = search needs
+
+returns-2 : tie.Need-returns-2
+returns-2 c =
+    let g = c .before .before .before .before .before in
+    let v = g .before .before in
+    let z = v .before .before .before in
+    let a = z .args in
+    step-alone (a .width) (a .size) (a .disk) (a .row) (a .kind) (a .number) (a .stripe .now) (a .column .now) (z .pre) (v .surviving .result) (g .gather .last .0) (v .surviving .ensures) (g .gather .ensures)
+    (long v) (omega (arith, c .before .set-size .ensures))
 
 pub rebuild-cell-spec : {M : Type 1} → statement M
 rebuild-cell-spec =
@@ -71,6 +85,10 @@ rebuild-cell-spec =
     part-gather-start
     part-gather-end
     gather-requires
+    add-if1
+    set-size-requires
     add-lost-requires
     same-length
-    returns)
+    returns
+    same-length-2
+    returns-2)

@@ -1,74 +1,84 @@
--- `other_cells`: the cells of the set come one by one. The invariant: the sources so far, with those of the cells still to come, are all.
-use mathlib.Core.Path.{_≡_, ap}
-use mathlib.Core.List.{_++_}
-use Prim.Native.Nat.{ℕ, _+_, _-_, _*_, _≤_}
-use native.Mathlib.Nat.{mul-le-mul}
+-- `other_cells`: the cells of the set come one by one, and the offset of each but `cell` is put into the array. The invariant: what is collected, with the cells still to come, gives the offsets of the whole set.
+use mathlib.Core.Path.{_≡_, refl, sym}
+use mathlib.Core.Logic.{inl, inr, ⊎-elim}
+use Prim.Native.Nat.{_-_, _*_, _≤_, _<_}
 use native.Mathlib.Omega.{arith}
-use lib.ListN.{length, take}
+use lib.Dec.{eqb}
+use lib.ListN.{length}
 use borrow.Author.Needs.{needs}
-use Rattle.laws.proofs.ListLaws.{below-at}
+use borrow.Author.Tests.{eq-eqb, ne-eqb}
 use Rattle.liberation.specs.Sets.{setOf}
-use Rattle.liberation.proofs.SetLaws.{set-below}
-use Rattle.sets.proofs.SizeLaws.{size-most}
 use Rattle.parity.specs.Stripes.{without}
-use Rattle.xor.specs.Reach.{offsets}
-use Rattle.stripes.specs.Cells.{scaled}
-use Rattle.stripes.proofs.SourceLaws.{Gathered, gathered-turn, gathered-end}
+use Rattle.stripes.proofs.CollectLaws.{Collected, collected-start, collected-turn, collected-end, cells-few, cell-small}
+use Rattle.stripes.proofs.SourceLaws.{others-kept}
 use Rattle.stripes.proofs.other_cells.Statement.{statement}
 use Rattle.stripes.proofs.other_cells.Tie as tie
 
 abbrev Inv-loop : tie.InvT-loop
-Inv-loop width disks size kind number cell n src₀ i₀ src i =
-    (n ≡ length (setOf width disks kind number)) × (i ≤ n) × (src .count ≤ i) × Gathered size cell (setOf width disks kind number) i (offsets src)
+Inv-loop width disks size kind number cell n at₀ count₀ i₀ at count i = (n ≡ length (setOf width disks kind number)) × Collected size (without cell) (setOf width disks kind number) at count i
 
 abbrev μ-loop : tie.MeasureT-loop
-μ-loop width disks size kind number cell n src₀ i₀ src i = n - i
+μ-loop width disks size kind number cell n at₀ count₀ i₀ at count i = n - i
+
+-- the array has room for the cell of this turn, and its offset is a small number
+small : (c : tie.After-set-cell Inv-loop μ-loop) → let l = c .before .before .loop in (l .count ≤ l .i) × (l .i < 33) × (c .set-cell .result * c .before .before .before .before .args .size ≤ 1023 * 4096)
+small c =
+    let z = c .before .before .before .before in
+    let a = z .args in
+    let l = c .before .before .loop in
+    let h : l .i < length (setOf (a .width) (a .disks) (a .kind) (a .number)) = omega (arith, l .inv .0) in (
+      l .inv .1 .few,
+      omega (arith, cells-few (a .width) (a .disks) (a .kind) (a .number) (z .pre .0)),
+      cell-small (a .width) (a .disks) (a .size) (a .kind) (a .number) (l .i) (c .set-cell .result) (z .pre .0) (z .pre .1) h (c .set-cell .ensures),
+    )
 
 set-size-requires : tie.Need-set-size-requires Inv-loop μ-loop
 set-size-requires c κs = search needs
 
-no-sources-requires : tie.Need-no-sources-requires Inv-loop μ-loop
-no-sources-requires c κs = search needs
-
 loop-holds : tie.Need-loop-holds Inv-loop μ-loop
-loop-holds c =
-    let a = c .before .before .args in
-    let r = c .no-sources .result in
-    (c .before .set-size .ensures, omega arith, omega arith, ap (λ (n : ℕ). take n (r .at) ++ scaled (a .size) (without (a .cell) (setOf (a .width) (a .disks) (a .kind) (a .number)))) (c .no-sources .ensures))
+loop-holds c = (c .set-size .ensures, collected-start _ _ _ _ refl)
 
 set-cell-requires : tie.Need-set-cell-requires Inv-loop μ-loop
 set-cell-requires c κs = search needs
 
-with-other-requires : tie.Need-with-other-requires Inv-loop μ-loop
-with-other-requires c κs =
-    let z = c .before .before .before .before .before in
-    let a = z .args in
-    let q = z .pre .0 in
-    let l = c .before .before .loop in
-    let d : a .disks + 2 ≤ 33 = omega (arith, q .disks, q .widest) in
-    let here = below-at (a .width * (a .disks + 2)) (l .i) (setOf (a .width) (a .disks) (a .kind) (a .number)) (set-below (a .width) (a .disks) (a .kind) (a .number) (q .numbered)) (omega (arith, l .inv .0)) in
-    (omega (arith, l .inv, size-most (a .width) (a .disks) (a .kind) (a .number)), z .pre .1, omega (arith, c .set-cell .ensures, here, mul-le-mul (q .widest) d))
+mul-at : tie.Need-mul-at Inv-loop μ-loop
+mul-at c = omega (arith, small (c .before))
+
+mul-at-2 : tie.Need-mul-at-2 Inv-loop μ-loop
+mul-at-2 c = omega (arith, small (c .before))
+
+array-write-at : tie.Need-array-write-at Inv-loop μ-loop
+array-write-at c = omega (arith, small (c .before))
+
+add-count : tie.Need-add-count Inv-loop μ-loop
+add-count c = omega (arith, small (c .before))
 
 add-i : tie.Need-add-i Inv-loop μ-loop
-add-i c = search needs
+add-i c = omega (arith, small (c .before))
 
 loop-less : tie.Need-loop-less Inv-loop μ-loop
 loop-less c = search needs
 
 loop-again : tie.Need-loop-again Inv-loop μ-loop
 loop-again c =
-    let a = c .before .before .before .before .before .before .args in
-    let l = c .before .before .before .loop in
-    let w = c .with-other in
-    (l .inv .0, omega arith, omega (arith, w .ensures .0, l .inv .2), gathered-turn (a .size) (a .cell) (l .i) (c .before .set-cell .result) (setOf (a .width) (a .disks) (a .kind) (a .number)) (offsets (l .src)) (offsets (w .result)) (omega (arith, l .inv .0)) (c .before .set-cell .ensures) (w .ensures .1) (l .inv .3))
+    let t = c .before in
+    let a = t .before .before .before .before .args in
+    let l = t .before .before .loop in
+    let xs = setOf (a .width) (a .disks) (a .kind) (a .number) in
+    let x = t .set-cell .result in (
+      l .inv .0,
+      collected-turn (a .size) (λ y. eqb (a .cell) y) (without (a .cell)) (others-kept (a .cell)) xs (l .at) (l .count) (l .i) (l .inv .1) x (c .if1 .at) (c .if1 .count) (omega (arith, l .inv .0)) (small t .1) (t .set-cell .ensures)
+          (⊎-elim (λ w. inl (ne-eqb (a .cell) x (λ q. w .0 .taken (sym q)), w .1, w .2)) (λ w. inr (eq-eqb (a .cell) x (sym (w .0 .left)), w .1, w .2)) (c .if1 .came)),
+    )
 
 returns : tie.Need-returns Inv-loop μ-loop
 returns c =
-    let a = c .before .before .before .before .args in
     let l = c .before .loop in
+    let z = c .before .before .before in
+    let a = z .args in
     record {
-      few = omega (arith, l .inv, c .before .before .before .before .pre, size-most (a .width) (a .disks) (a .kind) (a .number));
-      places = gathered-end (a .size) (a .cell) (l .i) (setOf (a .width) (a .disks) (a .kind) (a .number)) (offsets (l .src)) (omega (arith, l .inv .0)) (l .inv .3);
+      few = omega (arith, l .inv .0, l .inv .1 .few, l .inv .1 .within, cells-few (a .width) (a .disks) (a .kind) (a .number) (z .pre .0));
+      places = collected-end (a .size) (λ y. eqb (a .cell) y) (without (a .cell)) (others-kept (a .cell)) (setOf (a .width) (a .disks) (a .kind) (a .number)) (l .at) (l .count) (l .i) (l .inv .1) (omega (arith, l .inv .0));
     }
 
 pub other-cells-spec : {M : Type 1} → statement M
@@ -78,10 +88,12 @@ other-cells-spec =
     Inv-loop
     μ-loop
     set-size-requires
-    no-sources-requires
     loop-holds
     set-cell-requires
-    with-other-requires
+    mul-at
+    mul-at-2
+    array-write-at
+    add-count
     add-i
     loop-less
     loop-again

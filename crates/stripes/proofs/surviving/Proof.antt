@@ -1,0 +1,106 @@
+-- `surviving`: the cells of the set come one by one, and the offset of each that is on neither of the lost disks is put into the array. The invariant: what is collected, with the cells still to come, gives the offsets of the whole set.
+use mathlib.Core.Path.{_≡_, refl, sym, _∙_}
+use mathlib.Core.Bool.{_||_}
+use mathlib.Core.Logic.{inl, inr, ⊎-elim}
+use Prim.Native.Nat.{_-_, _*_, _≤_, _<_}
+use native.Mathlib.Omega.{arith}
+use lib.Dec.{eqb}
+use lib.ListN.{length}
+use borrow.Author.Needs.{needs}
+use borrow.Author.Tests.{not-true, not-false}
+use Rattle.liberation.specs.Sets.{diskAt, setOf}
+use Rattle.stripes.specs.Cells.{survivors}
+use Rattle.stripes.proofs.CollectLaws.{Collected, collected-start, collected-turn, collected-end, cells-few, cell-small}
+use Rattle.stripes.proofs.SurvivorLaws.{survivors-kept}
+use Rattle.stripes.proofs.surviving.Statement.{statement}
+use Rattle.stripes.proofs.surviving.Tie as tie
+
+abbrev Inv-loop : tie.InvT-loop
+Inv-loop width size x y kind number cells at₀ count₀ i₀ at count i = (cells ≡ length (setOf width width kind number)) × Collected size (survivors width x y) (setOf width width kind number) at count i
+
+abbrev μ-loop : tie.MeasureT-loop
+μ-loop width size x y kind number cells at₀ count₀ i₀ at count i = cells - i
+
+-- the array has room for the cell of this turn, and its offset is a small number
+small : (c : tie.After-set-cell Inv-loop μ-loop) → let l = c .before .before .loop in (l .count ≤ l .i) × (l .i < 33) × (c .set-cell .result * c .before .before .before .before .args .size ≤ 1023 * 4096)
+small c =
+    let z = c .before .before .before .before in
+    let a = z .args in
+    let l = c .before .before .loop in
+    let h : l .i < length (setOf (a .width) (a .width) (a .kind) (a .number)) = omega (arith, l .inv .0) in (
+      l .inv .1 .few,
+      omega (arith, cells-few (a .width) (a .width) (a .kind) (a .number) (z .pre .0)),
+      cell-small (a .width) (a .width) (a .size) (a .kind) (a .number) (l .i) (c .set-cell .result) (z .pre .0) (z .pre .1) h (c .set-cell .ensures),
+    )
+
+set-size-requires : tie.Need-set-size-requires Inv-loop μ-loop
+set-size-requires c κs = search needs
+
+loop-holds : tie.Need-loop-holds Inv-loop μ-loop
+loop-holds c = (c .set-size .ensures, collected-start _ _ _ _ refl)
+
+set-cell-requires : tie.Need-set-cell-requires Inv-loop μ-loop
+set-cell-requires c κs = search needs
+
+is-on-either-requires : tie.Need-is-on-either-requires Inv-loop μ-loop
+is-on-either-requires c κs = omega (arith, c .before .before .before .before .pre)
+
+mul-at : tie.Need-mul-at Inv-loop μ-loop
+mul-at c = omega (arith, small (c .before .before))
+
+mul-at-2 : tie.Need-mul-at-2 Inv-loop μ-loop
+mul-at-2 c = omega (arith, small (c .before .before))
+
+array-write-at : tie.Need-array-write-at Inv-loop μ-loop
+array-write-at c = omega (arith, small (c .before .before))
+
+add-count : tie.Need-add-count Inv-loop μ-loop
+add-count c = omega (arith, small (c .before .before))
+
+add-i : tie.Need-add-i Inv-loop μ-loop
+add-i c = omega (arith, small (c .before .before))
+
+loop-less : tie.Need-loop-less Inv-loop μ-loop
+loop-less c = search needs
+
+loop-again : tie.Need-loop-again Inv-loop μ-loop
+loop-again c =
+    let o = c .before in
+    let t = o .before in
+    let a = t .before .before .before .before .args in
+    let l = t .before .before .loop in
+    let xs = setOf (a .width) (a .width) (a .kind) (a .number) in
+    let x = t .set-cell .result in (
+      l .inv .0,
+      collected-turn (a .size) (λ c. eqb (diskAt (a .width) c) (a .x) || eqb (diskAt (a .width) c) (a .y)) (survivors (a .width) (a .x) (a .y)) (survivors-kept (a .width) (a .x) (a .y)) xs (l .at) (l .count) (l .i) (l .inv .1) x (c .if1 .at) (c .if1 .count) (omega (arith, l .inv .0)) (small t .1) (t .set-cell .ensures)
+          (⊎-elim (λ w. inl (sym (o .is-on-either .ensures) ∙ not-true (o .is-on-either .result) (w .0 .taken), w .1, w .2)) (λ w. inr (sym (o .is-on-either .ensures) ∙ not-false (o .is-on-either .result) (w .0 .left), w .1, w .2)) (c .if1 .came)),
+    )
+
+returns : tie.Need-returns Inv-loop μ-loop
+returns c =
+    let l = c .before .loop in
+    let z = c .before .before .before in
+    let a = z .args in
+    record {
+      few = omega (arith, l .inv .0, l .inv .1 .few, l .inv .1 .within, cells-few (a .width) (a .width) (a .kind) (a .number) (z .pre .0));
+      places = collected-end (a .size) (λ c. eqb (diskAt (a .width) c) (a .x) || eqb (diskAt (a .width) c) (a .y)) (survivors (a .width) (a .x) (a .y)) (survivors-kept (a .width) (a .x) (a .y)) (setOf (a .width) (a .width) (a .kind) (a .number)) (l .at) (l .count) (l .i) (l .inv .1) (omega (arith, l .inv .0));
+    }
+
+pub surviving-spec : {M : Type 1} → statement M
+surviving-spec =
+    tie.close
+    (tie.spec
+    Inv-loop
+    μ-loop
+    set-size-requires
+    loop-holds
+    set-cell-requires
+    is-on-either-requires
+    mul-at
+    mul-at-2
+    array-write-at
+    add-count
+    add-i
+    loop-less
+    loop-again
+    returns)

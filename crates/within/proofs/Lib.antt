@@ -1,0 +1,2 @@
+-- The laws behind the passes within one slice.
+pub mod WithinLaws
