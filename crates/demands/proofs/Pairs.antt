@@ -5,12 +5,10 @@ use mathlib.Core.List.{List}
 use Prim.Native.Nat.{ℕ, _+_, _*_, _≤_, _<_}
 use native.Mathlib.Omega.{arith}
 use lib.Dec.{eqb}
-use Rattle.laws.specs.Choice.{pick, firstOf, when}
+use Rattle.laws.specs.Choice.{pick}
 use Rattle.laws.specs.Xor.{allBytes}
-use Rattle.laws.proofs.ChoiceLaws.{first-none}
-use Rattle.liberation.specs.Sets.{isWidth, diskAt, widthFault, sizeFault, diskFault, longFault}
-use Rattle.liberation.proofs.FaultLaws.{width-of}
-use Rattle.parity.specs.Stripes.{cellAt, stripeLong, isStripe, clean}
+use Rattle.liberation.specs.Sets.{diskAt}
+use Rattle.parity.specs.Stripes.{cellAt, isStripe, clean}
 use Rattle.pairs.specs.Pairs.{pairSolved}
 use Rattle.pairs.proofs.PairLaws.{pair-off, pair-clean, pair-back}
 use Rattle.sets.specs.declared.Answer.{Answer}
@@ -30,14 +28,13 @@ pub restores : (p s a b : ℕ) (t t′ : List ℕ) (r : Answer) → allBytes t �
 restores p s a b t t′ r bytes k z =
     let e : twoFault p s a b t ≡ 0 = sym (k .number) ∙ z in
     let c = fault-none p s a b t e in
-    let w : isWidth p ≡ true = width-of p (first-none (widthFault p) (firstOf (sizeFault s) (firstOf (diskFault p a) (firstOf (diskFault p b) (firstOf (when (eqb a b) 4) (longFault (stripeLong p p s) t))))) e .0) in
     let m : p ≤ p = omega arith in
     let ha : a < p + 2 = omega (arith, c .first) in
     let hb : b < p + 2 = omega (arith, c .second) in
     let ok : isStripe p p s t ≡ true = is-stripe p s t (c .sized .long) bytes in
     let done : t′ ≡ pairSolved p p s a b t = k .stripe ∙ ap (λ (n : ℕ). pick (eqb n 0) (pairSolved p p s a b t) t) e in
     record {
-      is-clean = ap (clean p p s) done ∙ pair-clean p p s a b w m ha hb (c .apart) t ok;
-      kept = λ x i j. ap (λ (l : List ℕ). cellAt s l x) done ∙ pair-off p p s a b w m ha hb (c .apart) t ok x i j;
-      only = λ u v d h. done ∙ pair-back p p s a b w m ha hb (c .apart) t u ok v d h;
+      is-clean = ap (clean p p s) done ∙ pair-clean p p s a b (c .width) m ha hb (c .apart) t ok;
+      kept = λ x i j. ap (λ (l : List ℕ). cellAt s l x) done ∙ pair-off p p s a b (c .width) m ha hb (c .apart) t ok x i j;
+      only = λ u v d h. done ∙ pair-back p p s a b (c .width) m ha hb (c .apart) t u ok v d h;
     }

@@ -1,6 +1,2 @@
--- Laws of the steps, of cells added, of the roles of the disks, and of the refusals.
-pub mod StepLaws
-pub mod AddLaws
-pub mod RoleLaws
-pub mod DiskLaws
+-- The refusals, and the promise from what was refused or done.
 pub mod RefusalLaws

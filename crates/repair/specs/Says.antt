@@ -4,14 +4,14 @@ use mathlib.Core.List.{List}
 use Prim.Native.Nat.{ℕ}
 use lib.Dec.{eqb}
 use Rattle.laws.specs.Choice.{pick, when, firstOf}
-use Rattle.liberation.specs.Sets.{widthFault, sizeFault, diskFault, longFault}
+use Rattle.liberation.specs.Sets.{numbersFault, diskFault, longFault}
 use Rattle.parity.specs.Stripes.{stripeLong}
 use Rattle.pairs.specs.Pairs.{pairSolved}
 use Rattle.sets.specs.declared.Answer.{Answer}
 
 -- the rebuild refuses by 1, 2, 3, 4 and 5: a and b are the lost disks, t is the stripe
 abbrev pub twoFault : ℕ → ℕ → ℕ → ℕ → List ℕ → ℕ
-twoFault p s a b t = firstOf (widthFault p) (firstOf (sizeFault s) (firstOf (diskFault p a) (firstOf (diskFault p b) (firstOf (when (eqb a b) 4) (longFault (stripeLong p p s) t)))))
+twoFault p s a b t = firstOf (numbersFault p p s a) (firstOf (diskFault p b) (firstOf (when (eqb a b) 4) (longFault (stripeLong p p s) t)))
 
 -- the stripe t becomes t′: both disks rebuilt, or as it was on a refusal
 pub record TwoSays (p s a b : ℕ) (t t′ : List ℕ) (r : Answer) : Type 0 where

@@ -1,0 +1,290 @@
+-- `diagonal_step` and `row_step` call each other, and the number of missing cells falls by one at each call. Each step is the next clause of the walk.
+use Prim.Native.Nat.{ℕ, _+_, _-_, _<_}
+use native.Mathlib.Omega.{arith}
+use native.Mathlib.Nat.{mod-lt}
+use borrow.Author.Needs.{needs}
+use borrow.Fn.Kinds.{In}
+use borrow.Fn.PlainCycle.{Measures, is, falls, and}
+use Rattle.liberation.specs.Plans.{diagonalOf}
+use Rattle.liberation.proofs.SetLaws.{place-below}
+use Rattle.pairs.specs.Pairs.{nextRow}
+use Rattle.stripes.proofs.solve.Reads as solve-reads
+use Rattle.walk.proofs.StepLaws.{sized-kept, first-most, diagonal-none, diagonal-more, row-none, row-more}
+use Rattle.walk.proofs.diagonal_step.Reads as diagonal-step
+use Rattle.walk.proofs.diagonal_step.Kinds as diagonal-step-kinds
+use Rattle.walk.proofs.+diagonal_step+row_step.Lts-diagonal_step as diagonal-step-lts
+use Rattle.walk.proofs.row_step.Reads as row-step
+use Rattle.walk.proofs.row_step.Kinds as row-step-kinds
+use Rattle.walk.proofs.+diagonal_step+row_step.Lts-row_step as row-step-lts
+use Rattle.walk.proofs.+diagonal_step+row_step.{statement}
+use Rattle.walk.proofs.+diagonal_step+row_step.Tie.{close}
+
+abbrev μ-diagonal-step : Measures 1 diagonal-step-kinds.ps ℕ
+μ-diagonal-step κs a = a .0
+
+abbrev μ-row-step : Measures 1 row-step-kinds.ps ℕ
+μ-row-step κs a = a .0
+
+abbrev diagonal-step-at : ℕ → In 1 diagonal-step-kinds.ps
+diagonal-step-at t =
+    and 1 diagonal-step-kinds.ps (is 1 diagonal-step-kinds.ps μ-diagonal-step t) diagonal-step.Pre
+
+abbrev diagonal-step-below : ℕ → In 1 diagonal-step-kinds.ps
+diagonal-step-below t =
+    and
+    1
+    diagonal-step-kinds.ps
+    (falls 1 diagonal-step-kinds.ps _<_ μ-diagonal-step t)
+    diagonal-step.Pre
+
+abbrev row-step-at : ℕ → In 1 row-step-kinds.ps
+row-step-at t = and 1 row-step-kinds.ps (is 1 row-step-kinds.ps μ-row-step t) row-step.Pre
+
+abbrev row-step-below : ℕ → In 1 row-step-kinds.ps
+row-step-below t =
+    and 1 row-step-kinds.ps (falls 1 row-step-kinds.ps _<_ μ-row-step t) row-step.Pre
+
+diagonal-step-returns : (t : ℕ) → diagonal-step-lts.Need-returns (
+  solve-reads.Asked,
+  solve-reads.Learnt,
+  row-step-below t,
+  row-step.Post,
+) (diagonal-step-at t) diagonal-step.Post
+diagonal-step-returns t c =
+    let a = c .before .before .args in
+    diagonal-none (a .width) (a .size) (a .x) (a .y) (a .left) (a .row) (a .stripe .now) (c .if1 .taken)
+
+diagonal-step-add-number : (t : ℕ) → diagonal-step-lts.Need-add-number (
+  solve-reads.Asked,
+  solve-reads.Learnt,
+  row-step-below t,
+  row-step.Post,
+) (diagonal-step-at t) diagonal-step.Post
+diagonal-step-add-number t c = search needs
+
+diagonal-step-sub-number : (t : ℕ) → diagonal-step-lts.Need-sub-number (
+  solve-reads.Asked,
+  solve-reads.Learnt,
+  row-step-below t,
+  row-step.Post,
+) (diagonal-step-at t) diagonal-step.Post
+diagonal-step-sub-number t c = search needs
+
+diagonal-step-rem-number : (t : ℕ) → diagonal-step-lts.Need-rem-number (
+  solve-reads.Asked,
+  solve-reads.Learnt,
+  row-step-below t,
+  row-step.Post,
+) (diagonal-step-at t) diagonal-step.Post
+diagonal-step-rem-number t c = search needs
+
+diagonal-step-add-next : (t : ℕ) → diagonal-step-lts.Need-add-next (
+  solve-reads.Asked,
+  solve-reads.Learnt,
+  row-step-below t,
+  row-step.Post,
+) (diagonal-step-at t) diagonal-step.Post
+diagonal-step-add-next t c =
+    let z = c .before .before in
+    let a = z .args in
+    let h : 0 < a .width = omega arith in
+    omega (arith, z .pre .1 .0 .widest, mod-lt (a .row + a .width - a .x) h)
+
+diagonal-step-rem-next : (t : ℕ) → diagonal-step-lts.Need-rem-next (
+  solve-reads.Asked,
+  solve-reads.Learnt,
+  row-step-below t,
+  row-step.Post,
+) (diagonal-step-at t) diagonal-step.Post
+diagonal-step-rem-next t c = search needs
+
+diagonal-step-mul-solve : (t : ℕ) → diagonal-step-lts.Need-mul-solve (
+  solve-reads.Asked,
+  solve-reads.Learnt,
+  row-step-below t,
+  row-step.Post,
+) (diagonal-step-at t) diagonal-step.Post
+diagonal-step-mul-solve t c =
+    let z = c .before .before in
+    let a = z .args in
+    omega (arith, first-most (a .width) (a .y) (z .pre .1 .0 .widest) (omega arith))
+
+diagonal-step-add-solve : (t : ℕ) → diagonal-step-lts.Need-add-solve (
+  solve-reads.Asked,
+  solve-reads.Learnt,
+  row-step-below t,
+  row-step.Post,
+) (diagonal-step-at t) diagonal-step.Post
+diagonal-step-add-solve t c =
+    let z = c .before .before in
+    let a = z .args in
+    let h : 0 < a .width = omega arith in
+    omega (arith, first-most (a .width) (a .y) (z .pre .1 .0 .widest) (omega arith), z .pre .1 .0 .widest, mod-lt (diagonalOf (a .width) (a .x) (a .row) + a .y) h)
+
+diagonal-step-solve-requires : (t : ℕ) → diagonal-step-lts.Need-solve-requires (
+  solve-reads.Asked,
+  solve-reads.Learnt,
+  row-step-below t,
+  row-step.Post,
+) (diagonal-step-at t) diagonal-step.Post
+diagonal-step-solve-requires t c κs =
+    let z = c .before .before .before in
+    let a = z .args in
+    let next = nextRow (a .width) (a .x) (a .y) (a .row) in
+    (z .pre .1 .0, (mod-lt (a .row + a .width - a .x) (omega arith), place-below (a .width) (a .width + 2) next (a .y) (mod-lt (diagonalOf (a .width) (a .x) (a .row) + a .y) (omega arith)) (omega arith)))
+
+diagonal-step-sub-row-step : (t : ℕ) → diagonal-step-lts.Need-sub-row-step (
+  solve-reads.Asked,
+  solve-reads.Learnt,
+  row-step-below t,
+  row-step.Post,
+) (diagonal-step-at t) diagonal-step.Post
+diagonal-step-sub-row-step t c = search needs
+
+diagonal-step-row-step-requires : (t : ℕ) → diagonal-step-lts.Need-row-step-requires (
+  solve-reads.Asked,
+  solve-reads.Learnt,
+  row-step-below t,
+  row-step.Post,
+) (diagonal-step-at t) diagonal-step.Post
+diagonal-step-row-step-requires t c κs =
+    let v = c .before .before .before in
+    let z = v .before .before .before .before in
+    let a = z .args in
+    (omega arith, (sized-kept (a .width) (a .size) (a .stripe .now) (v .solve .last .1 .1 .1 .1 .1 .1 .0) (z .pre .1 .0) (v .solve .kept .1 .1 .1 .1 .1 .1 .0), (omega arith, omega arith, mod-lt (diagonalOf (a .width) (a .x) (a .row) + a .y) (omega arith))))
+
+diagonal-step-same-length : (t : ℕ) → diagonal-step-lts.Need-same-length (
+  solve-reads.Asked,
+  solve-reads.Learnt,
+  row-step-below t,
+  row-step.Post,
+) (diagonal-step-at t) diagonal-step.Post
+diagonal-step-same-length t c = search needs
+
+diagonal-step-returns-2 : (t : ℕ) → diagonal-step-lts.Need-returns-2 (
+  solve-reads.Asked,
+  solve-reads.Learnt,
+  row-step-below t,
+  row-step.Post,
+) (diagonal-step-at t) diagonal-step.Post
+diagonal-step-returns-2 t c =
+    let w = c .before .before in
+    let v = w .before .before .before .before in
+    let z = v .before .before .before .before in
+    let a = z .args in
+    diagonal-more (a .width) (a .size) (a .x) (a .y) (a .left) (a .row) (a .stripe .now) (v .solve .last .1 .1 .1 .1 .1 .1 .0) (w .row-step .last .1 .1 .1 .1 .1 .1 .0) (v .before .before .if1 .left) (v .solve .ensures) (w .row-step .ensures)
+
+row-step-returns : (t : ℕ) → row-step-lts.Need-returns (
+  solve-reads.Asked,
+  solve-reads.Learnt,
+  diagonal-step-below t,
+  diagonal-step.Post,
+) (row-step-at t) row-step.Post
+row-step-returns t c =
+    let a = c .before .before .args in
+    row-none (a .width) (a .size) (a .x) (a .y) (a .left) (a .row) (a .stripe .now) (c .if1 .taken)
+
+row-step-mul-solve : (t : ℕ) → row-step-lts.Need-mul-solve (
+  solve-reads.Asked,
+  solve-reads.Learnt,
+  diagonal-step-below t,
+  diagonal-step.Post,
+) (row-step-at t) row-step.Post
+row-step-mul-solve t c =
+    let z = c .before .before in
+    let a = z .args in
+    omega (arith, first-most (a .width) (a .x) (z .pre .1 .0 .widest) (omega arith))
+
+row-step-add-solve : (t : ℕ) → row-step-lts.Need-add-solve (
+  solve-reads.Asked,
+  solve-reads.Learnt,
+  diagonal-step-below t,
+  diagonal-step.Post,
+) (row-step-at t) row-step.Post
+row-step-add-solve t c =
+    let z = c .before .before in
+    let a = z .args in
+    omega (arith, first-most (a .width) (a .x) (z .pre .1 .0 .widest) (omega arith), z .pre .1 .0 .widest)
+
+row-step-solve-requires : (t : ℕ) → row-step-lts.Need-solve-requires (
+  solve-reads.Asked,
+  solve-reads.Learnt,
+  diagonal-step-below t,
+  diagonal-step.Post,
+) (row-step-at t) row-step.Post
+row-step-solve-requires t c κs =
+    let z = c .before .before .before in
+    let a = z .args in
+    (z .pre .1 .0, (omega arith, place-below (a .width) (a .width + 2) (a .row) (a .x) (omega arith) (omega arith)))
+
+row-step-sub-diagonal-step : (t : ℕ) → row-step-lts.Need-sub-diagonal-step (
+  solve-reads.Asked,
+  solve-reads.Learnt,
+  diagonal-step-below t,
+  diagonal-step.Post,
+) (row-step-at t) row-step.Post
+row-step-sub-diagonal-step t c = search needs
+
+row-step-diagonal-step-requires : (t : ℕ) → row-step-lts.Need-diagonal-step-requires (
+  solve-reads.Asked,
+  solve-reads.Learnt,
+  diagonal-step-below t,
+  diagonal-step.Post,
+) (row-step-at t) row-step.Post
+row-step-diagonal-step-requires t c κs = search needs
+
+row-step-same-length : (t : ℕ) → row-step-lts.Need-same-length (
+  solve-reads.Asked,
+  solve-reads.Learnt,
+  diagonal-step-below t,
+  diagonal-step.Post,
+) (row-step-at t) row-step.Post
+row-step-same-length t c = search needs
+
+row-step-returns-2 : (t : ℕ) → row-step-lts.Need-returns-2 (
+  solve-reads.Asked,
+  solve-reads.Learnt,
+  diagonal-step-below t,
+  diagonal-step.Post,
+) (row-step-at t) row-step.Post
+row-step-returns-2 t c =
+    let w = c .before .before in
+    let v = w .before .before .before .before in
+    let z = v .before .before .before .before in
+    let a = z .args in
+    row-more (a .width) (a .size) (a .x) (a .y) (a .left) (a .row) (a .stripe .now) (v .solve .last .1 .1 .1 .1 .1 .1 .0) (w .diagonal-step .last .1 .1 .1 .1 .1 .1 .0) (v .before .before .if1 .left) (v .solve .ensures) (w .diagonal-step .ensures)
+
+pub +diagonal-step+row-step-spec : {M : Type 1} → statement M
++diagonal-step+row-step-spec = close μ-diagonal-step μ-row-step (λ t. diagonal-step-lts.spec (
+  solve-reads.Asked,
+  solve-reads.Learnt,
+  row-step-below t,
+  row-step.Post,
+)
+    (diagonal-step-at t)
+    diagonal-step.Post
+    (diagonal-step-returns t)
+    (diagonal-step-add-number t)
+    (diagonal-step-sub-number t)
+    (diagonal-step-rem-number t)
+    (diagonal-step-add-next t)
+    (diagonal-step-rem-next t)
+    (diagonal-step-mul-solve t)
+    (diagonal-step-add-solve t)
+    (diagonal-step-solve-requires t)
+    (diagonal-step-sub-row-step t)
+    (diagonal-step-row-step-requires t)
+    (diagonal-step-same-length t)
+    (diagonal-step-returns-2 t))
+    λ t. row-step-lts.spec
+    (solve-reads.Asked, solve-reads.Learnt, diagonal-step-below t, diagonal-step.Post)
+    (row-step-at t)
+    row-step.Post
+    (row-step-returns t)
+    (row-step-mul-solve t)
+    (row-step-add-solve t)
+    (row-step-solve-requires t)
+    (row-step-sub-diagonal-step t)
+    (row-step-diagonal-step-requires t)
+    (row-step-same-length t)
+    (row-step-returns-2 t)
