@@ -2,14 +2,15 @@
 use mathlib.Core.Path.{_≡_, sym, ap, ap₂, _∙_}
 use mathlib.Core.Bool.{true}
 use mathlib.Core.List.{List}
-use Prim.Native.Nat.{ℕ, _+_, _*_, _≤_, _<_}
+use Prim.Native.Nat.{ℕ, _+_, _-_, _*_, _≤_, _<_}
 use native.Mathlib.Omega.{arith}
 use lib.Dec.{eqb}
-use Rattle.laws.specs.Choice.{pick}
+use Rattle.laws.specs.Choice.{pick, when}
 use Rattle.liberation.specs.Sets.{isWidth}
 use Rattle.liberation.specs.Plans.{Step, planOf, readCount}
 use Rattle.liberation.specs.Judging.{accepted, stepsIn}
-use Rattle.liberation.specs.Claims.{isBest}
+use Rattle.liberation.specs.Claims.{isBest, diagonalsUsed, loneExtras, byExtra, Rearranged}
+use Rattle.liberation.proofs.Rearranging.{count-same}
 use Rattle.liberation.proofs.Demand3.{plans-best, plan-accepted}
 use Rattle.planner.specs.declared.Plan.{Plan}
 use Rattle.planner.specs.Records.{judgeForm}
@@ -30,6 +31,21 @@ pub record Compared (p f : ℕ) (bs : List ℕ) (r : Plan) (j : Judged) : Type 0
   pub least : r .reads ≤ j .reads
   -- and as much exactly under the three conditions on the steps in those bytes
   pub equally : eqb (j .reads) (r .reads) ≡ isBest p p f (stepsIn p bs)
+
+-- Ask 13: "every plan that the judge accepts reads exactly p² - t(p - t) + u + v cells", said of the judge's count
+pub priced : (p f : ℕ) (bs : List ℕ) (j : Judged) → f < p → JudgeSays p f bs j → j .number ≡ 0
+    → j .reads + diagonalsUsed p (stepsIn p bs) * (p - diagonalsUsed p (stepsIn p bs)) ≡ p * p + (loneExtras p p f (stepsIn p bs) + when (byExtra p p f (stepsIn p bs)) 1)
+priced p f bs j l d z =
+    let a = zero-accepts p f bs j d z in
+    let ss = stepsIn p bs in
+    ap (λ (n : ℕ). n + diagonalsUsed p ss * (p - diagonalsUsed p ss)) (zero-counts p f bs j d z) ∙ plans-best p f (a .width) l .price ss (a .accepts) .price
+
+-- "rearranging a plan's steps into another accepted plan changes [not] its count", whatever disk is lost
+pub rearranged : (p f : ℕ) (bs cs : List ℕ) (j q : Judged) → JudgeSays p f bs j → j .number ≡ 0 → JudgeSays p f cs q → q .number ≡ 0 → Rearranged (stepsIn p bs) (stepsIn p cs) → j .reads ≡ q .reads
+rearranged p f bs cs j q d z e y r =
+    zero-counts p f bs j d z
+    ∙ count-same p p f (stepsIn p bs) (stepsIn p cs) (zero-accepts p f bs j d z .accepts) (zero-accepts p f cs q e y .accepts) r
+    ∙ sym (zero-counts p f cs q e y)
 
 pub compared : (p f : ℕ) (bs : List ℕ) (r : Plan) (j : Judged) → f < p → PlanSays p f r → JudgeSays p f bs j → j .number ≡ 0 → Compared p f bs r j
 compared p f bs r j l k d z =

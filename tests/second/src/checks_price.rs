@@ -1,4 +1,4 @@
-//! What accepted plans cost: the price formula, and that none is below ours.
+//! What accepted plans cost: the price formula, that none is below ours, and that the order of the steps does not matter.
 //! The counts are those the library's judge gives.
 
 use crate::checks_plan::record_bytes;
@@ -11,11 +11,12 @@ use crate::{ffi, Setting};
 /// Random accepted plans for each lost disk of each width.
 const ROUNDS: usize = 200;
 
-/// How many accepted plans cost as much as ours, and how many cost more.
+/// How many accepted plans cost as much as ours, how many cost more, and how many orders were exchanged.
 #[derive(Default)]
 struct Costs {
     equal: u64,
     more: u64,
+    exchanged: u64,
 }
 
 pub fn run(setting: &mut Setting, group: &mut Group) {
@@ -32,8 +33,10 @@ pub fn run(setting: &mut Setting, group: &mut Group) {
         for _ in 0..ROUNDS {
             let steps = loss.accepted(random);
             priced(group, &loss, &steps, ours, &mut costs);
+            rearranged(group, random, &loss, &steps, &mut costs);
         }
     }
+    group.same(|| "other orders were accepted".into(), true, costs.exchanged > 1_000);
     group.same(|| "plans as cheap as ours were met".into(), true, costs.equal > 1_000);
     group.same(|| "dearer plans were met".into(), true, costs.more > 1_000);
 }
@@ -115,6 +118,26 @@ fn priced(group: &mut Group, loss: &Loss, steps: &[Step], ours: u32, costs: &mut
     match count == ours {
         true => costs.equal += 1,
         false => costs.more += 1,
+    }
+}
+
+/// Two steps of an accepted plan exchanged: where that is accepted too, it costs as much.
+fn rearranged(
+    group: &mut Group,
+    random: &mut Random,
+    loss: &Loss,
+    steps: &[Step],
+    costs: &mut Costs,
+) {
+    let (p, disk) = (loss.p, loss.disk);
+    let mut other = steps.to_vec();
+    other.swap(random.below(p), random.below(p));
+    let judge = |steps: &[Step]| ffi::judge_plan(p, disk, &model::bytes_of(steps));
+    let judged = judge(&other);
+    if judged.number == 0 {
+        costs.exchanged += 1;
+        let call = || format!("judge_plan({p}, {disk}, {other:?}), another order of {steps:?}");
+        group.same(call, judge(steps).reads, judged.reads);
     }
 }
 
