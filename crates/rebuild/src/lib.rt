@@ -17,13 +17,13 @@ ghost use Rattle.rebuild.specs.Says.{lengthsFault, OneSays};
 
 // A cell on the lost disk, of another row, is added to the cell of this row.
 fn add_cell(width: usize, size: usize, disk: usize, row: usize, cell: usize, column: &mut [u8])
-    requires { ⌜ (row < width) × (length (now column) ≡ width * size) ⌝ }
+    requires { ⌜ (row < width) × (width ≤ 31) × (disk ≤ 32) × (length (now column) ≡ width * size) ⌝ }
     ensures { λ _. ⌜ now (column .exit) ≡ pick (eqb (diskAt width cell) disk && not (eqb row (rowAt width cell))) (withCell size row (xorL (cellAt size (now (column .entry)) row) (cellAt size (now (column .entry)) (rowAt width cell))) (now (column .entry))) (now (column .entry)) ⌝ }
 {
-    if cell / width != disk {
+    if !stripes::is_on(width, disk, cell) {
         return;
     }
-    let other = cell % width;
+    let other = cell - disk * width;
     if row == other {
         return;
     }
@@ -40,14 +40,16 @@ fn add_lost(
     number: usize,
     column: &mut [u8],
 )
-    requires { ⌜ Within width width number × (row < width) × (length (now column) ≡ width * size) ⌝ }
+    requires { ⌜ Within width width number × (row < width) × (disk ≤ 32) × (length (now column) ≡ width * size) ⌝ }
     ensures { λ _. ⌜ now (column .exit) ≡ withCell size row (xorL (cellAt size (now (column .entry)) row) (xorOver size (cellAt size (now (column .entry))) (without row (lostIn width disk (setOf width width kind number))))) (now (column .entry)) ⌝ }
 {
     let cells = sets::set_size(width, width, kind, number);
+    let mut on = number;
     let mut i = 0;
     while i < cells {
-        let cell = sets::set_cell(width, width, kind, number, i);
+        let cell = sets::cell_in_row(width, width, kind, number, i, on);
         add_cell(width, size, disk, row, cell, column);
+        on = sets::next_row(width, on);
         i += 1;
     }
 }

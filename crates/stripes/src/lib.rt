@@ -42,13 +42,15 @@ fn other_cells(
     let n = sets::set_size(width, disks, kind, number);
     let mut at: [usize; 33] = [0; 33];
     let mut count = 0;
+    let mut row = number;
     let mut i = 0;
     while i < n {
-        let x = sets::set_cell(width, disks, kind, number, i);
+        let x = sets::cell_in_row(width, disks, kind, number, i, row);
         if x != cell {
             at[count] = x * size;
             count += 1;
         }
+        row = sets::next_row(width, row);
         i += 1;
     }
     Sources {
@@ -58,7 +60,7 @@ fn other_cells(
 }
 
 // Is a cell on a disk? It is if it lies within the disk's cells, from the first one on: no division for each cell.
-fn is_on(width: usize, disk: usize, cell: usize) -> bool
+pub fn is_on(width: usize, disk: usize, cell: usize) -> bool
     requires { ⌜ (0 < width) × (width ≤ 31) × (disk ≤ 32) ⌝ }
     ensures { λ r. ⌜ r ≡ eqb (diskAt width cell) disk ⌝ }
 {
@@ -95,13 +97,15 @@ pub fn surviving(
     let cells = sets::set_size(width, width, kind, number);
     let mut at: [usize; 33] = [0; 33];
     let mut count = 0;
+    let mut row = number;
     let mut i = 0;
     while i < cells {
-        let cell = sets::set_cell(width, width, kind, number, i);
+        let cell = sets::cell_in_row(width, width, kind, number, i, row);
         if !is_on_either(width, x, y, cell) {
             at[count] = cell * size;
             count += 1;
         }
+        row = sets::next_row(width, row);
         i += 1;
     }
     Sources {
