@@ -15,7 +15,7 @@ use Rattle.laws.proofs.ChoiceLaws.{first-none, first-kept, first-assoc, when-no
 use Rattle.liberation.specs.Sets.{isWidth, widthFault, longFault, sizeFault, numbersFault}
 use Rattle.liberation.specs.Plans.{Step, allOf}
 use Rattle.liberation.proofs.Widths.{width-most}
-use Rattle.liberation.proofs.FaultLaws.{numbers-first}
+use Rattle.liberation.proofs.FaultLaws.{numbers-of, numbers-first}
 use Rattle.liberation.proofs.ParityPlans.{plan-row-parity, plan-diagonal-parity}
 use Rattle.sets.specs.declared.Answer.{Answer}
 use Rattle.parity.specs.Stripes.{stripeLong, encoded, followed, clean, setClean}
@@ -34,11 +34,18 @@ pub fault-first : (p s n m : ℕ) → m ≡ numbersFault p p s 0 → (m ≡ 0 �
 fault-first p s n m e z = first-kept m (firstOf (widthFault p) (sizeFault s)) (when (not (eqb n (stripeLong p p s))) 5) (e ∙ numbers-first p p s) z ∙ first-assoc (widthFault p) (sizeFault s) (when (not (eqb n (stripeLong p p s))) 5)
 
 -- a stripe within the limits has few enough bytes to count
-pub bytes-most : (p s : ℕ) → p ≤ 31 → s ≤ 4096 → (p * s ≤ 126976) × ((p + 2) * (p * s) ≤ 4190208)
+bytes-most : (p s : ℕ) → p ≤ 31 → s ≤ 4096 → (p * s ≤ 126976) × ((p + 2) * (p * s) ≤ 4190208)
 bytes-most p s h k =
     let l : p * s ≤ 31 * 4096 = mul-le-mul h k in
     let m : p + 2 ≤ 33 = omega arith in
     (omega arith, omega (arith, mul-le-mul m l))
+
+pub numbers-most : (p s f : ℕ) → numbersFault p p s f ≡ 0 → (p ≤ 31) × (p * s ≤ 126976) × ((p + 2) * (p * s) ≤ 4190208)
+numbers-most p s f e =
+    let q = numbers-of p p s f e in
+    let w = width-most p (q .0) in
+    let b = bytes-most p s w (q .2) in
+    (w, b .0, b .1)
 
 -- no refusal: the stripe is within the limits
 pub fault-none : (p s : ℕ) (t : List ℕ) → stripeFault p s t ≡ 0 → Sized p p s t

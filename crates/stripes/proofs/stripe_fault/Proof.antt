@@ -6,9 +6,7 @@ use native.Mathlib.Omega.{arith}
 use borrow.Author.Needs.{needs}
 use borrow.Author.Tests.{eq-eqb, ne-eqb}
 use Rattle.liberation.specs.Sets.{numbersFault}
-use Rattle.liberation.proofs.Widths.{width-most}
-use Rattle.liberation.proofs.FaultLaws.{numbers-of}
-use Rattle.stripes.proofs.FaultLaws.{fault-is, fault-first, bytes-most}
+use Rattle.stripes.proofs.FaultLaws.{fault-is, fault-first, numbers-most}
 use Rattle.stripes.proofs.stripe_fault.Statement.{statement}
 use Rattle.stripes.proofs.stripe_fault.Tie as tie
 
@@ -21,12 +19,7 @@ fine c = sym (c .before .numbers-fault .ensures) ∙ c .if1 .left
 
 -- so the stripe's bytes can be counted
 most : (c : tie.Else1) → let a = c .before .before .args in (a .width ≤ 31) × (a .width * a .size ≤ 126976) × ((a .width + 2) * (a .width * a .size) ≤ 4190208)
-most c =
-    let a = c .before .before .args in
-    let q = numbers-of (a .width) (a .width) (a .size) 0 (fine c) in
-    let w = width-most (a .width) (q .0) in
-    let b = bytes-most (a .width) (a .size) w (q .2) in
-    (w, b .0, b .1)
+most c = let a = c .before .before .args in numbers-most (a .width) (a .size) 0 (fine c)
 
 returns : tie.Need-returns
 returns c =
