@@ -7,6 +7,8 @@ ghost use Rattle.stripes.specs.Says.{EncodeSays, CheckSays};
 ghost use Rattle.rebuild.specs.Says.{OneSays};
 ghost use Rattle.repair.specs.Says.{TwoSays};
 ghost use Rattle.runs.specs.Runs.{OpenSays, StepSays, ProgressSays};
+ghost use Rattle.billing.specs.Bills.{BillSays, RunBillSays};
+use billing::Bill;
 use judge::Judged;
 use planner::Plan;
 use runs::Progress;
@@ -126,4 +128,20 @@ pub extern "C" fn cuzhaveli_run_progress(run: &Run) -> Progress
     ensures { λ r. ⌜ ProgressSays (now (run .entry)) r ⌝ }
 {
     runs::progress_of(*run)
+}
+
+// The bill of bytes read, with the rates of the three bands.
+#[no_mangle]
+pub extern "C" fn cuzhaveli_bill_bytes(bytes: u64, first: u64, second: u64, third: u64) -> Bill
+    ensures { λ r. ⌜ BillSays bytes first second third r ⌝ }
+{
+    billing::bill_bytes(bytes, first, second, third)
+}
+
+// The bill of a run, whose record is handed over by value.
+#[no_mangle]
+pub extern "C" fn cuzhaveli_bill_run(run: Run, first: u64, second: u64, third: u64) -> Bill
+    ensures { λ r. ⌜ RunBillSays run first second third r ⌝ }
+{
+    billing::bill_run(run, first, second, third)
 }

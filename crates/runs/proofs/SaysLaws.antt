@@ -1,8 +1,9 @@
 -- The promises of opening, stepping and reading a run, from what was refused or done.
 use mathlib.Core.Path.{_≡_, refl, sym, ap, ap₂, _∙_}
 use mathlib.Core.Bool.{Bool, true, false, _&&_, _||_, not}
+use mathlib.Core.Logic.{⊎-elim}
 use mathlib.Core.List.{List}
-use Prim.Native.Nat.{ℕ, _*_, _≤_, _<_, _^_}
+use Prim.Native.Nat.{ℕ, suc, _+_, _*_, _≤_, _<_, _^_}
 use native.Mathlib.Nat.{mul-le-mul}
 use native.Mathlib.Omega.{arith}
 use lib.Dec.{eqb, leb}
@@ -10,7 +11,12 @@ use borrow.Author.Tests.{eq-eqb, ne-eqb, leb-false}
 use Rattle.laws.specs.Choice.{pick, when, firstOf}
 use Rattle.laws.proofs.Flags.{or-false-l}
 use Rattle.laws.proofs.ChoiceLaws.{first-none, when-none}
-use Rattle.liberation.specs.Sets.{numbersFault, widthFault, sizeFault, diskFault}
+use Rattle.laws.proofs.Modulo.{lt-or-le}
+use Rattle.liberation.specs.Sets.{isWidth, numbersFault, widthFault, sizeFault, diskFault}
+use Rattle.liberation.proofs.Widths.{width-most, width-odd}
+use Rattle.liberation.proofs.FaultLaws.{numbers-of}
+use Rattle.liberation.proofs.Demand3.{plans-best}
+use Rattle.liberation.proofs.ParityReads.{row-parity-reads, diagonal-parity-reads}
 use Rattle.liberation.specs.Plans.{planOf, readCount}
 use Rattle.sets.specs.declared.Answer.{Answer}
 use Rattle.planner.specs.declared.Plan.{Plan}
@@ -75,6 +81,7 @@ progress-refused x n e z =
       place = refl;
       over = sym (ap (λ (b : Bool). b && isOver x) f);
       cells = sym (ap (λ (b : Bool). pick b (cellsSoFar x) 0) f);
+      few = omega arith;
     }
 
 -- our plan's count, where width, size and disk are accepted
@@ -85,14 +92,34 @@ reads-are x r z k =
     let f : planFault (x .width) (x .disk) ≡ 0 = ap₂ firstOf (w .0) (v .1) in
     k .reads ∙ ap (λ (n : ℕ). pick (eqb n 0) (readCount (x .width) (x .width) (x .disk) (planOf (x .width) (x .width) (x .disk))) 0) f
 
-pub progress-done : (x : Run) (b : Bool) (n : ℕ) → runFault x ≡ 0 → b ≡ isOver x → n ≡ cellsSoFar x → ProgressSays x (record { number = 0; place = 0; over = b; cells = n })
-progress-done x b n z e q =
+-- a plan of ours reads at most p² cells
+reads-most : (p f : ℕ) → isWidth p ≡ true → f ≤ p + 1 → readCount p p f (planOf p p f) ≤ p * p
+reads-most p f w h = ⊎-elim (λ l. omega (arith, plans-best p f w l .ours-count)) parity (lt-or-le f p)
+  where
+    parity : p ≤ f → readCount p p f (planOf p p f) ≤ p * p
+    parity l = ⊎-elim (λ m. at (omega arith) (row-parity-reads p (width-odd p w))) (λ m. at (omega arith) (diagonal-parity-reads p (width-odd p w))) (lt-or-le f (suc p))
+      where
+        at : {d : ℕ} → f ≡ d → readCount p p d (planOf p p d) ≡ p * p → readCount p p f (planOf p p f) ≤ p * p
+        at {d} e q = omega (arith, ap (λ (i : ℕ). readCount p p i (planOf p p i)) e ∙ q)
+
+-- so a run has read few cells
+cells-most : (x : Run) → runFault x ≡ 0 → x .next < 2 ^ 32 → cellsSoFar x ≤ 4294967295 * 961
+cells-most x z n =
+    let q = numbers-of (x .width) (x .width) (x .size) (x .disk) z in
+    let w = width-most (x .width) (q .0) in
+    let c : readCount (x .width) (x .width) (x .disk) (planOf (x .width) (x .width) (x .disk)) ≤ 961 = omega (arith, reads-most (x .width) (x .disk) (q .0) (q .3), mul-le-mul w w) in
+    let m : x .next ≤ 4294967295 = omega arith in
+    mul-le-mul m c
+
+pub progress-done : (x : Run) (b : Bool) (n : ℕ) → runFault x ≡ 0 → x .next < 2 ^ 32 → b ≡ isOver x → n ≡ cellsSoFar x → ProgressSays x (record { number = 0; place = 0; over = b; cells = n })
+progress-done x b n z l e q =
     let f : eqb (runFault x) 0 ≡ true = eq-eqb (runFault x) 0 z in
     record {
       number = sym z;
       place = refl;
       over = e ∙ sym (ap (λ (b : Bool). b && isOver x) f);
       cells = q ∙ sym (ap (λ (b : Bool). pick b (cellsSoFar x) 0) f);
+      few = omega (arith, q, cells-most x z l);
     }
 
 -- a product of two 32-bit numbers has at most 64 bits

@@ -2,7 +2,7 @@
 use mathlib.Core.Path.{_≡_}
 use mathlib.Core.Bool.{Bool, _&&_, _||_, not}
 use mathlib.Core.List.{List}
-use Prim.Native.Nat.{ℕ, _+_, _*_}
+use Prim.Native.Nat.{ℕ, _+_, _*_, _≤_}
 use lib.Dec.{eqb, leb}
 use lib.ListN.{length}
 use Rattle.laws.specs.Choice.{pick, when, firstOf}
@@ -77,3 +77,5 @@ pub record ProgressSays (x : Run) (r : Progress) : Type 0 where
   pub place : r .place ≡ 0
   pub over : r .over ≡ (eqb (runFault x) 0 && isOver x)
   pub cells : r .cells ≡ pick (eqb (runFault x) 0) (cellsSoFar x) 0
+  -- at most 2^32 - 1 stripes, each with at most 31² cells read: few enough to be multiplied by s
+  pub few : r .cells ≤ 4294967295 * 961

@@ -3,6 +3,8 @@
 //! Arguments: the path of the plan program, then a seed if wanted.
 //! To add a group, write src/checks_NAME.rs and name its function in GROUPS.
 
+#[allow(dead_code)] // its group may be left out
+mod checks_billing;
 mod checks_examples;
 mod checks_judge;
 mod checks_list;
@@ -23,6 +25,7 @@ mod checks_stripes;
 #[allow(dead_code)] // its group may be left out
 mod checks_vectors;
 mod ffi;
+mod ffi_billing;
 mod ffi_pairs;
 mod ffi_rebuild;
 mod ffi_runs;
@@ -31,6 +34,7 @@ mod ffi_stripes;
 mod group;
 mod lent;
 mod model;
+mod model_billing;
 mod model_rebuild;
 mod model_runs;
 mod model_space;
@@ -72,6 +76,7 @@ const GROUPS: &[(&str, Check)] = &[
     ("rebuild one", checks_rebuild::run),
     ("rebuild two", checks_pairs::run),
     ("runs", checks_runs::run),
+    ("billing", checks_billing::run),
     ("vectors", checks_vectors::run),
 ];
 

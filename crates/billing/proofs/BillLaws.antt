@@ -1,0 +1,98 @@
+-- The bands add up to the bytes, and no product or sum of a bill wraps, since the rates are at most 1,000 and the bytes at most 2^54: 1,000 × 2^54 + 2^30 is below 2^64. The cents are the least number that covers the charge.
+use mathlib.Core.Path.{_≡_, refl, sym, ap, ap₂, subst₂, _∙_}
+use mathlib.Core.Bool.{Bool, true, false, _||_}
+use Prim.Native.Nat.{ℕ, _+_, _-_, _*_, _/_, _^_, _≤_, _<_}
+use native.Mathlib.Nat.{mul-le-mul-left, mod-lt, div-add-mod'}
+use native.Mathlib.Omega.{arith}
+use lib.Dec.{eqb, leb, ltb}
+use borrow.Author.Tests.{leb-true, leb-false, ltb-false, ne-eqb}
+use Rattle.laws.specs.Choice.{pick, when, firstOf}
+use Rattle.laws.proofs.Flags.{or-false-l, or-false-r}
+use Rattle.laws.proofs.ChoiceLaws.{first-none, when-none}
+use Rattle.billing.specs.declared.Bill.{Bill}
+use Rattle.billing.specs.Bills.{least, gib, inFirst, inSecond, inThird, charge, centsOf, rateFault, bytesFault, billFault, Refused, Says, BillSays}
+
+-- the smaller of two numbers is at most each of them
+pub least-most : (a b : ℕ) → (least a b ≤ a) × (least a b ≤ b)
+least-most a b = go (leb a b) refl
+  where
+    go : (t : Bool) → leb a b ≡ t → (pick t a b ≤ a) × (pick t a b ≤ b)
+    go true e = (omega arith, leb-true a b e)
+    go false e = (omega (arith, leb-false a b e), omega arith)
+
+least-up : (b g h : ℕ) → g ≤ h → least b g ≤ least b h
+least-up b g h l = go (leb b g) (leb b h) refl refl
+  where
+    go : (s t : Bool) → leb b g ≡ s → leb b h ≡ t → pick s b g ≤ pick t b h
+    go true true e q = omega arith
+    go true false e q = omega (arith, leb-true b g e)
+    go false true e q = omega (arith, leb-false b g e)
+    go false false e q = l
+
+-- the refusal from the tests
+pub fault-is : (b r s t : ℕ) (x y z w : Bool) → ltb 1000 r ≡ x → ltb 1000 s ≡ y → ltb 1000 t ≡ z → ltb (2 ^ 54) b ≡ w → firstOf (when (x || (y || z)) 16) (when w 17) ≡ billFault b r s t
+fault-is b r s t x y z w ex ey ez ew =
+    sym
+    (ap₂ (λ (i j : Bool). firstOf (when (i || (j || ltb 1000 t)) 16) (bytesFault b)) ex ey
+    ∙ ap₂ (λ (i j : Bool). firstOf (when (x || (y || i)) 16) (when j 17)) ez ew)
+
+-- no refusal: the numbers of an accepted bill, with the bytes up to 64 GiB and up to 1,024 GiB
+pub record Fair (b r s t low most : ℕ) : Type 0 where
+  pub ordered : low ≤ most
+  pub within : most ≤ b
+  pub bytes : b ≤ 2 ^ 54
+  pub first : low * r ≤ low * 1000
+  pub second : (most - low) * s ≤ (most - low) * 1000
+  pub third : (b - most) * t ≤ (b - most) * 1000
+
+fair : (b r s t : ℕ) → billFault b r s t ≡ 0 → Fair b r s t (least b (2 ^ 36)) (least b (2 ^ 40))
+fair b r s t e =
+    let w = first-none (rateFault r s t) (bytesFault b) e in
+    let x : (ltb 1000 r || (ltb 1000 s || ltb 1000 t)) ≡ false = when-none (ltb 1000 r || (ltb 1000 s || ltb 1000 t)) 15 (w .0) in
+    let y : (ltb 1000 s || ltb 1000 t) ≡ false = or-false-r (ltb 1000 r) (ltb 1000 s || ltb 1000 t) x in
+    record {
+      ordered = least-up b (2 ^ 36) (2 ^ 40) (omega arith);
+      within = least-most b (2 ^ 40) .0;
+      bytes = ltb-false (2 ^ 54) b (when-none (ltb (2 ^ 54) b) 16 (w .1));
+      first = mul-le-mul-left (inFirst b) (ltb-false 1000 r (or-false-l (ltb 1000 r) (ltb 1000 s || ltb 1000 t) x));
+      second = mul-le-mul-left (inSecond b) (ltb-false 1000 s (or-false-l (ltb 1000 s) (ltb 1000 t) y));
+      third = mul-le-mul-left (inThird b) (ltb-false 1000 t (or-false-r (ltb 1000 s) (ltb 1000 t) y));
+    }
+
+pub fault-none : (b r s t low most : ℕ) → billFault b r s t ≡ 0 → low ≡ least b (2 ^ 36) → most ≡ least b (2 ^ 40) → Fair b r s t low most
+fault-none b r s t low most e l m = subst₂ (λ (x y : ℕ). Fair b r s t x y) (sym l) (sym m) (fair b r s t e)
+
+pub bill-refused : (m b r s t n : ℕ) (x : Bill) → n ≡ m → (n ≡ 0 → ⊥) → Refused n x → Says m b r s t x
+bill-refused m b r s t n x e z k =
+    let f : eqb m 0 ≡ false = ne-eqb m 0 (λ q. z (e ∙ q)) in
+    record {
+      number = k .number ∙ e;
+      place = k .place;
+      first = k .first ∙ sym (ap (λ (c : Bool). pick c (inFirst b) 0) f);
+      second = k .second ∙ sym (ap (λ (c : Bool). pick c (inSecond b) 0) f);
+      third = k .third ∙ sym (ap (λ (c : Bool). pick c (inThird b) 0) f);
+      cents = k .cents ∙ sym (ap (λ (c : Bool). pick c (centsOf b r s t) 0) f);
+    }
+
+pub bill-done : (b r s t low most : ℕ) → billFault b r s t ≡ 0 → low ≡ least b (2 ^ 36) → most ≡ least b (2 ^ 40)
+    → BillSays b r s t (record { number = 0; place = 0; first = low; second = most - low; third = b - most; cents = (low * r + (most - low) * s + (b - most) * t + (gib - 1)) / gib })
+bill-done b r s t low most z l m =
+    record {
+      number = sym z;
+      place = refl;
+      first = l ∙ sym (ap (λ (n : ℕ). pick (eqb n 0) (inFirst b) 0) z);
+      second = ap₂ (λ (x y : ℕ). y - x) l m ∙ sym (ap (λ (n : ℕ). pick (eqb n 0) (inSecond b) 0) z);
+      third = ap (λ (y : ℕ). b - y) m ∙ sym (ap (λ (n : ℕ). pick (eqb n 0) (inThird b) 0) z);
+      cents = ap₂ (λ (x y : ℕ). (x * r + (y - x) * s + (b - y) * t + (gib - 1)) / gib) l m ∙ sym (ap (λ (n : ℕ). pick (eqb n 0) (centsOf b r s t) 0) z);
+    }
+
+-- "bytes in each band, adding up to the whole"
+pub bands-add : (b : ℕ) → inFirst b + inSecond b + inThird b ≡ b
+bands-add b = omega (arith, least-up b (2 ^ 36) (2 ^ 40) (omega arith), least-most b (2 ^ 40))
+
+-- the cents cover the charge, and a cent less does not
+pub cents-enough : (b r s t : ℕ) → charge b r s t ≤ centsOf b r s t * gib
+cents-enough b r s t = omega (arith, div-add-mod' (charge b r s t + (gib - 1)) gib, mod-lt (charge b r s t + (gib - 1)) {m = gib} (omega arith))
+
+pub cents-fewest : (b r s t : ℕ) → centsOf b r s t * gib < charge b r s t + gib
+cents-fewest b r s t = omega (arith, div-add-mod' (charge b r s t + (gib - 1)) gib)

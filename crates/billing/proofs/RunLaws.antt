@@ -1,0 +1,38 @@
+-- The bill of a run: the bytes that a run can have read are at most 2^54, since each step reads at most p² cells of at most 4,096 bytes.
+use mathlib.Core.Path.{_≡_, sym, ap, subst, _∙_}
+use Prim.Native.Nat.{ℕ, _*_, _^_, _≤_}
+use native.Mathlib.Nat.{mul-le-mul}
+use native.Mathlib.Omega.{arith}
+use lib.Dec.{eqb}
+use Rattle.laws.specs.Choice.{pick, firstOf}
+use Rattle.laws.proofs.ChoiceLaws.{first-kept}
+use Rattle.liberation.proofs.FaultLaws.{numbers-of}
+use Rattle.runs.specs.declared.Run.{Run}
+use Rattle.runs.specs.declared.Progress.{Progress}
+use Rattle.runs.specs.Runs.{cellsSoFar, runFault, ProgressSays}
+use Rattle.billing.specs.declared.Bill.{Bill}
+use Rattle.billing.specs.Bills.{runBytes, runBillFault, billFault, Refused, Says, BillSays, RunBillSays}
+use Rattle.billing.proofs.BillLaws.{bill-refused}
+
+-- the record is refused
+pub run-refused : (x : Run) (r s t : ℕ) (g : Progress) (y : Bill) → ProgressSays x g → (g .number ≡ 0 → ⊥) → Refused (g .number) y → RunBillSays x r s t y
+run-refused x r s t g y k n d =
+    bill-refused (runBillFault x r s t) (runBytes x) r s t (g .number) y (first-kept (g .number) (runFault x) (billFault (runBytes x) r s t) (k .number) n) n d
+
+-- what was read of a record that is not refused
+module _ (x : Run) (g : Progress) (k : ProgressSays x g) (z : g .number ≡ 0) where
+  fine : runFault x ≡ 0
+  fine = sym (k .number) ∙ z
+
+  read : g .cells ≡ cellsSoFar x
+  read = k .cells ∙ ap (λ (n : ℕ). pick (eqb n 0) (cellsSoFar x) 0) fine
+
+  -- its bytes are below 2^54, so they do not wrap and 17 never comes
+  pub bytes-fit : g .cells * x .size ≤ 2 ^ 54
+  bytes-fit = omega (arith, mul-le-mul (k .few) (numbers-of (x .width) (x .width) (x .size) (x .disk) fine .2))
+
+  -- and are billed
+  pub run-billed : (r s t : ℕ) (y : Bill) → BillSays (g .cells * x .size) r s t y → RunBillSays x r s t y
+  run-billed r s t y d =
+      let e : billFault (runBytes x) r s t ≡ runBillFault x r s t = sym (ap (λ (n : ℕ). firstOf n (billFault (runBytes x) r s t)) fine) in
+      subst (λ (n : ℕ). Says n (runBytes x) r s t y) e (subst (λ (n : ℕ). BillSays (n * x .size) r s t y) read d)

@@ -1,0 +1,75 @@
+-- Bills of hosted rebuilds (document 02, ask 6), and the promises of the calls, for accepted and refused calls alike.
+use mathlib.Core.Path.{_≡_}
+use mathlib.Core.Bool.{_||_}
+use Prim.Native.Nat.{ℕ, _+_, _-_, _*_, _/_, _^_}
+use lib.Dec.{eqb, leb, ltb}
+use Rattle.laws.specs.Choice.{pick, when, firstOf}
+use Rattle.runs.specs.declared.Run.{Run}
+use Rattle.runs.specs.Runs.{cellsSoFar, runFault}
+use Rattle.billing.specs.declared.Bill.{Bill}
+
+abbrev pub least : ℕ → ℕ → ℕ
+least a b = pick (leb a b) a b
+
+-- a GiB, 2^30 bytes
+abbrev pub gib : ℕ
+gib = 2 ^ 30
+
+-- "The first 64 GiB have one rate, the part above that up to 1,024 GiB a second, the rest a third": the bytes in each band
+abbrev pub inFirst : ℕ → ℕ
+inFirst b = least b (2 ^ 36)
+
+abbrev pub inSecond : ℕ → ℕ
+inSecond b = least b (2 ^ 40) - least b (2 ^ 36)
+
+abbrev pub inThird : ℕ → ℕ
+inThird b = b - least b (2 ^ 40)
+
+-- "The three products are added before any division": in cents times bytes of a GiB
+abbrev pub charge : ℕ → ℕ → ℕ → ℕ → ℕ
+charge b r s t = inFirst b * r + inSecond b * s + inThird b * t
+
+-- "and the sum is then rounded up to a whole cent"
+abbrev pub centsOf : ℕ → ℕ → ℕ → ℕ → ℕ
+centsOf b r s t = (charge b r s t + (gib - 1)) / gib
+
+-- refusal 16: "a rate over 1,000"; 17: "more than 2^54 bytes"
+abbrev pub rateFault : ℕ → ℕ → ℕ → ℕ
+rateFault r s t = when (ltb 1000 r || (ltb 1000 s || ltb 1000 t)) 16
+
+abbrev pub bytesFault : ℕ → ℕ
+bytesFault b = when (ltb (2 ^ 54) b) 17
+
+abbrev pub billFault : ℕ → ℕ → ℕ → ℕ → ℕ
+billFault b r s t = firstOf (rateFault r s t) (bytesFault b)
+
+-- a bill of b bytes that is refused by n, or not where n is 0
+pub record Says (n b r s t : ℕ) (x : Bill) : Type 0 where
+  pub number : x .number ≡ n
+  pub place : x .place ≡ 0
+  pub first : x .first ≡ pick (eqb n 0) (inFirst b) 0
+  pub second : x .second ≡ pick (eqb n 0) (inSecond b) 0
+  pub third : x .third ≡ pick (eqb n 0) (inThird b) 0
+  pub cents : x .cents ≡ pick (eqb n 0) (centsOf b r s t) 0
+
+abbrev pub BillSays : ℕ → ℕ → ℕ → ℕ → Bill → Type 0
+BillSays b r s t x = Says (billFault b r s t) b r s t x
+
+-- "The bill of a run takes cells read × s as its bytes": its record refuses by 1, 2 and 3, as reading it does
+abbrev pub runBytes : Run → ℕ
+runBytes x = cellsSoFar x * x .size
+
+abbrev pub runBillFault : Run → ℕ → ℕ → ℕ → ℕ
+runBillFault x r s t = firstOf (runFault x) (billFault (runBytes x) r s t)
+
+abbrev pub RunBillSays : Run → ℕ → ℕ → ℕ → Bill → Type 0
+RunBillSays x r s t y = Says (runBillFault x r s t) (runBytes x) r s t y
+
+-- a refusal by number n
+pub record Refused (n : ℕ) (x : Bill) : Type 0 where
+  pub number : x .number ≡ n
+  pub place : x .place ≡ 0
+  pub first : x .first ≡ 0
+  pub second : x .second ≡ 0
+  pub third : x .third ≡ 0
+  pub cents : x .cents ≡ 0

@@ -1,0 +1,2 @@
+-- What a bill of a hosted rebuild is.
+pub mod Bills

@@ -1,0 +1,89 @@
+// Bills of hosted rebuilds (document 02, ask 6): bytes read in three bands, each with its rate in cents per GiB.
+ghost use mathlib.Core.Path.{_≡_};
+ghost use Rattle.billing.specs.Bills.{least, billFault, Refused, BillSays, RunBillSays};
+use runs::Run;
+
+// A refusal number (0 for none) and its place, the bytes in each of the three bands, and the cents.
+#[repr(C)]
+pub struct Bill {
+    pub number: u8,
+    pub place: u32,
+    pub first: u64,
+    pub second: u64,
+    pub third: u64,
+    pub cents: u64,
+}
+
+// A refusal: every other field is zero.
+fn refused_bill(number: u8) -> Bill
+    ensures { λ r. ⌜ Refused number r ⌝ }
+{
+    Bill {
+        number: number,
+        place: 0,
+        first: 0,
+        second: 0,
+        third: 0,
+        cents: 0,
+    }
+}
+
+// The smaller of two numbers.
+fn least_of(a: u64, b: u64) -> u64
+    ensures { λ r. ⌜ r ≡ least a b ⌝ }
+{
+    if a <= b { a } else { b }
+}
+
+// The refusal of a bill by 16 or 17, 0 for none.
+fn bill_fault(bytes: u64, first: u64, second: u64, third: u64) -> u8
+    ensures { λ r. ⌜ r ≡ billFault bytes first second third ⌝ }
+{
+    if 1000 < first {
+        return 16;
+    }
+    if 1000 < second {
+        return 16;
+    }
+    if 1000 < third {
+        return 16;
+    }
+    if 18014398509481984 < bytes {
+        return 17;
+    }
+    0
+}
+
+// The bill of `bytes` bytes read, with the rates of the three bands. Refusals: 16, 17.
+pub fn bill_bytes(bytes: u64, first: u64, second: u64, third: u64) -> Bill
+    ensures { λ r. ⌜ BillSays bytes first second third r ⌝ }
+{
+    let fault = bill_fault(bytes, first, second, third);
+    if fault != 0 {
+        return refused_bill(fault);
+    }
+    let low = least_of(bytes, 68719476736);
+    let most = least_of(bytes, 1099511627776);
+    let middle = most - low;
+    let rest = bytes - most;
+    let charge = low * first + middle * second + rest * third;
+    Bill {
+        number: 0,
+        place: 0,
+        first: low,
+        second: middle,
+        third: rest,
+        cents: (charge + 1073741823) / 1073741824,
+    }
+}
+
+// The bill of a run: cells read so far times the bytes of a cell. Refusals: 1, 2, 3, 16.
+pub fn bill_run(run: Run, first: u64, second: u64, third: u64) -> Bill
+    ensures { λ r. ⌜ RunBillSays run first second third r ⌝ }
+{
+    let progress = runs::progress_of(run);
+    if progress.number != 0 {
+        return refused_bill(progress.number);
+    }
+    bill_bytes(progress.cells * run.size as u64, first, second, third)
+}
