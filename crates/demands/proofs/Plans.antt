@@ -1,29 +1,28 @@
 -- Demand 3 said of the planner's and the judge's calls: whatever bytes a host sends and whatever the two calls return, as long as they keep their promises.
 use mathlib.Core.Path.{_≡_, sym, ap, ap₂, _∙_}
-use mathlib.Core.Bool.{true}
 use mathlib.Core.List.{List}
 use Prim.Native.Nat.{ℕ, _+_, _-_, _*_, _≤_, _<_}
 use native.Mathlib.Omega.{arith}
 use lib.Dec.{eqb}
 use Rattle.laws.specs.Choice.{pick, when}
-use Rattle.liberation.specs.Sets.{isWidth}
+use Rattle.liberation.specs.Sets.{planFault}
 use Rattle.liberation.specs.Plans.{Step, planOf, readCount}
 use Rattle.liberation.specs.Judging.{accepted, stepsIn}
 use Rattle.liberation.specs.Claims.{isBest, diagonalsUsed, loneExtras, byExtra, Rearranged}
+use Rattle.liberation.proofs.FaultLaws.{plan-of, plan-none}
 use Rattle.liberation.proofs.Rearranging.{count-same}
 use Rattle.liberation.proofs.Demand3.{plans-best, plan-accepted}
 use Rattle.planner.specs.declared.Plan.{Plan}
-use Rattle.planner.specs.Records.{judgeForm}
 use Rattle.planner.specs.Says.{PlanSays}
-use Rattle.planner.proofs.PlanLaws.{fault-none}
-use Rattle.planner.proofs.FormLaws.{length-form, plan-form}
+use Rattle.planner.proofs.FormLaws.{formOf, plan-form}
+use Rattle.liberation.proofs.RecordLaws.{length-form}
 use Rattle.judge.specs.declared.Judged.{Judged}
 use Rattle.judge.specs.Says.{JudgeSays}
 use Rattle.judge.proofs.AcceptLaws.{Acceptable, zero-accepts, accepts-zero, zero-counts}
 
 -- the planner's count is the read count of our plan
-planner-reads : (p f : ℕ) (r : Plan) → isWidth p ≡ true → f ≤ p + 1 → PlanSays p f r → r .reads ≡ readCount p p f (planOf p p f)
-planner-reads p f r w h k = k .reads ∙ ap (λ (n : ℕ). pick (eqb n 0) (readCount p p f (planOf p p f)) 0) (fault-none p f w h)
+planner-reads : (p f : ℕ) (r : Plan) → planFault p p f ≡ 0 → PlanSays p f r → r .reads ≡ readCount p p f (planOf p p f)
+planner-reads p f r z k = k .reads ∙ ap (λ (n : ℕ). pick (eqb n 0) (readCount p p f (planOf p p f)) 0) z
 
 -- What holds of a host's plan bs for a lost data disk f that the judge accepts with answer j, where our planner answers r.
 pub record Compared (p f : ℕ) (bs : List ℕ) (r : Plan) (j : Judged) : Type 0 where
@@ -52,7 +51,7 @@ compared p f bs r j l k d z =
     let a = zero-accepts p f bs j d z in
     let best = plans-best p f (a .width) l in
     let ss = stepsIn p bs in
-    let ours : r .reads ≡ readCount p p f (planOf p p f) = planner-reads p f r (a .width) (a .disk) k in
+    let ours : r .reads ≡ readCount p p f (planOf p p f) = planner-reads p f r (plan-none p p f (a .width) (a .disk)) k in
     let theirs : j .reads ≡ readCount p p f ss = zero-counts p f bs j d z in
     record {
       least = omega (arith, ours, theirs, best .least ss (a .accepts));
@@ -64,14 +63,19 @@ pub record OwnAccepted (r : Plan) (j : Judged) : Type 0 where
   pub number : j .number ≡ 0
   pub reads : j .reads ≡ r .reads
 
-pub own-accepted : (p f : ℕ) (r : Plan) (j : Judged) → isWidth p ≡ true → f ≤ p + 1 → PlanSays p f r → JudgeSays p f (judgeForm p 0 (r .rows) (r .kinds) (r .sets)) j → OwnAccepted r j
-own-accepted p f r j w h k d =
-    let bs : List ℕ = judgeForm p 0 (r .rows) (r .kinds) (r .sets) in
-    let e : stepsIn p bs ≡ planOf p p f = plan-form p f r w h k in
-    let a : Acceptable p f bs = record { width = w; disk = h; long = length-form p 0 (r .rows) (r .kinds) (r .sets); accepts = ap (accepted p p f) e ∙ plan-accepted p f w h } in
+pub own-accepted : (p f : ℕ) (r : Plan) (j : Judged) → PlanSays p f r → r .number ≡ 0 → JudgeSays p f (formOf p (r .steps)) j → OwnAccepted r j
+own-accepted p f r j k n d =
+    let s = r .steps in
+    let bs : List ℕ = formOf p s in
+    let none : planFault p p f ≡ 0 = sym (k .number) ∙ n in
+    let w = plan-of p p f none in
+    let e : stepsIn p bs ≡ planOf p p f = plan-form p f r none k in
+    let a : Acceptable p f bs = record { width = w .0; disk = w .1; long = length-form p 0 (s .rows) (s .kinds) (s .numbers); accepts = ap (accepted p p f) e ∙ plan-accepted p f (w .0) (w .1) } in
     let z : j .number ≡ 0 = accepts-zero p f bs j d a in
-    record { number = z; reads = zero-counts p f bs j d z ∙ ap (λ (ss : List Step). readCount p p f ss) e ∙ sym (planner-reads p f r w h k) }
+    record { number = z; reads = zero-counts p f bs j d z ∙ ap (λ (ss : List Step). readCount p p f ss) e ∙ sym (planner-reads p f r none k) }
 
 -- "Ours is (3p² + 1)/4."
-pub own-count : (p f : ℕ) (r : Plan) → isWidth p ≡ true → f < p → PlanSays p f r → 4 * r .reads ≡ 3 * (p * p) + 1
-own-count p f r w l k = ap (λ (n : ℕ). 4 * n) (planner-reads p f r w (omega arith) k) ∙ plans-best p f w l .ours-count
+pub own-count : (p f : ℕ) (r : Plan) → f < p → PlanSays p f r → r .number ≡ 0 → 4 * r .reads ≡ 3 * (p * p) + 1
+own-count p f r l k n =
+    let none : planFault p p f ≡ 0 = sym (k .number) ∙ n in
+    ap (λ (m : ℕ). 4 * m) (planner-reads p f r none k) ∙ plans-best p f (plan-of p p f none .0) l .ours-count

@@ -51,6 +51,10 @@ evenRows = step 0 0 0 ∷ (step 2 0 2 ∷ (step 4 0 4 ∷ (step 1 1 1 ∷ (step 
 abbrev pub film : List ℕ
 film = 0x01 ∷ (0x08 ∷ (0x40 ∷ (0x02 ∷ (0x10 ∷ (0x80 ∷ (0x04 ∷ (0x20 ∷ (0x00 ∷ []))))))))
 
+-- the same with other bytes in the column of disk 1
+abbrev pub filmLost : List ℕ
+filmLost = 0x01 ∷ (0x08 ∷ (0x40 ∷ (0x5A ∷ (0xA5 ∷ (0xFF ∷ (0x04 ∷ (0x20 ∷ (0x00 ∷ []))))))))
+
 abbrev pub filmParity : List ℕ
 filmParity = 0x07 ∷ (0x38 ∷ (0xC0 ∷ (0x11 ∷ (0x9C ∷ (0x66 ∷ [])))))
 
@@ -59,8 +63,8 @@ table =
     -- P is 07 38 C0, Q is 11 9C 66, whatever stood there before; the stripe is then clean
     (encoded 3 3 1 (film ++ replicate 6 9) is (film ++ filmParity))
     ∷ (((when (clean 3 3 1 (film ++ filmParity)) 1 ∷ []) is (1 ∷ []))
-    -- Losing disk 1 there gives 02 10 80
-    ∷ ((rebuilt 3 3 1 1 (film ++ filmParity) is (0x02 ∷ (0x10 ∷ (0x80 ∷ []))))
+    -- Losing disk 1 there gives 02 10 80, whatever its column holds
+    ∷ ((rebuilt 3 3 1 1 (filmLost ++ filmParity) is (0x02 ∷ (0x10 ∷ (0x80 ∷ []))))
     -- by R0, D0, D1, with 7 reads
     ∷ ((written (planOf 3 3 1) is (0 ∷ (0 ∷ (0 ∷ (1 ∷ (1 ∷ (0 ∷ (2 ∷ (1 ∷ (1 ∷ []))))))))))
     ∷ ((verdict 3 1 (planOf 3 3 1) is (0 ∷ (0 ∷ (7 ∷ []))))

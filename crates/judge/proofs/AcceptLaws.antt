@@ -1,20 +1,20 @@
 -- The judge's answer and acceptance: its number is 0 exactly for the bytes of an accepted plan, and its reads are then that plan's read count.
 use mathlib.Core.Path.{_≡_, refl, sym, ap, ap₂, _∙_}
-use mathlib.Core.Bool.{true, false, not}
+use mathlib.Core.Bool.{true}
 use mathlib.Core.List.{List}
 use Prim.Native.Nat.{ℕ, zero, suc, _+_, _*_, _≤_}
-use lib.Dec.{eqb, ltb}
+use lib.Dec.{eqb}
 use lib.ListN.{length, drop}
-use borrow.Author.Tests.{eqb-true, ltb-false, eq-eqb, le-ltb, not-false}
+use borrow.Author.Tests.{eqb-true, eq-eqb}
 use Rattle.laws.specs.Choice.{pick, firstOf}
-use Rattle.laws.proofs.ChoiceLaws.{first-none, when-none}
+use Rattle.laws.proofs.ChoiceLaws.{first-none}
 use Rattle.laws.proofs.Flags.{and-i, and-r}
-use Rattle.liberation.specs.Sets.{isWidth, widthFault, diskFault, longFault}
+use Rattle.liberation.specs.Sets.{isWidth, planFault, longFault}
 use Rattle.liberation.specs.Plans.{readCount}
 use Rattle.liberation.specs.Judging.{judge, stepsIn, accepted}
+use Rattle.liberation.proofs.FaultLaws.{plan-of, plan-none, long-accepted, long-of}
 use Rattle.judge.specs.declared.Judged.{Judged}
 use Rattle.judge.specs.Says.{formFault, JudgeSays}
-use Rattle.judge.proofs.FormLaws.{form-is}
 
 -- the bytes bs are an accepted plan for lost disk f
 pub record Acceptable (p f : ℕ) (bs : List ℕ) : Type 0 where
@@ -33,27 +33,24 @@ pub zero-accepts : (p f : ℕ) (bs : List ℕ) (r : Judged) → JudgeSays p f bs
 unfolding accepted
 zero-accepts p f bs r s e =
     record {
-      width = not-false (isWidth p) (when-none (not (isWidth p)) 0 (form .0));
-      disk = ltb-false (p + 1) f (when-none (ltb (p + 1) f) 2 (rest .0));
-      long = eqb-true (length bs) (3 * p) (not-false (eqb (length bs) (3 * p)) (when-none (not (eqb (length bs) (3 * p))) 4 (rest .1)));
+      width = plan-of p p f (form .0) .0;
+      disk = plan-of p p f (form .0) .1;
+      long = long-of (3 * p) bs (form .1);
       accepts = and-i (eqb (length (stepsIn p bs)) p) (eqb (judge p p f (stepsIn p bs) .number) 0) (eq-eqb (length (stepsIn p bs)) p (steps-long p bs)) (eq-eqb (judge p p f (stepsIn p bs) .number) 0 (all .1));
     }
   where
     all : (formFault p f bs ≡ 0) × (judge p p f (stepsIn p bs) .number ≡ 0)
     all = first-none (formFault p f bs) (judge p p f (stepsIn p bs) .number) (sym (s .number) ∙ e)
 
-    form : (widthFault p ≡ 0) × (firstOf (diskFault p f) (longFault (3 * p) bs) ≡ 0)
-    form = first-none (widthFault p) (firstOf (diskFault p f) (longFault (3 * p) bs)) (all .0)
-
-    rest : (diskFault p f ≡ 0) × (longFault (3 * p) bs ≡ 0)
-    rest = first-none (diskFault p f) (longFault (3 * p) bs) (form .1)
+    form : (planFault p p f ≡ 0) × (longFault (3 * p) bs ≡ 0)
+    form = first-none (planFault p p f) (longFault (3 * p) bs) (all .0)
 
 pub accepts-zero : (p f : ℕ) (bs : List ℕ) (r : Judged) → JudgeSays p f bs r → Acceptable p f bs → r .number ≡ 0
 unfolding accepted
 accepts-zero p f bs r s a = s .number ∙ ap₂ firstOf form steps
   where
     form : formFault p f bs ≡ 0
-    form = form-is p f bs true false true (a .width) (le-ltb (p + 1) f (a .disk)) (eq-eqb (length bs) (3 * p) (a .long))
+    form = ap₂ firstOf (plan-none p p f (a .width) (a .disk)) (long-accepted (3 * p) bs (a .long))
 
     steps : judge p p f (stepsIn p bs) .number ≡ 0
     steps = eqb-true (judge p p f (stepsIn p bs) .number) 0 (and-r (eqb (length (stepsIn p bs)) p) (eqb (judge p p f (stepsIn p bs) .number) 0) (a .accepts))

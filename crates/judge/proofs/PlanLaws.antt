@@ -18,8 +18,9 @@ use Rattle.liberation.specs.Plans.{Step, step, readFrom, cellsRead, readCount, 
 use Rattle.liberation.specs.Judging.{Judged, judged, judge, judgeFrom, stepFault, stepsIn}
 use Rattle.liberation.proofs.SetLaws.{survivors-below}
 use Rattle.sets.specs.Marks.{Marked, markAll, freshIn}
-use Rattle.sets.proofs.MarkLaws.{length-marks, mark-set, marks-added, fresh-added, fresh-le}
-use Rattle.sets.proofs.SizeLaws.{size-most}
+use Rattle.sets.proofs.MarkLaws.{marks-added, fresh-added, fresh-le}
+use Rattle.liberation.proofs.MarkLists.{length-marks, mark-set}
+use Rattle.liberation.proofs.SetSizes.{size-most}
 use Rattle.judge.specs.Says.{StepsSay}
 use Rattle.judge.proofs.StepLaws.{outOfForm, fault-is}
 

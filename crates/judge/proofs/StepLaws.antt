@@ -14,7 +14,7 @@ use Rattle.laws.proofs.SearchLaws.{drop-next}
 use Rattle.liberation.specs.Sets.{rowAt, diskAt, setOf, lostIn}
 use Rattle.liberation.specs.Plans.{Step, marksFrom}
 use Rattle.liberation.specs.Judging.{othersThere, stepFault}
-use Rattle.sets.proofs.MarkLaws.{mark-at}
+use Rattle.liberation.proofs.ReadListLaws.{mark-at}
 
 -- of the cells xs, those on the lost disk are there, row r apart
 abbrev pub there : ℕ → ℕ → ℕ → List ℕ → List ℕ → Bool

@@ -4,14 +4,14 @@ use mathlib.Core.List.{List}
 use Prim.Native.Nat.{ℕ, _*_}
 use lib.Dec.{eqb}
 use Rattle.laws.specs.Choice.{pick, firstOf}
-use Rattle.liberation.specs.Sets.{widthFault, diskFault, longFault}
+use Rattle.liberation.specs.Sets.{planFault, longFault}
 use Rattle.liberation.specs.Plans.{readCount}
 use Rattle.liberation.specs.Judging.{judge, stepsIn}
 use Rattle.judge.specs.declared.Judged.{Judged}
 
 -- refusals before any step is looked at
 abbrev pub formFault : ℕ → ℕ → List ℕ → ℕ
-formFault p f bs = firstOf (widthFault p) (firstOf (diskFault p f) (longFault (3 * p) bs))
+formFault p f bs = firstOf (planFault p p f) (longFault (3 * p) bs)
 
 -- all refusals
 abbrev pub judgeFault : ℕ → ℕ → List ℕ → ℕ

@@ -3,9 +3,11 @@ ghost use mathlib.Core.Path.{_≡_};
 ghost use mathlib.Core.Bool.{not};
 ghost use mathlib.Core.List.{List, [], _∷_};
 ghost use Prim.Native.Nat.{ℕ, _+_, _*_, _<_};
+ghost use lib.Dec.{eqb};
 ghost use lib.ListN.{length};
 ghost use Rattle.laws.specs.Lists.{isIn};
-ghost use Rattle.liberation.specs.Sets.{setOf, lostIn};
+ghost use Rattle.laws.specs.Choice.{firstOf, when};
+ghost use Rattle.liberation.specs.Sets.{setOf, lostIn, planFault};
 ghost use Rattle.liberation.specs.Plans.{step, marksFrom};
 ghost use Rattle.liberation.specs.Judging.{othersThere, stepFault};
 ghost use Rattle.judge.specs.Limits.{InArray};
@@ -153,27 +155,28 @@ fn judge_steps(width: usize, disk: usize, plan: &[u8], marks: &mut [u8]) -> Judg
     }
 }
 
-// Judges a plan of three bytes a step: row, kind, number.
+// The refusal of a plan of `long` bytes before any step is looked at, 0 for none.
+fn form_fault(width: usize, disk: usize, long: usize) -> u8
+    ensures { λ r. ⌜ r ≡ firstOf (planFault width width disk) (when (not (eqb long (3 * width))) 5) ⌝ }
+{
+    let fault = sets::plan_fault(width, disk);
+    if fault != 0 {
+        return fault;
+    }
+    if long != 3 * width {
+        return 5;
+    }
+    0
+}
+
+// Judges a plan of three bytes a step: row, kind, number. Refusals: 1, 3, 5, then 6 to 9 with the step as their place.
 pub fn judge_plan(width: usize, disk: usize, plan: &[u8]) -> Judged
     ensures { λ r. ⌜ JudgeSays width disk (now (plan .entry)) r ⌝ }
 {
-    if !sets::is_width(width) {
+    let fault = form_fault(width, disk, plan.len());
+    if fault != 0 {
         return Judged {
-            number: 1,
-            place: 0,
-            reads: 0,
-        };
-    }
-    if width + 1 < disk {
-        return Judged {
-            number: 3,
-            place: 0,
-            reads: 0,
-        };
-    }
-    if plan.len() != 3 * width {
-        return Judged {
-            number: 5,
+            number: fault,
             place: 0,
             reads: 0,
         };

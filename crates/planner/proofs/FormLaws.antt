@@ -1,57 +1,39 @@
 -- The planner's record put into the judge's form, three bytes a step, is the defined plan; the ones of the read list are as many as the count says.
-use mathlib.Core.Path.{_≡_, refl, sym, ap, ap₂, _∙_}
+use mathlib.Core.Path.{_≡_, ap, _∙_}
 use mathlib.Core.Bool.{true}
-use mathlib.Core.List.{List, _∷_}
-use Prim.Native.Nat.{ℕ, zero, suc, _+_, _*_, _≤_}
+use mathlib.Core.List.{List}
+use Prim.Native.Nat.{ℕ, _+_, _*_, _≤_}
 use native.Mathlib.Omega.{arith}
-use lib.ListN.{length, getD, drop, drop-of-length-le}
+use lib.ListN.{length}
 use Rattle.laws.specs.Sums.{total}
-use Rattle.liberation.specs.Sets.{isWidth}
-use Rattle.liberation.specs.Plans.{Step, step, planOf, readCount, readList}
+use Rattle.liberation.specs.Sets.{isWidth, planFault}
+use Rattle.liberation.specs.Plans.{Step, planOf, readCount, readList}
+use Rattle.liberation.specs.Records.{recorded, judgeForm}
 use Rattle.liberation.specs.Judging.{stepsIn}
+use Rattle.liberation.proofs.FaultLaws.{plan-of}
 use Rattle.liberation.proofs.ReadLaws.{marks-count}
 use Rattle.liberation.proofs.UsedLaws.{named-numbers}
 use Rattle.liberation.proofs.AcceptedLaws.{accepted-named}
 use Rattle.liberation.proofs.Demand3.{plan-accepted}
+use Rattle.liberation.proofs.RecordLaws.{form-steps, recorded-from, plan-length}
 use Rattle.planner.specs.declared.Plan.{Plan}
-use Rattle.planner.specs.Records.{listed, padded, recorded, judgeForm}
+use Rattle.planner.specs.declared.Steps.{Steps}
+use Rattle.planner.specs.Records.{Holds}
 use Rattle.planner.specs.Says.{PlanSays, plannedSteps}
-use Rattle.planner.proofs.PlanLaws.{planned-is}
-use Rattle.planner.proofs.ReadingLaws.{StepAt, step-at, plan-length}
+use Rattle.planner.proofs.PlanLaws.{held-as, planned-is}
 
--- three bytes a step
-pub length-form : (n i : ℕ) (rows kinds sets : List ℕ) → length (judgeForm n i rows kinds sets) ≡ 3 * n
-unfolding judgeForm
-length-form zero i rows kinds sets = refl
-length-form (suc n) i rows kinds sets = omega (arith, length-form n (suc i) rows kinds sets)
+-- the record's steps in the judge's form
+abbrev pub formOf : ℕ → Steps → List ℕ
+formOf p s = judgeForm p 0 (s .rows) (s .kinds) (s .numbers)
 
-form-steps : (n i : ℕ) (rows kinds sets : List ℕ) → stepsIn n (judgeForm n i rows kinds sets) ≡ recorded n i rows kinds sets
-unfolding stepsIn judgeForm recorded
-form-steps zero i rows kinds sets = refl
-form-steps (suc n) i rows kinds sets = ap (λ (l : List Step). step (getD rows i 0) (getD kinds i 0) (getD sets i 0) ∷ l) (form-steps n (suc i) rows kinds sets)
-
--- the record's places from i on hold the steps from i on
-recorded-from : (n i : ℕ) (ss : List Step) → i + n ≡ length ss → recorded n i (padded (listed (λ s. s .row) ss)) (padded (listed (λ s. s .kind) ss)) (padded (listed (λ s. s .number) ss)) ≡ drop i ss
-unfolding recorded
-recorded-from zero i ss e = sym (drop-of-length-le ss {i = i} (omega arith))
-recorded-from (suc n) i ss e =
-    let a = step-at ss i (omega arith) in
-    ap₂ (λ (s : Step) (l : List Step). s ∷ l) (held a) (recorded-from n (suc i) ss (omega arith)) ∙ sym (a .split)
-  where
-    held : (a : StepAt ss i) → step (getD (padded (listed (λ s. s .row) ss)) i 0) (getD (padded (listed (λ s. s .kind) ss)) i 0) (getD (padded (listed (λ s. s .number) ss)) i 0) ≡ a .this
-    held a = λ j. record { row = a .held (λ s. s .row) j; kind = a .held (λ s. s .kind) j; number = a .held (λ s. s .number) j }
+held-form : (p : ℕ) (ss : List Step) (s : Steps) → 0 + p ≡ length ss → Holds ss s → stepsIn p (formOf p s) ≡ ss
+held-form p ss s e k = form-steps p 0 (s .rows) (s .kinds) (s .numbers) ∙ (λ j. recorded p 0 (k .rows j) (k .kinds j) (k .numbers j)) ∙ recorded-from p 0 ss e
 
 -- "ours for the p steps of the planner's record, put in that form"
-pub plan-form : (p f : ℕ) (r : Plan) → isWidth p ≡ true → f ≤ p + 1 → PlanSays p f r → stepsIn p (judgeForm p 0 (r .rows) (r .kinds) (r .sets)) ≡ planOf p p f
-plan-form p f r w h k =
-    let ss : List Step = planOf p p f in
-    let e : plannedSteps p f ≡ ss = planned-is p f w h in
-    let row : r .rows ≡ padded (listed (λ s. s .row) ss) = k .rows ∙ ap (λ (x : List Step). padded (listed (λ s. s .row) x)) e in
-    let kind : r .kinds ≡ padded (listed (λ s. s .kind) ss) = k .kinds ∙ ap (λ (x : List Step). padded (listed (λ s. s .kind) x)) e in
-    let number : r .sets ≡ padded (listed (λ s. s .number) ss) = k .sets ∙ ap (λ (x : List Step). padded (listed (λ s. s .number) x)) e in
-    form-steps p 0 (r .rows) (r .kinds) (r .sets)
-    ∙ (λ j. recorded p 0 (row j) (kind j) (number j))
-    ∙ recorded-from p 0 ss (omega (arith, plan-length p f w h))
+pub plan-form : (p f : ℕ) (r : Plan) → planFault p p f ≡ 0 → PlanSays p f r → stepsIn p (formOf p (r .steps)) ≡ planOf p p f
+plan-form p f r z k =
+    let a = plan-of p p f z in
+    held-form p (planOf p p f) (r .steps) (omega (arith, plan-length p f (a .0) (a .1))) (held-as (plannedSteps p f) (planOf p p f) (r .steps) (planned-is p f z) (k .steps))
 
 -- "so the ones are as many as the count says"
 pub list-ones : (p f : ℕ) → isWidth p ≡ true → f ≤ p + 1 → total (readList p p f) ≡ readCount p p f (planOf p p f)

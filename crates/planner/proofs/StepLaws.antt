@@ -1,5 +1,5 @@
 -- Steps put into the record one by one, and the definition's list of steps taken row by row.
-use mathlib.Core.Path.{_≡_, refl, sym, ap, _∙_}
+use mathlib.Core.Path.{_≡_, refl, sym, ap, subst, _∙_}
 use mathlib.Core.Bool.{Bool, true, false}
 use mathlib.Core.List.{List, [], _∷_, _++_, append-assoc, append-nil}
 use Prim.Native.Nat.{ℕ, zero, suc, _+_, _-_, _≤_, _<_}
@@ -11,16 +11,9 @@ use lib.Seq.{drop-cons, set-at}
 use borrow.Author.Tests.{eq-eqb, ne-eqb}
 use Rattle.laws.specs.Choice.{pick}
 use Rattle.liberation.specs.Plans.{Step, step, diagonalOf, rowSteps, diagonalSteps, allOf}
-use Rattle.planner.specs.declared.Steps.{Steps}
-use Rattle.planner.specs.Records.{listed, padded, Holds}
-
-listed-append : (g : Step → ℕ) (ss ts : List Step) → listed g (ss ++ ts) ≡ listed g ss ++ listed g ts
-listed-append g [] ts = refl
-listed-append g (s ∷ ss) ts = ap (λ (l : List ℕ). g s ∷ l) (listed-append g ss ts)
-
-pub length-listed : (g : Step → ℕ) (ss : List Step) → length (listed g ss) ≡ length ss
-length-listed g [] = refl
-length-listed g (s ∷ ss) = ap suc (length-listed g ss)
+use Rattle.planner.specs.Records.{Counts}
+use Rattle.liberation.specs.Records.{listed, padded}
+use Rattle.liberation.proofs.RecordLaws.{listed-append, length-listed}
 
 -- the first zero after a list becomes its next element
 padded-more : (xs : List ℕ) (at v : ℕ) → at ≡ length xs → at < 31 → set (padded xs) at v ≡ padded (xs ++ (v ∷ []))
@@ -37,49 +30,50 @@ field-more g ss s old at e h q =
     ∙ padded-more (listed g ss) at (g s) (e ∙ sym (length-listed g ss)) h
     ∙ ap padded (sym (listed-append g ss (s ∷ [])))
 
-pub holds-more : (s : Steps) (row kind number : ℕ) → s .count < 31 → (ss : List Step) → Holds ss s → Holds (ss ++ (step row kind number ∷ [])) (record { rows = set (s .rows) (s .count) row; kinds = set (s .kinds) (s .count) kind; sets = set (s .sets) (s .count) number; count = s .count + 1 })
-holds-more s row kind number h ss k =
-    let st : Step = step row kind number in
+pub counts-more : (st : Step) (ss : List Step) (rows kinds numbers : List ℕ) (count : ℕ) → count < 31 → Counts ss rows kinds numbers count
+    → Counts (ss ++ (st ∷ [])) (set rows count (st .row)) (set kinds count (st .kind)) (set numbers count (st .number)) (count + 1)
+counts-more st ss rows kinds numbers count h k =
     record {
-      rows = field-more (λ x. x .row) ss st (s .rows) (s .count) (k .count) h (k .rows);
-      kinds = field-more (λ x. x .kind) ss st (s .kinds) (s .count) (k .count) h (k .kinds);
-      sets = field-more (λ x. x .number) ss st (s .sets) (s .count) (k .count) h (k .sets);
+      rows = field-more (λ x. x .row) ss st rows count (k .count) h (k .rows);
+      kinds = field-more (λ x. x .kind) ss st kinds count (k .count) h (k .kinds);
+      numbers = field-more (λ x. x .number) ss st numbers count (k .count) h (k .numbers);
       count = ap (λ (n : ℕ). n + 1) (k .count) ∙ sym (length-append ss (st ∷ []));
     }
 
--- A loop that puts the steps `whole` into the record: those so far are there, the rest is still to come.
-pub record Collected (whole rest : List Step) (s : Steps) : Type 0 where
+-- a zero written over a zero
+pub zero-again : (n i : ℕ) → set {A = ℕ} (replicate n 0) i 0 ≡ replicate n 0
+zero-again zero i = refl
+zero-again (suc n) zero = refl
+zero-again (suc n) (suc i) = ap (λ (l : List ℕ). 0 ∷ l) (zero-again n i)
+
+-- A loop that puts the steps `whole` into the arrays: those so far are there, the rest is still to come.
+pub record Collected (whole rest : List Step) (rows kinds numbers : List ℕ) (count : ℕ) : Type 0 where
   pub steps : List Step
-  pub held : Holds steps s
+  pub held : Counts steps rows kinds numbers count
   pub joined : steps ++ rest ≡ whole
 
-pub collect-start : (whole : List Step) (s : Steps) → Holds [] s → Collected whole whole s
-collect-start whole s h = record { steps = []; held = h; joined = refl }
+pub collect-start : (whole : List Step) → Collected whole whole (replicate 31 0) (replicate 31 0) (replicate 31 0) 0
+collect-start whole = record { steps = []; held = record { rows = refl; kinds = refl; numbers = refl; count = refl }; joined = refl }
 
-pub collect-push : (whole rest all : List Step) (st : Step) (s n : Steps) → all ≡ st ∷ rest → Collected whole all s → ((ss : List Step) → Holds ss s → Holds (ss ++ (st ∷ [])) n) → Collected whole rest n
-collect-push whole rest all st s n e k f =
+pub collect-push : (whole rest all : List Step) (st : Step) (rows kinds numbers : List ℕ) (count : ℕ) → all ≡ st ∷ rest → count < 31 → Collected whole all rows kinds numbers count
+    → Collected whole rest (set rows count (st .row)) (set kinds count (st .kind)) (set numbers count (st .number)) (count + 1)
+collect-push whole rest all st rows kinds numbers count e h k =
     record {
       steps = k .steps ++ (st ∷ []);
-      held = f (k .steps) (k .held);
+      held = counts-more st (k .steps) rows kinds numbers count h (k .held);
       joined = append-assoc (k .steps) (st ∷ []) rest ∙ ap (λ (l : List Step). k .steps ++ l) (sym e) ∙ k .joined;
     }
 
-pub collect-skip : (whole rest all : List Step) (s : Steps) → all ≡ rest → Collected whole all s → Collected whole rest s
-collect-skip whole rest all s e k = record { steps = k .steps; held = k .held; joined = ap (λ (l : List Step). k .steps ++ l) (sym e) ∙ k .joined }
+pub collect-skip : (whole rest all : List Step) (rows kinds numbers : List ℕ) (count : ℕ) → all ≡ rest → Collected whole all rows kinds numbers count → Collected whole rest rows kinds numbers count
+collect-skip whole rest all rows kinds numbers count e k = record { steps = k .steps; held = k .held; joined = ap (λ (l : List Step). k .steps ++ l) (sym e) ∙ k .joined }
 
-pub collect-end : (whole rest : List Step) (s : Steps) → rest ≡ [] → Collected whole rest s → Holds whole s
-collect-end whole rest s e k =
-    let q : k .steps ≡ whole = sym (append-nil (k .steps)) ∙ ap (λ (l : List Step). k .steps ++ l) (sym e) ∙ k .joined in
-    record {
-      rows = k .held .rows ∙ ap (λ (l : List Step). padded (listed (λ x. x .row) l)) q;
-      kinds = k .held .kinds ∙ ap (λ (l : List Step). padded (listed (λ x. x .kind) l)) q;
-      sets = k .held .sets ∙ ap (λ (l : List Step). padded (listed (λ x. x .number) l)) q;
-      count = k .held .count ∙ ap (λ (l : List Step). length l) q;
-    }
+pub collect-end : (whole rest : List Step) (rows kinds numbers : List ℕ) (count : ℕ) → rest ≡ [] → Collected whole rest rows kinds numbers count → Counts whole rows kinds numbers count
+collect-end whole rest rows kinds numbers count e k =
+    subst (λ (l : List Step). Counts l rows kinds numbers count) (sym (append-nil (k .steps)) ∙ ap (λ (l : List Step). k .steps ++ l) (sym e) ∙ k .joined) (k .held)
 
 -- there is room for a step that is still to come
-pub collect-room : (whole rest all : List Step) (st : Step) (s : Steps) → all ≡ st ∷ rest → length whole ≤ 31 → Collected whole all s → s .count < 31
-collect-room whole rest all st s e h k =
+pub collect-room : (whole rest all : List Step) (st : Step) (rows kinds numbers : List ℕ) (count : ℕ) → all ≡ st ∷ rest → length whole ≤ 31 → Collected whole all rows kinds numbers count → count < 31
+collect-room whole rest all st rows kinds numbers count e h k =
     omega (arith, k .held .count, length-append (k .steps) all, ap (λ (l : List Step). length l) (k .joined), ap (λ (l : List Step). length l) e)
 
 -- the definition's steps, from row j on

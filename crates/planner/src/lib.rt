@@ -1,26 +1,41 @@
 // Our plan for one lost disk, with its routes, its read count and its read list. Nothing here knows of bytes in stripes.
 ghost use mathlib.Core.Path.{_≡_};
 ghost use mathlib.Core.Bool.{true};
-ghost use mathlib.Core.List.{List, [], _∷_, _++_};
+ghost use mathlib.Core.List.{[], _++_};
 ghost use Prim.Native.Nat.{_+_, _-_, _*_, _^_, _≤_, _<_};
 ghost use lib.ListN.{length, getD, take, replicate};
 ghost use lib.Bits.{bitOr};
 ghost use Rattle.liberation.specs.Sets.{isWidth};
-ghost use Rattle.liberation.specs.Plans.{Step, step, firstRoutes, decided, turned, routes, wordFrom, rowSteps, diagonalSteps, allOf, planOf, readCount, readList, marksFrom};
-ghost use Rattle.planner.specs.Records.{Holds, RoutesAre, PlannedIs};
-ghost use Rattle.planner.specs.Says.{PlanSays, Refused, ListSays};
+ghost use Rattle.liberation.specs.Plans.{firstRoutes, decided, turned, routes, wordFrom, rowSteps, diagonalSteps, allOf, planOf, readCount, readList, marksFrom};
+ghost use Rattle.planner.specs.Records.{Holds, Counts, RoutesAre, OurPlan};
+ghost use Rattle.planner.specs.Says.{PlannedSays, PlanSays, Refused, ListSays};
 use sets::Answer;
 
-// A plan: a refusal number (0 for none) and its place, the steps in 31 places, a bit for each row that takes a diagonal, the read count.
+// The steps of a plan, each with its row, its kind and its set number, in 31 places; zeros after the last.
+#[repr(C)]
+pub struct Steps {
+    pub rows: [u8; 31],
+    pub kinds: [u8; 31],
+    pub numbers: [u8; 31],
+}
+
+// A plan: a refusal number (0 for none) and its place, the steps, a bit for each row that takes a diagonal, the read count.
 #[repr(C)]
 pub struct Plan {
     pub number: u8,
     pub place: u32,
-    pub rows: [u8; 31],
-    pub kinds: [u8; 31],
-    pub sets: [u8; 31],
+    pub steps: Steps,
     pub routes: u32,
     pub reads: u32,
+}
+
+// A plan whose reads are not counted: a rebuild needs no count.
+#[repr(C)]
+pub struct Planned {
+    pub number: u8,
+    pub place: u32,
+    pub steps: Steps,
+    pub routes: u32,
 }
 
 // A route for each row: 0 undecided, 1 its row set, 2 a diagonal; and the rows with a diagonal as a word.
@@ -30,10 +45,8 @@ pub struct Routes {
 }
 
 // Steps, and how many.
-pub struct Steps {
-    pub rows: [u8; 31],
-    pub kinds: [u8; 31],
-    pub sets: [u8; 31],
+pub struct Counted {
+    pub steps: Steps,
     pub count: usize,
 }
 
@@ -56,7 +69,7 @@ fn all_bits(width: usize) -> u32
 // The rows that take a diagonal before any row is decided.
 fn first_routes(width: usize, disk: usize) -> Routes
     requires { ⌜ (width ≤ 31) × (disk < width) ⌝ }
-    ensures { λ r. ⌜ RoutesAre width (firstRoutes width disk) r ⌝ }
+    ensures { λ r. ⌜ RoutesAre width (firstRoutes width disk) (r .routes) (r .word) ⌝ }
 {
     let mut routes = [0u8; 31];
     routes[disk] = 2;
@@ -75,173 +88,169 @@ fn first_routes(width: usize, disk: usize) -> Routes
     }
 }
 
-// An undecided row takes its row set if its partner is itself or has a diagonal, else a diagonal, and its partner the row set.
-fn decide(width: usize, disk: usize, row: usize, r: Routes) -> Routes
-    requires { ⌜ (width ≤ 31) × (disk < width) × (row < width) × (r .word ≡ wordFrom 0 (take width (r .routes))) × (getD (r .routes) row 0 ≡ 0) ⌝ }
-    ensures { λ n. ⌜ RoutesAre width (decided width disk row (take width (r .routes))) n ⌝ }
+// An undecided row takes its row set if its partner is itself or has a diagonal, else a diagonal, and its partner the row set. The new word is returned.
+fn decide(width: usize, disk: usize, row: usize, routes: &mut [u8; 31], word: u32) -> u32
+    requires { ⌜ (width ≤ 31) × (disk < width) × (row < width) × (length (now routes) ≡ 31) × (word ≡ wordFrom 0 (take width (now routes))) × (getD (now routes) row 0 ≡ 0) ⌝ }
+    ensures { λ r. ⌜ RoutesAre width (decided width disk row (take width (now (routes .entry)))) (now (routes .exit)) r ⌝ }
 {
     let partner = width - 1 - (row + width - disk) % width;
-    let mut routes = r.routes;
     if partner == row {
         routes[row] = 1;
-        return Routes {
-            routes: routes,
-            word: r.word,
-        };
+        return word;
     }
     if routes[partner] == 2 {
         routes[row] = 1;
-        return Routes {
-            routes: routes,
-            word: r.word,
-        };
+        return word;
     }
     routes[row] = 2;
     routes[partner] = 1;
-    Routes {
-        routes: routes,
-        word: with_bit(r.word, row),
-    }
+    with_bit(word, row)
 }
 
 // One turn of the planner: a decided row is skipped.
-fn turn(width: usize, disk: usize, row: usize, r: Routes) -> Routes
-    requires { ⌜ (width ≤ 31) × (disk < width) × (row < width) × (r .word ≡ wordFrom 0 (take width (r .routes))) ⌝ }
-    ensures { λ n. ⌜ RoutesAre width (turned width disk row (take width (r .routes))) n ⌝ }
+fn turn(width: usize, disk: usize, row: usize, routes: &mut [u8; 31], word: u32) -> u32
+    requires { ⌜ (width ≤ 31) × (disk < width) × (row < width) × (length (now routes) ≡ 31) × (word ≡ wordFrom 0 (take width (now routes))) ⌝ }
+    ensures { λ r. ⌜ RoutesAre width (turned width disk row (take width (now (routes .entry)))) (now (routes .exit)) r ⌝ }
 {
-    let routes = r.routes;
     if routes[row] == 0 {
-        decide(width, disk, row, r)
-    } else {
-        r
+        return decide(width, disk, row, routes, word);
     }
+    word
 }
 
 // Rows upward, until at least half of the other rows have a diagonal.
 fn all_routes(width: usize, disk: usize) -> Routes
     requires { ⌜ (width ≤ 31) × (disk < width) ⌝ }
-    ensures { λ r. ⌜ RoutesAre width (routes width disk) r ⌝ }
+    ensures { λ r. ⌜ RoutesAre width (routes width disk) (r .routes) (r .word) ⌝ }
 {
     let half = (width - 1) / 2;
-    let mut r = first_routes(width, disk);
+    let first = first_routes(width, disk);
+    let mut routes = first.routes;
+    let mut word = first.word;
     let mut row = 0;
     while row < width {
-        let word = r.word;
         if half <= u32::count_ones(word) as usize {
-            return r;
+            return Routes {
+                routes: routes,
+                word: word,
+            };
         }
-        r = turn(width, disk, row, r);
+        word = turn(width, disk, row, &mut routes, word);
         row += 1;
     }
-    r
-}
-
-// No steps yet.
-fn no_steps() -> Steps
-    ensures { λ r. ⌜ Holds [] r ⌝ }
-{
-    Steps {
-        rows: [0; 31],
-        kinds: [0; 31],
-        sets: [0; 31],
-        count: 0,
+    Routes {
+        routes: routes,
+        word: word,
     }
-}
-
-// One step more.
-fn push(s: Steps, row: usize, kind: u8, number: usize) -> Steps
-    requires { ⌜ (s .count < 31) × (row < 256) × (number < 256) ⌝ }
-    ensures { λ r. ⌜ ((ss : List Step) → Holds ss s → Holds (ss ++ (step row kind number ∷ [])) r) ⌝ }
-{
-    let at = s.count;
-    let mut n = s;
-    n.rows[at] = row as u8;
-    n.kinds[at] = kind;
-    n.sets[at] = number as u8;
-    n.count = at + 1;
-    n
 }
 
 // The row-set steps, rows upward.
-fn row_steps(width: usize, r: Routes) -> Steps
+fn row_steps(width: usize, routes: [u8; 31]) -> Counted
     requires { ⌜ width ≤ 31 ⌝ }
-    ensures { λ n. ⌜ Holds (rowSteps 0 (take width (r .routes))) n ⌝ }
+    ensures { λ r. ⌜ Counts (rowSteps 0 (take width routes)) (r .steps .rows) (r .steps .kinds) (r .steps .numbers) (r .count) ⌝ }
 {
-    let routes = r.routes;
-    let mut s = no_steps();
+    let mut rows = [0u8; 31];
+    let mut count = 0;
     let mut row = 0;
     while row < width {
         if routes[row] != 2 {
-            s = push(s, row, 0, row);
+            rows[count] = row as u8;
+            count += 1;
         }
         row += 1;
     }
-    s
+    Counted {
+        steps: Steps {
+            rows: rows,
+            kinds: [0; 31],
+            numbers: rows,
+        },
+        count: count,
+    }
 }
 
 // Then the diagonal steps, rows upward.
-fn diagonal_steps(width: usize, disk: usize, r: Routes, first: Steps) -> Steps
-    requires { ⌜ (width ≤ 31) × (disk < width) × Holds (rowSteps 0 (take width (r .routes))) first ⌝ }
-    ensures { λ n. ⌜ Holds (rowSteps 0 (take width (r .routes)) ++ diagonalSteps width disk 0 (take width (r .routes))) n ⌝ }
+fn diagonal_steps(width: usize, disk: usize, routes: [u8; 31], first: Counted) -> Steps
+    requires { ⌜ (width ≤ 31) × (disk < width) × Counts (rowSteps 0 (take width routes)) (first .steps .rows) (first .steps .kinds) (first .steps .numbers) (first .count) ⌝ }
+    ensures { λ r. ⌜ Holds (rowSteps 0 (take width routes) ++ diagonalSteps width disk 0 (take width routes)) r ⌝ }
 {
-    let routes = r.routes;
-    let mut s = first;
+    let steps = first.steps;
+    let mut rows = steps.rows;
+    let mut kinds = steps.kinds;
+    let mut numbers = steps.numbers;
+    let mut count = first.count;
     let mut row = 0;
     while row < width {
         if routes[row] == 2 {
-            s = push(s, row, 1, (row + width - disk) % width);
+            rows[count] = row as u8;
+            kinds[count] = 1;
+            numbers[count] = ((row + width - disk) % width) as u8;
+            count += 1;
         }
         row += 1;
     }
-    s
+    Steps {
+        rows: rows,
+        kinds: kinds,
+        numbers: numbers,
+    }
 }
 
 // All sets of one kind, upward.
 fn all_steps(width: usize, kind: u8) -> Steps
     requires { ⌜ width ≤ 31 ⌝ }
-    ensures { λ n. ⌜ Holds (allOf width kind 0) n ⌝ }
+    ensures { λ r. ⌜ Holds (allOf width kind 0) r ⌝ }
 {
-    let mut s = no_steps();
+    let mut rows = [0u8; 31];
+    let mut kinds = [0u8; 31];
     let mut row = 0;
     while row < width {
-        s = push(s, row, kind, row);
+        rows[row] = row as u8;
+        kinds[row] = kind;
         row += 1;
     }
-    s
+    Steps {
+        rows: rows,
+        kinds: kinds,
+        numbers: rows,
+    }
 }
 
-// Our plan's steps and its route word.
-pub struct Planned {
-    pub steps: Steps,
-    pub word: u32,
+// The steps for a data disk, after its routes.
+fn data_steps(width: usize, disk: usize, routes: [u8; 31]) -> Steps
+    requires { ⌜ (width ≤ 31) × (disk < width) ⌝ }
+    ensures { λ r. ⌜ Holds (rowSteps 0 (take width routes) ++ diagonalSteps width disk 0 (take width routes)) r ⌝ }
+{
+    let first = row_steps(width, routes);
+    diagonal_steps(width, disk, routes, first)
 }
 
-// Our plan for a disk of an array that is within its limits. The planner's own calls use it, and `rebuild::rebuild_one`, which needs no read count.
-pub fn our_plan(width: usize, disk: usize) -> Planned
+// A plan that is not refused.
+fn accepted_plan(steps: Steps, routes: u32) -> Planned
+    ensures { λ r. ⌜ (r .number ≡ 0) × (r .place ≡ 0) × (r .steps ≡ steps) × (r .routes ≡ routes) ⌝ }
+{
+    Planned {
+        number: 0,
+        place: 0,
+        steps: steps,
+        routes: routes,
+    }
+}
+
+// Our plan for a disk of an array that is within its limits.
+fn our_plan(width: usize, disk: usize) -> Planned
     requires { ⌜ (isWidth width ≡ true) × (disk ≤ width + 1) ⌝ }
-    ensures { λ r. ⌜ PlannedIs width disk r ⌝ }
+    ensures { λ r. ⌜ OurPlan width disk r ⌝ }
 {
     if disk < width {
         let r = all_routes(width, disk);
-        let first = row_steps(width, r);
-        let steps = diagonal_steps(width, disk, r, first);
-        return Planned {
-            steps: steps,
-            word: r.word,
-        };
+        let routes = r.routes;
+        return accepted_plan(data_steps(width, disk, routes), r.word);
     }
     if disk == width {
-        let steps = all_steps(width, 0);
-        return Planned {
-            steps: steps,
-            word: 0,
-        };
+        return accepted_plan(all_steps(width, 0), 0);
     }
-    let steps = all_steps(width, 1);
-    Planned {
-        steps: steps,
-        word: all_bits(width),
-    }
+    accepted_plan(all_steps(width, 1), all_bits(width))
 }
 
 // Marks the cells that our plan reads in a list of zeros, and counts them.
@@ -250,7 +259,7 @@ fn mark_steps(width: usize, disk: usize, s: Steps, marks: &mut [u8]) -> u32
     ensures { λ r. ⌜ (r ≡ readCount width width disk (planOf width width disk)) × (now (marks .exit) ≡ readList width width disk) ⌝ }
 {
     let kinds = s.kinds;
-    let numbers = s.sets;
+    let numbers = s.numbers;
     let mut reads: u32 = 0;
     let mut i = 0;
     while i < width {
@@ -273,53 +282,73 @@ fn clear(list: &mut [u8])
     }
 }
 
-// The plan record of a plan within limits.
+// The plan record of a plan within limits: its reads are counted.
 fn finished(width: usize, disk: usize, p: Planned) -> Plan
-    requires { ⌜ (isWidth width ≡ true) × (disk ≤ width + 1) × PlannedIs width disk p ⌝ }
+    requires { ⌜ (isWidth width ≡ true) × (disk ≤ width + 1) × OurPlan width disk p ⌝ }
     ensures { λ r. ⌜ PlanSays width disk r ⌝ }
 {
     let s = p.steps;
     let n = width * (width + 2);
     let mut marks = sets::no_marks();
     let reads = mark_steps(width, disk, s, &mut marks[..n]);
-    let rows = s.rows;
-    let kinds = s.kinds;
-    let sets = s.sets;
     Plan {
-        number: 0,
-        place: 0,
-        rows: rows,
-        kinds: kinds,
-        sets: sets,
-        routes: p.word,
+        number: p.number,
+        place: p.place,
+        steps: s,
+        routes: p.routes,
         reads: reads,
     }
 }
 
-// A refusal of the planner: every other field is zero.
-fn refused_plan(number: u8) -> Plan
-    ensures { λ r. ⌜ Refused number r ⌝ }
+// No steps.
+fn no_steps() -> Steps
+    ensures { λ r. ⌜ Holds [] r ⌝ }
 {
-    Plan {
-        number: number,
-        place: 0,
+    Steps {
         rows: [0; 31],
         kinds: [0; 31],
-        sets: [0; 31],
-        routes: 0,
-        reads: 0,
+        numbers: [0; 31],
     }
+}
+
+// A refusal of the planner: every other field is zero.
+fn refused_plan(number: u8) -> Planned
+    ensures { λ r. ⌜ Refused number r ⌝ }
+{
+    let steps = no_steps();
+    Planned {
+        number: number,
+        place: 0,
+        steps: steps,
+        routes: 0,
+    }
+}
+
+// Our plan for a lost disk, its reads not counted. Refusals: 1, 3.
+pub fn plan_steps(width: usize, disk: usize) -> Planned
+    ensures { λ r. ⌜ PlannedSays width disk r ⌝ }
+{
+    let fault = sets::plan_fault(width, disk);
+    if fault != 0 {
+        return refused_plan(fault);
+    }
+    our_plan(width, disk)
 }
 
 // Our plan for a lost disk. Refusals: 1, 3.
 pub fn plan_disk(width: usize, disk: usize) -> Plan
     ensures { λ r. ⌜ PlanSays width disk r ⌝ }
 {
-    if !sets::is_width(width) {
-        return refused_plan(1);
-    }
-    if width + 1 < disk {
-        return refused_plan(3);
+    let fault = sets::plan_fault(width, disk);
+    if fault != 0 {
+        let steps = no_steps();
+        return Plan {
+            number: fault,
+            place: 0,
+            steps: steps,
+            routes: 0,
+            reads: 0,
+        };
     }
     let p = our_plan(width, disk);
     finished(width, disk, p)
@@ -329,11 +358,9 @@ pub fn plan_disk(width: usize, disk: usize) -> Plan
 pub fn read_list(width: usize, disk: usize, list: &mut [u8]) -> Answer
     ensures { λ r. ⌜ ListSays width disk (now (list .entry)) (now (list .exit)) r ⌝ }
 {
-    if !sets::is_width(width) {
-        return sets::answered(1);
-    }
-    if width + 1 < disk {
-        return sets::answered(3);
+    let fault = sets::plan_fault(width, disk);
+    if fault != 0 {
+        return sets::answered(fault);
     }
     if list.len() != width * (width + 2) {
         return sets::answered(5);

@@ -7,39 +7,30 @@ use native.Mathlib.Omega.{arith}
 use lib.Dec.{ltb}
 use lib.ListN.{length, take, replicate, length-append}
 use lib.Seq.{take-at}
-use borrow.Author.Tests.{ltb-false}
 use Rattle.laws.specs.Choice.{when, firstOf}
-use Rattle.laws.proofs.ChoiceLaws.{first-none, when-none}
-use Rattle.liberation.specs.Sets.{isWidth, widthFault, diskFault}
-use Rattle.liberation.proofs.FaultLaws.{width-of}
-use Rattle.planner.specs.Says.{planFault}
+use Rattle.liberation.specs.Sets.{isWidth, planFault}
 use Rattle.printing.specs.Text.{firstValue, secondValue, isForm, planText, refusedLine}
 use Rattle.printing.specs.Writing.{Wrote}
-use Rattle.printing.specs.Says.{Holds, TextSays}
+use Rattle.printing.specs.Says.{TextIs, TextSays}
 use Rattle.printing.specs.declared.Text.{Text}
 use Rattle.printing.proofs.WriteLaws.{wrote-zeros}
 use Rattle.printing.proofs.FormLaws.{form-fault, no-form-printed, printed-refusal, printed-plan}
 
-pub text-holds : {o o₁ : List ℕ} {r : ℕ} {t : List ℕ} → o ≡ replicate 458 0 → Wrote o o₁ 0 r t → Holds t (record { bytes = o₁; length = r })
+pub text-holds : {o o₁ : List ℕ} {r : ℕ} {t : List ℕ} → o ≡ replicate 458 0 → Wrote o o₁ 0 r t → TextIs t (record { bytes = o₁; length = r })
 text-holds e w = let z = wrote-zeros 458 (rw e at w) in record { size = z .0; bytes = z .1 }
 
 -- the bytes that count are there, and they are the text
-pub holds-length : {t : List ℕ} {r : Text} → Holds t r → r .length ≤ length (r .bytes)
+pub holds-length : {t : List ℕ} {r : Text} → TextIs t r → r .length ≤ length (r .bytes)
 holds-length {t} h = omega (arith, h .size, ap length (h .bytes), length-append t (replicate (458 - length t) 0))
 
-pub holds-text : {t : List ℕ} {r : Text} → Holds t r → take (r .length) (r .bytes) ≡ t
+pub holds-text : {t : List ℕ} {r : Text} → TextIs t r → take (r .length) (r .bytes) ≡ t
 holds-text {t} {r} h = ap (take (r .length)) (h .bytes) ∙ take-at t (replicate (458 - length t) 0) (r .length) (sym (h .size))
 
-holds-same : {t u : List ℕ} {r : Text} → t ≡ u → Holds t r → Holds u r
+holds-same : {t u : List ℕ} {r : Text} → t ≡ u → TextIs t r → TextIs u r
 holds-same e h = rw e at h
 
--- the planner refuses nothing: the two numbers are within their limits
-pub fault-zero : (p f : ℕ) → planFault p f ≡ 0 → (isWidth p ≡ true) × (f ≤ p + 1)
-fault-zero p f e =
-    let w = first-none (widthFault p) (diskFault p f) e in
-    (width-of p (w .0), ltb-false (p + 1) f (when-none (ltb (p + 1) f) 2 (w .1)))
-
-pub fault-small : (p f : ℕ) → planFault p f ≤ 3
+-- a refusal of the planner is a small number
+pub fault-small : (p f : ℕ) → planFault p p f ≤ 3
 fault-small p f = go (isWidth p) (ltb (p + 1) f)
   where
     go : (a b : Bool) → firstOf (when (not a) 1) (when b 3) ≤ 3
@@ -48,12 +39,12 @@ fault-small p f = go (isWidth p) (ltb (p + 1) f)
     go false b = omega arith
 
 -- the three answers: the input lacks the form; the planner refuses; the plan
-pub says-no-form : (t : List ℕ) {r : Text} → isForm t ≡ false → Holds (refusedLine 12) r → TextSays t r
+pub says-no-form : (t : List ℕ) {r : Text} → isForm t ≡ false → TextIs (refusedLine 12) r → TextSays t r
 says-no-form t e h = holds-same (sym (no-form-printed t e)) h
 
 module _ (t : List ℕ) (p f : ℕ) (form : isForm t ≡ true) (first : p ≡ firstValue t) (second : f ≡ secondValue t) where
-  pub says-refusal : {r : Text} (n : ℕ) → n ≡ planFault p f → (n ≡ 0 → ⊥) → Holds (refusedLine n) r → TextSays t r
-  says-refusal n e z h = holds-same (sym (printed-refusal t n (form-fault t form ∙ sym (e ∙ ap₂ planFault first second)) z)) h
+  pub says-refusal : {r : Text} (n : ℕ) → n ≡ planFault p p f → (n ≡ 0 → ⊥) → TextIs (refusedLine n) r → TextSays t r
+  says-refusal n e z h = holds-same (sym (printed-refusal t n (form-fault t form ∙ sym (e ∙ ap₂ (λ (x y : ℕ). planFault x x y) first second)) z)) h
 
-  pub says-plan : {r : Text} → planFault p f ≡ 0 → Holds (planText p f) r → TextSays t r
-  says-plan e h = holds-same (ap₂ planText first second ∙ sym (printed-plan t (form-fault t form ∙ sym (ap₂ planFault first second) ∙ e))) h
+  pub says-plan : {r : Text} → planFault p p f ≡ 0 → TextIs (planText p f) r → TextSays t r
+  says-plan e h = holds-same (ap₂ planText first second ∙ sym (printed-plan t (form-fault t form ∙ sym (ap₂ (λ (x y : ℕ). planFault x x y) first second) ∙ e))) h

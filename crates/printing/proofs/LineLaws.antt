@@ -14,12 +14,11 @@ use Rattle.liberation.proofs.AcceptedLaws.{Passes, none, next, accepted-passes}
 use Rattle.liberation.proofs.Demand3.{plan-accepted}
 use Rattle.sets.specs.Marks.{Marked, markAll, freshIn}
 use Rattle.sets.proofs.MarkLaws.{marks-added, fresh-added, fresh-le}
-use Rattle.sets.proofs.SizeLaws.{size-most}
-use Rattle.planner.specs.declared.Plan.{Plan}
-use Rattle.planner.specs.Records.{listed, padded}
-use Rattle.planner.specs.Says.{plannedSteps, PlanSays}
-use Rattle.planner.proofs.PlanLaws.{planned-is}
-use Rattle.planner.proofs.ReadingLaws.{StepAt, step-at, plan-length, plan-number, surviving-few}
+use Rattle.liberation.proofs.SetSizes.{size-most}
+use Rattle.planner.specs.declared.Steps.{Steps}
+use Rattle.planner.specs.Records.{Holds}
+use Rattle.planner.proofs.ReadingLaws.{surviving-few}
+use Rattle.liberation.proofs.RecordLaws.{StepAt, step-at, plan-length, plan-number}
 use Rattle.printing.specs.Text.{lineOf, newFrom, linesFrom}
 use Rattle.printing.specs.Writing.{Wrote}
 use Rattle.printing.proofs.WriteLaws.{wrote-none, wrote-more}
@@ -39,30 +38,27 @@ plan-row : (p f i : ℕ) → isWidth p ≡ true → f ≤ p + 1 → (a : StepAt 
 plan-row p f i w h a l = row-below p p f i (a .this) (accepted-passes p p f (planOf p p f) (plan-accepted p f w h)) (a .split) (omega (arith, plan-length p f w h))
 
 -- Step i of our plan, and where the plan record has its numbers.
-pub record PlanStep (p f i : ℕ) (r : Plan) : Type 0 where
+pub record PlanStep (p f i : ℕ) (r : Steps) : Type 0 where
   pub here : StepAt (planOf p p f) i
   pub row : getD (r .rows) i 0 ≡ here .this .row
   pub kind : getD (r .kinds) i 0 ≡ here .this .kind
-  pub number : getD (r .sets) i 0 ≡ here .this .number
+  pub number : getD (r .numbers) i 0 ≡ here .this .number
   pub row-below : here .this .row < p
   pub number-below : here .this .number < p
 
-pub plan-step : (p f i : ℕ) (r : Plan) → isWidth p ≡ true → f ≤ p + 1 → PlanSays p f r → i < p → PlanStep p f i r
+pub plan-step : (p f i : ℕ) (r : Steps) → isWidth p ≡ true → f ≤ p + 1 → Holds (planOf p p f) r → i < p → PlanStep p f i r
 plan-step p f i r w h k l =
     record {
       here = a;
-      row = ap (λ (x : List ℕ). getD x i 0) (k .rows ∙ held (λ s. s .row)) ∙ a .held (λ s. s .row);
-      kind = ap (λ (x : List ℕ). getD x i 0) (k .kinds ∙ held (λ s. s .kind)) ∙ a .held (λ s. s .kind);
-      number = ap (λ (x : List ℕ). getD x i 0) (k .sets ∙ held (λ s. s .number)) ∙ a .held (λ s. s .number);
+      row = ap (λ (x : List ℕ). getD x i 0) (k .rows) ∙ a .held (λ s. s .row);
+      kind = ap (λ (x : List ℕ). getD x i 0) (k .kinds) ∙ a .held (λ s. s .kind);
+      number = ap (λ (x : List ℕ). getD x i 0) (k .numbers) ∙ a .held (λ s. s .number);
       row-below = plan-row p f i w h a l;
       number-below = plan-number p f i w h a l;
     }
   where
     a : StepAt (planOf p p f) i
     a = step-at (planOf p p f) i (omega (arith, plan-length p f w h))
-
-    held : (g : Step → ℕ) → padded (listed g (plannedSteps p f)) ≡ padded (listed g (planOf p p f))
-    held g = ap (λ (ss : List Step). padded (listed g ss)) (planned-is p f w h)
 
 -- a set has at most p + 2 cells, so no more are new
 pub new-few : (p f kind number : ℕ) {m m′ : List ℕ} {r : ℕ} → Marked m m′ (survivingIn p f (setOf p p kind number)) r → r ≤ p + 2

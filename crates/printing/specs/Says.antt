@@ -7,10 +7,10 @@ use Rattle.printing.specs.declared.Text.{Text}
 use Rattle.printing.specs.Text.{printed}
 
 -- the record holds the text t, and zeros after it
-pub record Holds (t : List ℕ) (r : Text) : Type 0 where
+pub record TextIs (t : List ℕ) (r : Text) : Type 0 where
   pub size : r .length ≡ length t
   pub bytes : r .bytes ≡ t ++ replicate (458 - length t) 0
 
 -- the whole output for the whole input t
 abbrev pub TextSays : List ℕ → Text → Type 0
-TextSays t r = Holds (printed t) r
+TextSays t r = TextIs (printed t) r

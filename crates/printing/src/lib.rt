@@ -6,11 +6,11 @@ ghost use Prim.Native.Nat.{_+_, _-_, _*_, _≤_, _<_};
 ghost use lib.ListN.{length, getD, drop, replicate};
 ghost use Rattle.liberation.specs.Sets.{isWidth};
 ghost use Rattle.liberation.specs.Plans.{step, planOf, marksFrom};
-ghost use Rattle.planner.specs.Says.{PlanSays};
+ghost use Rattle.planner.specs.Records.{Holds};
 ghost use Rattle.printing.specs.Text.{digitsOf, letterOf, lineOf, newFrom, linesFrom, planText, refusedLine, inputOf, valueTo, firstValue, secondValue, isForm};
 ghost use Rattle.printing.specs.Writing.{Wrote};
-ghost use Rattle.printing.specs.Says.{Holds, TextSays};
-use planner::Plan;
+ghost use Rattle.printing.specs.Says.{TextIs, TextSays};
+use planner::Steps;
 
 // A printed text: its bytes, zeros after them, and how many they are.
 // There is room for a head line of 24 bytes and 31 lines of 14: four numbers of two digits, four commas, a letter and LF. The longest text has 433.
@@ -181,15 +181,15 @@ fn put_steps(
     at: usize,
     width: usize,
     disk: usize,
-    plan: Plan,
+    steps: Steps,
     marks: &mut [u8],
 ) -> usize
-    requires { ⌜ (isWidth width ≡ true) × (disk ≤ width + 1) × PlanSays width disk plan × (now marks ≡ marksFrom (width * (width + 2)) 0 []) × (at + 14 * width ≤ length (now out)) ⌝ }
+    requires { ⌜ (isWidth width ≡ true) × (disk ≤ width + 1) × Holds (planOf width width disk) steps × (now marks ≡ marksFrom (width * (width + 2)) 0 []) × (at + 14 * width ≤ length (now out)) ⌝ }
     ensures { λ r. ⌜ Wrote (now (out .entry)) (now (out .exit)) at r (linesFrom 0 (planOf width width disk) (newFrom width disk [] (planOf width width disk))) ⌝ }
 {
-    let rows = plan.rows;
-    let kinds = plan.kinds;
-    let numbers = plan.sets;
+    let rows = steps.rows;
+    let kinds = steps.kinds;
+    let numbers = steps.numbers;
     let mut next = at;
     let mut i = 0;
     while i < width {
@@ -203,14 +203,14 @@ fn put_steps(
 }
 
 // Puts a whole plan: the head line and a line for each step.
-fn put_plan(out: &mut [u8], at: usize, width: usize, disk: usize, plan: Plan) -> usize
-    requires { ⌜ (isWidth width ≡ true) × (disk ≤ width + 1) × PlanSays width disk plan × (at + 458 ≤ length (now out)) ⌝ }
+fn put_plan(out: &mut [u8], at: usize, width: usize, disk: usize, steps: Steps) -> usize
+    requires { ⌜ (isWidth width ≡ true) × (disk ≤ width + 1) × Holds (planOf width width disk) steps × (at + 458 ≤ length (now out)) ⌝ }
     ensures { λ r. ⌜ Wrote (now (out .entry)) (now (out .exit)) at r (planText width disk) ⌝ }
 {
     let lines = put(out, at, b"step,row,set,number,new\n");
     let n = width * (width + 2);
     let mut marks = sets::no_marks();
-    put_steps(out, lines, width, disk, plan, &mut marks[..n])
+    put_steps(out, lines, width, disk, steps, &mut marks[..n])
 }
 
 // A buffer with no text yet.
@@ -223,7 +223,7 @@ fn no_text() -> [u8; 458]
 // The text of a refusal.
 fn refusal_text(number: usize) -> Text
     requires { ⌜ number < 100 ⌝ }
-    ensures { λ r. ⌜ Holds (refusedLine number) r ⌝ }
+    ensures { λ r. ⌜ TextIs (refusedLine number) r ⌝ }
 {
     let mut bytes = no_text();
     let length = put_refusal(&mut bytes, 0, number);
@@ -234,12 +234,12 @@ fn refusal_text(number: usize) -> Text
 }
 
 // The text of a plan.
-fn steps_text(width: usize, disk: usize, plan: Plan) -> Text
-    requires { ⌜ (isWidth width ≡ true) × (disk ≤ width + 1) × PlanSays width disk plan ⌝ }
-    ensures { λ r. ⌜ Holds (planText width disk) r ⌝ }
+fn steps_text(width: usize, disk: usize, steps: Steps) -> Text
+    requires { ⌜ (isWidth width ≡ true) × (disk ≤ width + 1) × Holds (planOf width width disk) steps ⌝ }
+    ensures { λ r. ⌜ TextIs (planText width disk) r ⌝ }
 {
     let mut bytes = no_text();
-    let length = put_plan(&mut bytes, 0, width, disk, plan);
+    let length = put_plan(&mut bytes, 0, width, disk, steps);
     Text {
         bytes: bytes,
         length: length,
@@ -259,5 +259,6 @@ pub fn plan_text(input: &[u8]) -> Text
     if plan.number != 0 {
         return refusal_text(plan.number as usize);
     }
-    steps_text(width, disk, plan)
+    let steps = plan.steps;
+    steps_text(width, disk, steps)
 }

@@ -19,7 +19,7 @@ use Rattle.parity.proofs.CellLaws.{cell-fits, cells-equal, column-cell, length-
 use Rattle.parity.proofs.Solving.{stripe-of}
 use Rattle.parity.proofs.Following.{followed-stripe}
 use Rattle.parity.proofs.Rebuilding.{column-long, steps-agree}
-use Rattle.planner.proofs.ReadingLaws.{StepAt, plan-length}
+use Rattle.liberation.proofs.RecordLaws.{StepAt, plan-length}
 
 -- a step of an accepted plan passes the judge
 step-passed : (p k f : ℕ) {done : List ℕ} {ss : List Step} (i : ℕ) (st : Step) → Passes p k f done ss → i < length ss → drop i ss ≡ st ∷ drop (suc i) ss → (st .row < p) × (isIn (st .row) (lostIn p f (setOf p k (st .kind) (st .number))) ≡ true)

@@ -85,7 +85,7 @@ fn follow(width: usize, size: usize, disk: usize, steps: Steps, stripe: &[u8], c
 {
     let rows = steps.rows;
     let kinds = steps.kinds;
-    let numbers = steps.sets;
+    let numbers = steps.numbers;
     let mut i = 0;
     while i < width {
         let row = rows[i] as usize;
@@ -127,7 +127,7 @@ pub fn rebuild_one(
     if fault != 0 {
         return sets::answered(fault);
     }
-    let plan = planner::our_plan(width, disk);
+    let plan = planner::plan_steps(width, disk);
     let steps = plan.steps;
     follow(width, size, disk, steps, stripe, column);
     sets::answered(0)

@@ -38,9 +38,9 @@ pub fn rebuild_two(
 ) -> Answer
     ensures { λ r. ⌜ TwoSays width size first second (now (stripe .entry)) (now (stripe .exit)) r ⌝ }
 {
-    let fault = two_fault(width, size, first, second, stripe.len());
-    if fault != 0 {
-        return sets::answered(fault);
+    let refusal = two_fault(width, size, first, second, stripe.len());
+    if refusal != 0 {
+        return sets::answered(refusal);
     }
     walk::solve_pair(width, size, first, second, stripe);
     sets::answered(0)

@@ -12,15 +12,15 @@ use Rattle.laws.specs.Choice.{pick, when, firstOf}
 use Rattle.laws.proofs.Flags.{or-false-l}
 use Rattle.laws.proofs.ChoiceLaws.{first-none, when-none}
 use Rattle.laws.proofs.Modulo.{lt-or-le}
-use Rattle.liberation.specs.Sets.{isWidth, numbersFault, widthFault, sizeFault, diskFault}
+use Rattle.liberation.specs.Sets.{isWidth, numbersFault}
 use Rattle.liberation.proofs.Widths.{width-most, width-odd}
-use Rattle.liberation.proofs.FaultLaws.{numbers-of}
+use Rattle.liberation.proofs.FaultLaws.{numbers-of, plan-none}
 use Rattle.liberation.proofs.Demand3.{plans-best}
 use Rattle.liberation.proofs.ParityReads.{row-parity-reads, diagonal-parity-reads}
 use Rattle.liberation.specs.Plans.{planOf, readCount}
 use Rattle.sets.specs.declared.Answer.{Answer}
 use Rattle.planner.specs.declared.Plan.{Plan}
-use Rattle.planner.specs.Says.{planFault, PlanSays}
+use Rattle.planner.specs.Says.{PlanSays}
 use Rattle.rebuild.specs.Says.{lengthsFault, oneFault, OneSays}
 use Rattle.runs.specs.declared.Run.{Run}
 use Rattle.runs.specs.Runs.{opened, noRun, isOver, cellsSoFar, runFault, nextFault, stepLengthsFault, stepFault, stepOk, moved, runColumn, OpenSays, StepSays, ProgressSays}
@@ -87,9 +87,8 @@ progress-refused x n e z =
 -- our plan's count, where width, size and disk are accepted
 pub reads-are : (x : Run) (r : Plan) → runFault x ≡ 0 → PlanSays (x .width) (x .disk) r → r .reads ≡ readCount (x .width) (x .width) (x .disk) (planOf (x .width) (x .width) (x .disk))
 reads-are x r z k =
-    let w = first-none (widthFault (x .width)) (firstOf (sizeFault (x .size)) (diskFault (x .width) (x .disk))) z in
-    let v = first-none (sizeFault (x .size)) (diskFault (x .width) (x .disk)) (w .1) in
-    let f : planFault (x .width) (x .disk) ≡ 0 = ap₂ firstOf (w .0) (v .1) in
+    let a = numbers-of (x .width) (x .width) (x .size) (x .disk) z in
+    let f = plan-none (x .width) (x .width) (x .disk) (a .0) (a .3) in
     k .reads ∙ ap (λ (n : ℕ). pick (eqb n 0) (readCount (x .width) (x .width) (x .disk) (planOf (x .width) (x .width) (x .disk))) 0) f
 
 -- a plan of ours reads at most p² cells

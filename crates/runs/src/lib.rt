@@ -79,10 +79,10 @@ fn step_fault(run: Run, which: u64, stripe: usize, column: usize) -> u8
 pub fn stepped(run: Run, which: u64, stripe: &[u8], column: &mut [u8]) -> RunAnswer
     ensures { λ r. ⌜ StepSays run (r .run) which (now (stripe .entry)) (now (column .entry)) (now (column .exit)) (r .answer) ⌝ }
 {
-    let fault = step_fault(run, which, stripe.len(), column.len());
-    if fault != 0 {
+    let refusal = step_fault(run, which, stripe.len(), column.len());
+    if refusal != 0 {
         return RunAnswer {
-            answer: sets::answered(fault),
+            answer: sets::answered(refusal),
             run: run,
         };
     }

@@ -1,16 +1,16 @@
 -- The quotient rounded up is the least that holds the package, since the remainder is below the divisor. No product or sum of the space call wraps, by the bounds that its tests leave. Accepted and refused answers keep the promise.
-use mathlib.Core.Path.{_≡_, refl, sym, ap, ap₂, _∙_}
+use mathlib.Core.Path.{_≡_, refl, sym, ap, _∙_}
 use mathlib.Core.Bool.{Bool, true, false, _&&_}
 use Prim.Native.Nat.{ℕ, zero, suc, _+_, _-_, _*_, _^_, _≤_, _<_}
 use native.Mathlib.Nat.{mul-le-mul, mul-pos, mul-le-mul-right, mul-le-mul-left, mod-lt, div-add-mod', div-mul-le-self, div-eq-of-lt}
 use native.Mathlib.Omega.{arith}
-use lib.Dec.{eqb}
-use borrow.Author.Tests.{lt-ltb, le-ltb, leb-true, le-leb}
-use Rattle.laws.specs.Choice.{pick, firstOf, when}
+use lib.Dec.{eqb, ltb}
+use borrow.Author.Tests.{ne-eqb, ltb-false, leb-true, le-leb}
+use Rattle.laws.specs.Choice.{pick, firstOf}
 use Rattle.liberation.specs.Sets.{isWidth, widthFault, sizeFault}
-use Rattle.laws.proofs.ChoiceLaws.{first-none}
-use Rattle.liberation.proofs.Widths.{width-least}
-use Rattle.liberation.proofs.FaultLaws.{width-refused, width-accepted, width-of, size-of}
+use Rattle.laws.proofs.ChoiceLaws.{first-none, when-none}
+use Rattle.liberation.proofs.Widths.{width-least, width-most}
+use Rattle.liberation.proofs.FaultLaws.{width-of, size-of}
 use Rattle.space.specs.declared.Space.{Space}
 use Rattle.space.specs.Says.{upBy, stripeHolds, stripesOf, needOf, fitsIn, packageFault, spaceFault, SpaceSays, Refused, SpaceMeans}
 
@@ -48,28 +48,28 @@ bounds p k s l p0 p1 k0 k1 s0 s1 l1 =
     let t : d ≤ 31 * 126976 = mul-le-mul k1 g in
     record { gives = g; holds = t; pos = z; need = omega (arith, m, up-below l d) }
 
--- the refusals: 1, then 2, then 11
-pub fault-width : (p s l : ℕ) → isWidth p ≡ false → spaceFault p s l ≡ 1
-fault-width p s l e = ap (λ (x : ℕ). firstOf x (firstOf (sizeFault s) (packageFault l))) (width-refused p e)
+-- none of refusals 1, 2 and 11
+pub fault-of : (p s l : ℕ) → spaceFault p s l ≡ 0 → (isWidth p ≡ true) × (0 < s) × (s ≤ 4096) × (l ≤ 2 ^ 48)
+fault-of p s l e =
+    let a = first-none (widthFault p) (firstOf (sizeFault s) (packageFault l)) e in
+    let b = first-none (sizeFault s) (packageFault l) (a .1) in
+    let z = size-of s (b .0) in
+    (width-of p (a .0), z .0, z .1, ltb-false (2 ^ 48) l (when-none (ltb (2 ^ 48) l) 10 (b .1)))
 
-pub fault-size : (p s l : ℕ) → isWidth p ≡ true → sizeFault s ≡ 2 → spaceFault p s l ≡ 2
-fault-size p s l e h = ap₂ (λ (x y : ℕ). firstOf x (firstOf y (packageFault l))) (width-accepted p e) h
-
-past-size : (p s l : ℕ) → isWidth p ≡ true → sizeFault s ≡ 0 → spaceFault p s l ≡ packageFault l
-past-size p s l e h = ap₂ (λ (x y : ℕ). firstOf x (firstOf y (packageFault l))) (width-accepted p e) h
-
-pub fault-long : (p s l : ℕ) → isWidth p ≡ true → sizeFault s ≡ 0 → 2 ^ 48 < l → spaceFault p s l ≡ 11
-fault-long p s l e h k = past-size p s l e h ∙ ap (λ (b : Bool). when b 11) (lt-ltb (2 ^ 48) l k)
-
-pub fault-none : (p s l : ℕ) → isWidth p ≡ true → sizeFault s ≡ 0 → l ≤ 2 ^ 48 → spaceFault p s l ≡ 0
-fault-none p s l e h k = past-size p s l e h ∙ ap (λ (b : Bool). when b 11) (le-ltb (2 ^ 48) l k)
+-- so the numbers are small
+pub small : (p s l : ℕ) → spaceFault p s l ≡ 0 → Bounds p p s l
+small p s l e =
+    let c = fault-of p s l e in
+    let m = width-most p (c .0) in
+    let w = width-least p (c .0) in
+    bounds p p s l (omega arith) m (omega arith) m (c .1) (c .2) (c .3)
 
 -- a refusal by a number that is not 0
-pub refusal-says : (p s l free n : ℕ) (r : Space) → eqb n 0 ≡ false → spaceFault p s l ≡ n → Refused n r → SpaceSays p s l free r
-refusal-says p s l free n r z e d =
-    let no : eqb (spaceFault p s l) 0 ≡ false = ap (λ (x : ℕ). eqb x 0) e ∙ z in
+pub refusal-says : (p s l free n : ℕ) (r : Space) → n ≡ spaceFault p s l → (n ≡ 0 → ⊥) → Refused n r → SpaceSays p s l free r
+refusal-says p s l free n r e z d =
+    let no : eqb (spaceFault p s l) 0 ≡ false = ne-eqb (spaceFault p s l) 0 (λ q. z (e ∙ q)) in
     record {
-      number = d .number ∙ sym e;
+      number = d .number ∙ e;
       place = d .place;
       stripes = d .stripes ∙ ap (λ (t : Bool). pick t (stripesOf p p s l) 0) (sym no);
       bytes = d .bytes ∙ ap (λ (t : Bool). pick t (needOf p p s l) 0) (sym no);
@@ -88,14 +88,6 @@ space-says p s l free e =
       fits = ap (λ (t : Bool). t && fitsIn p p s l free) (sym ok);
     }
 
--- past the refusals a stripe holds at least a byte
-stripe-pos : (p s l : ℕ) → spaceFault p s l ≡ 0 → 0 < stripeHolds p p s
-stripe-pos p s l e =
-    let a = first-none (widthFault p) (firstOf (sizeFault s) (packageFault l)) e in
-    let b = first-none (sizeFault s) (packageFault l) (a .1) in
-    let w : 0 < p = omega (arith, width-least p (width-of p (a .0))) in
-    mul-pos w (mul-pos w (size-of s (b .0) .0))
-
 -- an accepted answer: the stripes hold the package, one fewer does not, and it fits exactly when its need is at most the free bytes
 pub space-means : (p s l free : ℕ) (r : Space) → SpaceSays p s l free r → r .number ≡ 0 → SpaceMeans p s l free r
 space-means p s l free r h z =
@@ -104,7 +96,7 @@ space-means p s l free r h z =
     let n : r .stripes ≡ stripesOf p p s l = h .stripes ∙ ap (λ (t : Bool). pick t (stripesOf p p s l) 0) ok in
     let b : r .bytes ≡ needOf p p s l = h .bytes ∙ ap (λ (t : Bool). pick t (needOf p p s l) 0) ok in
     let f : r .fits ≡ fitsIn p p s l free = h .fits ∙ ap (λ (t : Bool). t && fitsIn p p s l free) ok in
-    let d : 0 < stripeHolds p p s = stripe-pos p s l e in
+    let d : 0 < stripeHolds p p s = small p s l e .pos in
     record {
       enough = rw n (up-enough l (stripeHolds p p s) d);
       fewest = λ k. rw n (up-fewest l (stripeHolds p p s) d k);

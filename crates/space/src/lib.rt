@@ -1,5 +1,6 @@
 // The space that a package takes: its stripes, the bytes of each disk, and whether that fits.
-ghost use Rattle.space.specs.Says.{SpaceSays, Refused};
+ghost use mathlib.Core.Path.{_≡_};
+ghost use Rattle.space.specs.Says.{spaceFault, SpaceSays, Refused};
 
 // A refusal number (0 for none) and its place, the stripes, the bytes of each disk, and whether these are at most the free bytes.
 #[repr(C)]
@@ -24,18 +25,28 @@ fn refused_space(number: u8) -> Space
     }
 }
 
+// The refusal of a package of `bytes` bytes, 0 for none: 1, 2, then 11 for more than 2^48 bytes.
+fn space_fault(width: usize, size: usize, bytes: u64) -> u8
+    ensures { λ r. ⌜ r ≡ spaceFault width size bytes ⌝ }
+{
+    let first = sets::width_fault(width);
+    if first != 0 {
+        return first;
+    }
+    let second = sets::size_fault(size);
+    if second != 0 {
+        return second;
+    }
+    if 281474976710656 < bytes { 11 } else { 0 }
+}
+
 // The space that a package of `bytes` bytes takes, where each disk has `free` bytes left. Refusals: 1, 2, 11.
 pub fn package_space(width: usize, size: usize, bytes: u64, free: u64) -> Space
     ensures { λ r. ⌜ SpaceSays width size bytes free r ⌝ }
 {
-    if !sets::is_width(width) {
-        return refused_space(1);
-    }
-    if size == 0 || 4096 < size {
-        return refused_space(2);
-    }
-    if 281474976710656 < bytes {
-        return refused_space(11);
+    let fault = space_fault(width, size, bytes);
+    if fault != 0 {
+        return refused_space(fault);
     }
     let gives = width as u64 * size as u64;
     let holds = width as u64 * gives;

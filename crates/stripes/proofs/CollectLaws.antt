@@ -15,7 +15,7 @@ use Rattle.laws.proofs.SearchLaws.{drop-next}
 use Rattle.liberation.specs.Sets.{setOf}
 use Rattle.liberation.proofs.SetLaws.{set-below}
 use Rattle.sets.specs.Limits.{Within}
-use Rattle.sets.proofs.SizeLaws.{size-most}
+use Rattle.liberation.proofs.SetSizes.{size-most}
 use Rattle.stripes.specs.Cells.{scaled}
 
 -- the cells of a list that pass a test: those that are gone are left out

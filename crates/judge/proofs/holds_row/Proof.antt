@@ -8,7 +8,7 @@ use Rattle.laws.specs.Lists.{isIn}
 use Rattle.laws.proofs.SearchLaws.{seek-turn, seek-here, seek-end}
 use Rattle.liberation.specs.Sets.{place, setOf}
 use Rattle.liberation.proofs.SetLaws.{in-lost}
-use Rattle.sets.proofs.SizeLaws.{place-small}
+use Rattle.liberation.proofs.SetSizes.{place-small}
 use Rattle.judge.proofs.holds_row.Statement.{statement}
 use Rattle.judge.proofs.holds_row.Tie as tie
 

@@ -6,7 +6,7 @@ use native.Mathlib.Omega.{arith}
 use lib.ListN.{length, set, replicate}
 use borrow.Author.Needs.{needs}
 use Rattle.liberation.specs.Plans.{step, marksFrom}
-use Rattle.sets.proofs.MarkLaws.{length-marks}
+use Rattle.liberation.proofs.MarkLists.{length-marks}
 use Rattle.judge.proofs.PlanLaws.{InForm, BytesOf, Halfway, halfway-start, halfway-long, halfway-form, halfway-turn, halfway-refused, halfway-end}
 use Rattle.judge.proofs.judge_steps.Statement.{statement}
 use Rattle.judge.proofs.judge_steps.Tie as tie

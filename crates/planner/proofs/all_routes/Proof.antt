@@ -8,10 +8,10 @@ use Rattle.planner.proofs.all_routes.Statement.{statement}
 use Rattle.planner.proofs.all_routes.Tie as tie
 
 abbrev Inv-loop : tie.InvT-loop
-Inv-loop width disk half r₀ row₀ r row = (half ≡ (width - 1) / 2) × Under width disk row r
+Inv-loop width disk half routes₀ word₀ row₀ routes word row = (half ≡ (width - 1) / 2) × Under width disk row routes word
 
 abbrev μ-loop : tie.MeasureT-loop
-μ-loop width disk half r₀ row₀ r row = width - row
+μ-loop width disk half routes₀ word₀ row₀ routes word row = width - row
 
 sub-half : tie.Need-sub-half Inv-loop μ-loop
 sub-half c = search needs
@@ -20,13 +20,13 @@ first-routes-requires : tie.Need-first-routes-requires Inv-loop μ-loop
 first-routes-requires c κs = search needs
 
 loop-holds : tie.Need-loop-holds Inv-loop μ-loop
-loop-holds c = let a = c .before .args in (refl, under-start (a .width) (a .disk) (c .first-routes .result) (c .first-routes .ensures))
+loop-holds c = let a = c .before .before .args in (refl, under-start (a .width) (a .disk) _ _ (c .before .first-routes .ensures))
 
 cast-if1 : tie.Need-cast-if1 Inv-loop μ-loop
-cast-if1 c = omega (arith, ones-few _ _ _ _ (c .before .loop .inv .1))
+cast-if1 c = omega (arith, ones-few _ _ _ _ _ (c .before .loop .inv .1))
 
 returns : tie.Need-returns Inv-loop μ-loop
-returns c = let a = c .before .before .before .before .args in let l = c .before .before .loop in under-stop (a .width) (a .disk) (l .row) ((a .width - 1) / 2) (l .r) refl (c .if1 .taken) (l .inv .1)
+returns c = let a = c .before .before .before .before .before .args in let l = c .before .before .loop in under-stop (a .width) (a .disk) (l .row) ((a .width - 1) / 2) (l .routes) (l .word) refl (c .if1 .taken) (l .inv .1)
 
 turn-requires : tie.Need-turn-requires Inv-loop μ-loop
 turn-requires c κs = search needs
@@ -38,10 +38,14 @@ loop-less : tie.Need-loop-less Inv-loop μ-loop
 loop-less c = search needs
 
 loop-again : tie.Need-loop-again Inv-loop μ-loop
-loop-again c = let a = c .before .before .before .before .before .args in let l = c .before .before .before .loop in (refl, under-turn (a .width) (a .disk) (l .row) ((a .width - 1) / 2) (l .r) (c .turn .result) (c .before .before .loop-test .taken) refl (c .before .if1 .left) (l .inv .1) (c .turn .ensures))
+loop-again c =
+    let e = c .before .before in
+    let l = e .before .before .loop in
+    let a = e .before .before .before .before .before .args in
+    (refl, under-turn (a .width) (a .disk) (l .row) ((a .width - 1) / 2) (l .routes) _ (l .word) (c .turn .result) (e .before .loop-test .taken) refl (e .if1 .left) (l .inv .1) (c .turn .ensures))
 
 returns-2 : tie.Need-returns-2 Inv-loop μ-loop
-returns-2 c = let a = c .before .before .before .args in let l = c .before .loop in under-end (a .width) (a .disk) (l .row) (l .r) (c .loop-test .left) (l .inv .1)
+returns-2 c = let a = c .before .before .before .before .args in let l = c .before .loop in under-end (a .width) (a .disk) (l .row) (l .routes) (l .word) (c .loop-test .left) (l .inv .1)
 
 pub all-routes-spec : {M : Type 1} → statement M
 all-routes-spec =

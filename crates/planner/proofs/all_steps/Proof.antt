@@ -1,33 +1,34 @@
--- `all_steps`: each turn adds the next set of the kind. The invariant: the steps so far, with those still to come, are all.
+-- `all_steps`: each turn adds the next set of the kind. The invariant: the steps so far, with those still to come, are all; a set has its row's number.
 use mathlib.Core.Path.{_≡_, ap}
 use Prim.Native.Nat.{ℕ, _+_, _-_, _≤_}
 use native.Mathlib.Omega.{arith}
+use lib.ListN.{replicate}
 use Rattle.liberation.specs.Plans.{step, allOf}
-use Rattle.planner.proofs.StepLaws.{Collected, collect-start, collect-push, collect-skip, collect-end, collect-room, all-some, all-last, length-all}
+use Rattle.planner.proofs.StepLaws.{Collected, collect-start, collect-push, collect-skip, collect-end, all-some, all-last}
 use borrow.Author.Needs.{needs}
 use Rattle.planner.proofs.all_steps.Statement.{statement}
 use Rattle.planner.proofs.all_steps.Tie as tie
 
 abbrev Inv-loop : tie.InvT-loop
-Inv-loop width kind s₀ row₀ s row = (row ≤ width) × Collected (allOf width kind 0) (allOf (width - row) kind row) s
+Inv-loop width kind rows₀ kinds₀ row₀ rows kinds row = (row ≤ width) × Collected (allOf width kind 0) (allOf (width - row) kind row) rows kinds rows row
 
 abbrev μ-loop : tie.MeasureT-loop
-μ-loop width kind s₀ row₀ s row = width - row
-
-no-steps-requires : tie.Need-no-steps-requires Inv-loop μ-loop
-no-steps-requires c κs = search needs
+μ-loop width kind rows₀ kinds₀ row₀ rows kinds row = width - row
 
 loop-holds : tie.Need-loop-holds Inv-loop μ-loop
 loop-holds c =
-    let a = c .before .args in
+    let a = c .args in
     let z : a .width ≡ a .width - 0 = omega arith in
-    (omega arith, collect-skip _ _ _ (c .no-steps .result) (ap (λ (n : ℕ). allOf n (a .kind) 0) z) (collect-start (allOf (a .width) (a .kind) 0) (c .no-steps .result) (c .no-steps .ensures)))
+    (omega arith, collect-skip _ _ _ (replicate 31 0) (replicate 31 0) (replicate 31 0) 0 (ap (λ (n : ℕ). allOf n (a .kind) 0) z) (collect-start (allOf (a .width) (a .kind) 0)))
 
-push-requires : tie.Need-push-requires Inv-loop μ-loop
-push-requires c κs =
-    let a = c .before .before .before .args in
-    let l = c .before .loop in
-    (collect-room (allOf (a .width) (a .kind) 0) (allOf (a .width - (l .row + 1)) (a .kind) (l .row + 1)) (allOf (a .width - l .row) (a .kind) (l .row)) (step (l .row) (a .kind) (l .row)) (l .s) (all-some (a .width) (a .kind) (l .row) (omega arith)) (omega (arith, length-all (a .width) (a .kind) 0)) (l .inv .1), omega arith, omega arith)
+cast-rows : tie.Need-cast-rows Inv-loop μ-loop
+cast-rows c = search needs
+
+array-write-rows : tie.Need-array-write-rows Inv-loop μ-loop
+array-write-rows c = search needs
+
+array-write-kinds : tie.Need-array-write-kinds Inv-loop μ-loop
+array-write-kinds c = search needs
 
 add-row : tie.Need-add-row Inv-loop μ-loop
 add-row c = search needs
@@ -37,15 +38,16 @@ loop-less c = search needs
 
 loop-again : tie.Need-loop-again Inv-loop μ-loop
 loop-again c =
-    let a = c .before .before .before .before .args in
-    let l = c .before .before .loop in
-    (omega arith, collect-push (allOf (a .width) (a .kind) 0) (allOf (a .width - (l .row + 1)) (a .kind) (l .row + 1)) (allOf (a .width - l .row) (a .kind) (l .row)) (step (l .row) (a .kind) (l .row)) (l .s) (c .push .result) (all-some (a .width) (a .kind) (l .row) (omega arith)) (l .inv .1) (c .push .ensures))
+    let a = c .before .before .args in
+    let l = c .before .loop in
+    (omega arith, collect-push (allOf (a .width) (a .kind) 0) (allOf (a .width - (l .row + 1)) (a .kind) (l .row + 1)) (allOf (a .width - l .row) (a .kind) (l .row)) (step (l .row) (a .kind) (l .row)) (l .rows) (l .kinds) (l .rows) (l .row) (all-some (a .width) (a .kind) (l .row) (omega arith)) (omega arith) (l .inv .1))
 
 returns : tie.Need-returns Inv-loop μ-loop
 returns c =
-    let a = c .before .before .before .args in
+    let a = c .before .before .args in
     let l = c .before .loop in
-    collect-end (allOf (a .width) (a .kind) 0) (allOf (a .width - l .row) (a .kind) (l .row)) (l .s) (all-last (a .width) (a .kind) (l .row) (c .loop-test .left)) (l .inv .1)
+    let k = collect-end (allOf (a .width) (a .kind) 0) (allOf (a .width - l .row) (a .kind) (l .row)) (l .rows) (l .kinds) (l .rows) (l .row) (all-last (a .width) (a .kind) (l .row) (c .loop-test .left)) (l .inv .1) in
+    record { rows = k .rows; kinds = k .kinds; numbers = k .numbers }
 
 pub all-steps-spec : {M : Type 1} → statement M
 all-steps-spec =
@@ -53,9 +55,10 @@ all-steps-spec =
     (tie.spec
     Inv-loop
     μ-loop
-    no-steps-requires
     loop-holds
-    push-requires
+    cast-rows
+    array-write-rows
+    array-write-kinds
     add-row
     loop-less
     loop-again

@@ -14,42 +14,63 @@ use Rattle.planner.proofs.diagonal_steps.Statement.{statement}
 use Rattle.planner.proofs.diagonal_steps.Tie as tie
 
 abbrev Inv-loop : tie.InvT-loop
-Inv-loop width disk routes s₀ row₀ s row = (row ≤ width) × Collected (rowSteps 0 (take width routes) ++ diagonalSteps width disk 0 (take width routes)) (diagonalSteps width disk row (drop row (take width routes))) s
+Inv-loop width disk routes rows₀ kinds₀ numbers₀ count₀ row₀ rows kinds numbers count row =
+    (row ≤ width) × Collected (rowSteps 0 (take width routes) ++ diagonalSteps width disk 0 (take width routes)) (diagonalSteps width disk row (drop row (take width routes))) rows kinds numbers count
 
 abbrev μ-loop : tie.MeasureT-loop
-μ-loop width disk routes s₀ row₀ s row = width - row
+μ-loop width disk routes rows₀ kinds₀ numbers₀ count₀ row₀ rows kinds numbers count row = width - row
 
 -- the routes that count are as many as the rows
-long : (c : tie.Start Inv-loop μ-loop) → length (take (c .args .width) (c .args .r .routes)) ≡ c .args .width
-long c = let n : length (c .args .r .routes) ≡ 31 = search needs in length-take-le (c .args .width) (c .args .r .routes) (omega arith)
+long : (c : tie.Start Inv-loop μ-loop) → length (take (c .args .width) (c .args .t3)) ≡ c .args .width
+long c = let n : length (c .args .t3) ≡ 31 = search needs in length-take-le (c .args .width) (c .args .t3) (omega arith)
+
+-- a row that takes a diagonal comes next, and there is room for its step
+room : (c : tie.Then1 Inv-loop μ-loop) → c .before .before .loop .count < 31
+room c =
+    let q = c .before .before .before .before .before .before .before in
+    let a = q .args in
+    let l = c .before .before .loop in
+    let rs = take (a .width) (a .t3) in
+    let at = getD-take (a .width) (a .t3) (l .row) 0 (c .before .loop-test .taken) in
+    collect-room (rowSteps 0 rs ++ diagonalSteps (a .width) (a .disk) 0 rs) (diagonalSteps (a .width) (a .disk) (l .row + 1) (drop (l .row + 1) rs)) (diagonalSteps (a .width) (a .disk) (l .row) (drop (l .row) rs)) (step (l .row) 1 (diagonalOf (a .width) (a .disk) (l .row))) (l .rows) (l .kinds) (l .numbers) (l .count)
+    (diagonal-some (a .width) (a .disk) (l .row) rs (omega (arith, long q)) (at ∙ c .if1 .taken)) (omega (arith, long q, length-append (rowSteps 0 rs) (diagonalSteps (a .width) (a .disk) 0 rs), length-rows (a .width) (a .disk) 0 rs)) (l .inv .1)
 
 loop-holds : tie.Need-loop-holds Inv-loop μ-loop
 loop-holds c =
-    let a = c .before .args in
-    let rs = take (a .width) (a .r .routes) in
-    (omega arith, record { steps = rowSteps 0 rs; held = c .before .pre .2; joined = refl })
+    let q = c .before .before .before .before in
+    (omega arith, record { steps = rowSteps 0 (take (q .args .width) (q .args .t3)); held = q .pre .2; joined = refl })
 
 array-read-if1 : tie.Need-array-read-if1 Inv-loop μ-loop
 array-read-if1 c = search needs
 
-add-push : tie.Need-add-push Inv-loop μ-loop
-add-push c = search needs
+cast-rows : tie.Need-cast-rows Inv-loop μ-loop
+cast-rows c = search needs
 
-sub-push : tie.Need-sub-push Inv-loop μ-loop
-sub-push c = search needs
+array-write-rows : tie.Need-array-write-rows Inv-loop μ-loop
+array-write-rows c = room c
 
-rem-push : tie.Need-rem-push Inv-loop μ-loop
-rem-push c = search needs
+array-write-kinds : tie.Need-array-write-kinds Inv-loop μ-loop
+array-write-kinds c = room c
 
-push-requires : tie.Need-push-requires Inv-loop μ-loop
-push-requires c κs =
-    let q = c .before .before .before .before in
-    let a = q .args in
-    let l = c .before .before .loop in
-    let rs = take (a .width) (a .r .routes) in
-    let at = getD-take (a .width) (a .r .routes) (l .row) 0 (c .before .loop-test .taken) in
-    let e = diagonal-some (a .width) (a .disk) (l .row) rs (omega (arith, long q)) (at ∙ c .if1 .taken) in
-    (collect-room (rowSteps 0 rs ++ diagonalSteps (a .width) (a .disk) 0 rs) (diagonalSteps (a .width) (a .disk) (l .row + 1) (drop (l .row + 1) rs)) (diagonalSteps (a .width) (a .disk) (l .row) (drop (l .row) rs)) (step (l .row) 1 (diagonalOf (a .width) (a .disk) (l .row))) (l .s) e (omega (arith, long q, length-append (rowSteps 0 rs) (diagonalSteps (a .width) (a .disk) 0 rs), length-rows (a .width) (a .disk) 0 rs)) (l .inv .1), omega arith, omega (arith, mod-lt (l .row + a .width - a .disk) {m = a .width} (omega arith)))
+add-numbers : tie.Need-add-numbers Inv-loop μ-loop
+add-numbers c = search needs
+
+sub-numbers : tie.Need-sub-numbers Inv-loop μ-loop
+sub-numbers c = search needs
+
+rem-numbers : tie.Need-rem-numbers Inv-loop μ-loop
+rem-numbers c = search needs
+
+cast-numbers : tie.Need-cast-numbers Inv-loop μ-loop
+cast-numbers c =
+    let a = c .before .before .before .before .before .before .before .args in
+    omega (arith, mod-lt (c .before .before .loop .row + a .width - a .disk) {m = a .width} (omega arith))
+
+array-write-numbers : tie.Need-array-write-numbers Inv-loop μ-loop
+array-write-numbers c = room c
+
+add-count : tie.Need-add-count Inv-loop μ-loop
+add-count c = omega (arith, room c)
 
 add-row : tie.Need-add-row Inv-loop μ-loop
 add-row c = search needs
@@ -59,29 +80,30 @@ loop-less c = search needs
 
 loop-again : tie.Need-loop-again Inv-loop μ-loop
 loop-again c =
-    let q = c .before .before .before .before in
+    let q = c .before .before .before .before .before .before .before in
     let a = q .args in
     let l = c .before .before .loop in
-    let rs = take (a .width) (a .r .routes) in
+    let rs = take (a .width) (a .t3) in
     let whole = rowSteps 0 rs ++ diagonalSteps (a .width) (a .disk) 0 rs in
     let rest = diagonalSteps (a .width) (a .disk) (l .row + 1) (drop (l .row + 1) rs) in
     let all = diagonalSteps (a .width) (a .disk) (l .row) (drop (l .row) rs) in
     let h : l .row < length rs = omega (arith, long q) in
-    let at = getD-take (a .width) (a .r .routes) (l .row) 0 (c .before .loop-test .taken) in (
+    let at = getD-take (a .width) (a .t3) (l .row) 0 (c .before .loop-test .taken) in (
       omega arith,
       ⊎-elim
-          (λ w. rw (w .2) (collect-push whole rest all (step (l .row) 1 (diagonalOf (a .width) (a .disk) (l .row))) (l .s) (w .1 .result) (diagonal-some (a .width) (a .disk) (l .row) rs h (at ∙ w .0 .taken)) (l .inv .1) (w .1 .ensures)))
-          (λ w. rw (w .1) (collect-skip whole rest all (l .s) (diagonal-none (a .width) (a .disk) (l .row) rs h (λ e. w .0 .left (sym at ∙ e))) (l .inv .1)))
+          (λ w. rw (w .1, w .2, w .3, w .4) (collect-push whole rest all (step (l .row) 1 (diagonalOf (a .width) (a .disk) (l .row))) (l .rows) (l .kinds) (l .numbers) (l .count) (diagonal-some (a .width) (a .disk) (l .row) rs h (at ∙ w .0 .taken)) (room (record { before = c .before; if1 = w .0 })) (l .inv .1)))
+          (λ w. rw (w .1, w .2, w .3, w .4) (collect-skip whole rest all (l .rows) (l .kinds) (l .numbers) (l .count) (diagonal-none (a .width) (a .disk) (l .row) rs h (λ e. w .0 .left (sym at ∙ e))) (l .inv .1)))
           (c .if1 .came),
     )
 
 returns : tie.Need-returns Inv-loop μ-loop
 returns c =
-    let q = c .before .before .before in
+    let q = c .before .before .before .before .before .before in
     let a = q .args in
     let l = c .before .loop in
-    let rs = take (a .width) (a .r .routes) in
-    collect-end (rowSteps 0 rs ++ diagonalSteps (a .width) (a .disk) 0 rs) (diagonalSteps (a .width) (a .disk) (l .row) (drop (l .row) rs)) (l .s) (diagonal-last (a .width) (a .disk) (l .row) rs (omega (arith, long q, c .loop-test .left))) (l .inv .1)
+    let rs = take (a .width) (a .t3) in
+    let k = collect-end (rowSteps 0 rs ++ diagonalSteps (a .width) (a .disk) 0 rs) (diagonalSteps (a .width) (a .disk) (l .row) (drop (l .row) rs)) (l .rows) (l .kinds) (l .numbers) (l .count) (diagonal-last (a .width) (a .disk) (l .row) rs (omega (arith, long q, c .loop-test .left))) (l .inv .1) in
+    record { rows = k .rows; kinds = k .kinds; numbers = k .numbers }
 
 pub diagonal-steps-spec : {M : Type 1} → statement M
 diagonal-steps-spec =
@@ -91,10 +113,15 @@ diagonal-steps-spec =
     μ-loop
     loop-holds
     array-read-if1
-    add-push
-    sub-push
-    rem-push
-    push-requires
+    cast-rows
+    array-write-rows
+    array-write-kinds
+    add-numbers
+    sub-numbers
+    rem-numbers
+    cast-numbers
+    array-write-numbers
+    add-count
     add-row
     loop-less
     loop-again

@@ -5,8 +5,9 @@ use Prim.Native.Nat.{ℕ, _+_, _*_, _≤_}
 use native.Mathlib.Omega.{arith}
 use lib.ListN.{length, take}
 use lib.Seq.{length-take-le}
-use Rattle.sets.proofs.MarkLaws.{length-marks, take-marks, cells-most}
+use Rattle.liberation.proofs.MarkLists.{length-marks, take-marks, cells-most}
 use Rattle.liberation.proofs.Widths.{width-most}
+use Rattle.liberation.proofs.FaultLaws.{plan-none}
 use Rattle.planner.proofs.PlanLaws.{plan-says}
 use borrow.Author.Needs.{needs}
 use Rattle.planner.proofs.finished.Statement.{statement}
@@ -45,10 +46,10 @@ mark-steps-requires c κs =
 
 returns : tie.Need-returns
 returns c =
-    let q = c .before .before .before .before .before .before .before .before in
+    let k = c .before in
+    let q = k .before .before .before .before in
     let a = q .args in
-    let k = c .before .before .before .before .mark-steps in
-    plan-says (a .width) (a .disk) _ (a .p .steps) (q .pre .0) (q .pre .1) (q .pre .2 .steps) refl refl refl refl refl (q .pre .2 .word) (k .ensures .0)
+    plan-says (a .width) (a .disk) _ (a .p) (plan-none (a .width) (a .width) (a .disk) (q .pre .0) (q .pre .1)) (q .pre .2) (q .pre .2 .number) (q .pre .2 .place) refl refl (k .mark-steps .ensures .0)
 
 pub finished-spec : {M : Type 1} → statement M
 finished-spec =

@@ -5,10 +5,11 @@ use Prim.Native.Nat.{ℕ, _+_, _-_, _*_, _≤_, _<_}
 use native.Mathlib.Nat.{mul-le-mul}
 use native.Mathlib.Omega.{arith}
 use lib.ListN.{length, getD}
-use Rattle.sets.proofs.MarkLaws.{length-marks}
+use Rattle.liberation.proofs.MarkLists.{length-marks}
 use Rattle.liberation.specs.Plans.{planOf}
 use Rattle.liberation.proofs.Widths.{width-most}
-use Rattle.planner.proofs.ReadingLaws.{StepAt, step-at, plan-length, plan-number, Reading, reading-start, reading-turn, reading-end}
+use Rattle.planner.proofs.ReadingLaws.{Reading, reading-start, reading-turn, reading-end}
+use Rattle.liberation.proofs.RecordLaws.{StepAt, step-at, plan-length, plan-number}
 use borrow.Author.Needs.{needs}
 use Rattle.planner.proofs.mark_steps.Statement.{statement}
 use Rattle.planner.proofs.mark_steps.Tie as tie
@@ -31,10 +32,10 @@ this c =
 kind : (c : tie.In-loop Inv-loop μ-loop) → getD (c .before .before .before .before .before .args .s .kinds) (c .before .loop .i) 0 ≡ this c .this .kind
 kind c = ap (λ (x : List ℕ). getD x (c .before .loop .i) 0) (c .before .before .before .before .before .pre .2 .kinds) ∙ this c .held (λ s. s .kind)
 
-number : (c : tie.In-loop Inv-loop μ-loop) → (getD (c .before .before .before .before .before .args .s .sets) (c .before .loop .i) 0 ≡ this c .this .number) × (this c .this .number < c .before .before .before .before .before .args .width)
+number : (c : tie.In-loop Inv-loop μ-loop) → (getD (c .before .before .before .before .before .args .s .numbers) (c .before .loop .i) 0 ≡ this c .this .number) × (this c .this .number < c .before .before .before .before .before .args .width)
 number c =
     let q = c .before .before .before .before .before in
-    (ap (λ (x : List ℕ). getD x (c .before .loop .i) 0) (q .pre .2 .sets) ∙ this c .held (λ s. s .number), plan-number (q .args .width) (q .args .disk) (c .before .loop .i) (q .pre .0) (q .pre .1) (this c) (c .loop-test .taken))
+    (ap (λ (x : List ℕ). getD x (c .before .loop .i) 0) (q .pre .2 .numbers) ∙ this c .held (λ s. s .number), plan-number (q .args .width) (q .args .disk) (c .before .loop .i) (q .pre .0) (q .pre .1) (this c) (c .loop-test .taken))
 
 -- the loop's state after one more step
 turned : (c : tie.After-slice-known2 Inv-loop μ-loop) → let a = c .before .before .before .before .before .before .before .before .before .args in let l = c .before .before .before .before .before .loop in Reading (a .width) (a .disk) (planOf (a .width) (a .width) (a .disk)) (c .before .before .mark-set .last .1 .1 .1 .1 .1 .0) (l .reads + c .before .before .mark-set .result) (l .i + 1)
@@ -65,7 +66,7 @@ mark-set-requires c κs =
     let q = c .before .before .before .before .before .before in
     let a = q .args in
     let l = c .before .before .loop in
-    let n : getD (a .s .sets) (l .i) 0 < a .width = omega (arith, number (c .before)) in
+    let n : getD (a .s .numbers) (l .i) 0 < a .width = omega (arith, number (c .before)) in
     (record { widest = small (c .before); disks = omega arith; numbered = n }, omega (arith, l .inv .1, ap (λ (x : List ℕ). length x) (q .pre .3), length-marks (a .width * (a .width + 2)) 0 []))
 
 add-reads : tie.Need-add-reads Inv-loop μ-loop

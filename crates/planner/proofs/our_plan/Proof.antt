@@ -1,47 +1,72 @@
 -- `our_plan`: a data disk takes its routes' steps, P all row sets, Q all diagonals.
+use mathlib.Core.Path.{sym, _∙_}
 use native.Mathlib.Omega.{arith}
+use borrow.Author.Needs.{needs}
 use Rattle.liberation.proofs.Widths.{width-most}
-use Rattle.planner.proofs.PlanLaws.{data-is, row-parity-is, diagonal-parity-is}
+use Rattle.planner.proofs.PlanLaws.{data-steps-are, data-word, parity-steps, row-parity-word, diagonal-parity-word, our-plan-is}
 use Rattle.planner.proofs.our_plan.Statement.{statement}
 use Rattle.planner.proofs.our_plan.Tie as tie
 
 all-routes-requires : tie.Need-all-routes-requires
 all-routes-requires c κs = (width-most (c .before .args .width) (c .before .pre .0), c .if1 .taken)
 
-row-steps-requires : tie.Need-row-steps-requires
-row-steps-requires c κs = width-most (c .before .before .args .width) (c .before .before .pre .0)
+data-steps-requires : tie.Need-data-steps-requires
+data-steps-requires c κs = let t = c .before .before in (width-most (t .before .args .width) (t .before .pre .0), t .if1 .taken)
 
-diagonal-steps-requires : tie.Need-diagonal-steps-requires
-diagonal-steps-requires c κs = (width-most (c .before .before .before .args .width) (c .before .before .before .pre .0), c .before .before .if1 .taken, c .row-steps .ensures)
+accepted-plan-requires : tie.Need-accepted-plan-requires
+accepted-plan-requires c κs = search needs
 
 returns : tie.Need-returns
-returns c = let a = c .before .before .before .before .args in data-is (a .width) (a .disk) (c .before .before .all-routes .result) (c .diagonal-steps .result) (c .before .before .before .if1 .taken) (c .before .before .all-routes .ensures) (c .diagonal-steps .ensures)
+returns c =
+    let d = c .before in
+    let r = d .before .before in
+    let t = r .before in
+    let a = t .before .args in
+    our-plan-is (a .width) (a .disk) _ (d .data-steps .result) (c .accepted-plan .result) (data-steps-are (a .width) (a .disk) _ _ (d .data-steps .result) (t .if1 .taken) (r .all-routes .ensures) (d .data-steps .ensures)) (data-word (a .width) (a .disk) _ _ (t .if1 .taken) (r .all-routes .ensures)) (c .accepted-plan .ensures)
 
 all-steps-requires : tie.Need-all-steps-requires
 all-steps-requires c κs = width-most (c .before .before .args .width) (c .before .before .pre .0)
 
+accepted-plan-requires-2 : tie.Need-accepted-plan-requires-2
+accepted-plan-requires-2 c κs = search needs
+
 returns-2 : tie.Need-returns-2
-returns-2 c = let a = c .before .before .before .args in row-parity-is (a .width) (a .disk) (c .all-steps .result) (c .before .if2 .taken) (c .all-steps .ensures)
+returns-2 c =
+    let d = c .before in
+    let e = d .before .if2 .taken in
+    let a = d .before .before .before .args in
+    our-plan-is (a .width) (a .disk) 0 (d .all-steps .result) (c .accepted-plan2 .result) (parity-steps (a .width) (a .disk) 0 (d .all-steps .result) (omega arith) (omega arith) (d .all-steps .ensures)) (row-parity-word (a .width) (a .disk) e) (c .accepted-plan2 .ensures)
 
 all-steps-requires-2 : tie.Need-all-steps-requires-2
 all-steps-requires-2 c κs = width-most (c .before .before .args .width) (c .before .before .pre .0)
 
 all-bits-requires : tie.Need-all-bits-requires
-all-bits-requires c κs = omega (arith, width-most (c .before .before .before .args .width) (c .before .before .before .pre .0))
+all-bits-requires c κs = let q = c .before .before .before in omega (arith, width-most (q .args .width) (q .pre .0))
+
+accepted-plan-requires-3 : tie.Need-accepted-plan-requires-3
+accepted-plan-requires-3 c κs = search needs
 
 returns-3 : tie.Need-returns-3
-returns-3 c = let q = c .before .before .before .before in let a = q .args in diagonal-parity-is (a .width) (a .disk) (c .all-bits .result) (c .before .all-steps2 .result) (c .before .before .before .if1 .left) (c .before .before .if2 .left) (q .pre .1) (c .all-bits .ensures) (c .before .all-steps2 .ensures)
+returns-3 c =
+    let b = c .before in
+    let d = b .before in
+    let e = d .before in
+    let q = e .before .before in
+    let a = q .args in
+    our-plan-is (a .width) (a .disk) (b .all-bits .result) (d .all-steps2 .result) (c .accepted-plan3 .result) (parity-steps (a .width) (a .disk) 1 (d .all-steps2 .result) (e .before .if1 .left) (omega (arith, q .pre .1, e .if2 .left)) (d .all-steps2 .ensures)) (b .all-bits .ensures ∙ diagonal-parity-word (a .width) (a .disk) (e .before .if1 .left) (e .if2 .left)) (c .accepted-plan3 .ensures)
 
 pub our-plan-spec : {M : Type 1} → statement M
 our-plan-spec =
     tie.close
     (tie.spec
     all-routes-requires
-    row-steps-requires
-    diagonal-steps-requires
+    data-steps-requires
+    accepted-plan-requires
     returns
     all-steps-requires
+    accepted-plan-requires-2
     returns-2
     all-steps-requires-2
     all-bits-requires
+    accepted-plan-requires-3
     returns-3)

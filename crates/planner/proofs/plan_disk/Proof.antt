@@ -1,60 +1,36 @@
--- `plan_disk`: refusals 1 and 3 in this order, else our plan.
+-- `plan_disk`: refusals 1 and 3, else our plan with its reads counted.
 use mathlib.Core.Path.{_≡_, refl, sym, _∙_}
-use mathlib.Core.Bool.{true}
-use native.Mathlib.Omega.{arith}
-use borrow.Author.Tests.{not-true, not-false}
-use Rattle.liberation.specs.Sets.{isWidth}
-use Rattle.liberation.proofs.Widths.{width-most}
-use Rattle.planner.proofs.PlanLaws.{refusal-says, fault-width, fault-disk}
 use borrow.Author.Needs.{needs}
+use Rattle.liberation.specs.Sets.{planFault}
+use Rattle.liberation.proofs.FaultLaws.{plan-of}
+use Rattle.planner.proofs.PlanLaws.{plan-refused}
 use Rattle.planner.proofs.plan_disk.Statement.{statement}
 use Rattle.planner.proofs.plan_disk.Tie as tie
 
--- past the first test the width is one of the ten
-wide : (c : tie.Else1) → isWidth (c .before .before .args .width) ≡ true
-wide c = sym (c .before .is-width .ensures) ∙ not-false (c .before .is-width .result) (c .if1 .left)
+-- past the refusals
+none : (c : tie.Else1) → let a = c .before .before .args in planFault (a .width) (a .width) (a .disk) ≡ 0
+none c = sym (c .before .plan-fault .ensures) ∙ c .if1 .left
 
-is-width-requires : tie.Need-is-width-requires
-is-width-requires c κs = search needs
+plan-fault-requires : tie.Need-plan-fault-requires
+plan-fault-requires c κs = search needs
 
-refused-plan-requires : tie.Need-refused-plan-requires
-refused-plan-requires c κs = search needs
+no-steps-requires : tie.Need-no-steps-requires
+no-steps-requires c κs = search needs
 
 returns : tie.Need-returns
-returns c =
-    let a = c .before .before .before .args in
-    refusal-says (a .width) (a .disk) 1 (c .refused-plan .result) refl (fault-width (a .width) (a .disk) (sym (c .before .before .is-width .ensures) ∙ not-true (c .before .before .is-width .result) (c .before .if1 .taken))) (c .refused-plan .ensures)
-
-add-if2 : tie.Need-add-if2
-add-if2 c = omega (arith, width-most (c .before .before .args .width) (wide c))
-
-refused-plan-requires-2 : tie.Need-refused-plan-requires-2
-refused-plan-requires-2 c κs = search needs
-
-returns-2 : tie.Need-returns-2
-returns-2 c =
-    let a = c .before .before .before .before .args in
-    refusal-says (a .width) (a .disk) 3 (c .refused-plan2 .result) refl (fault-disk (a .width) (a .disk) (wide (c .before .before)) (c .before .if2 .taken)) (c .refused-plan2 .ensures)
+returns c = let t = c .before in let q = t .before in let a = q .before .args in plan-refused (a .width) (a .disk) (q .plan-fault .result) _ (q .plan-fault .ensures) (t .if1 .taken) refl refl (c .no-steps .ensures) refl refl
 
 our-plan-requires : tie.Need-our-plan-requires
-our-plan-requires c κs = (wide (c .before), c .if2 .left)
+our-plan-requires c κs = let a = c .before .before .args in plan-of (a .width) (a .width) (a .disk) (none c)
 
 finished-requires : tie.Need-finished-requires
-finished-requires c κs = (wide (c .before .before), c .before .if2 .left, c .our-plan .ensures)
+finished-requires c κs =
+    let a = c .before .before .before .args in
+    let w = plan-of (a .width) (a .width) (a .disk) (none (c .before)) in
+    (w .0, w .1, c .our-plan .ensures)
 
-returns-3 : tie.Need-returns-3
-returns-3 c = search needs
+returns-2 : tie.Need-returns-2
+returns-2 c = search needs
 
 pub plan-disk-spec : {M : Type 1} → statement M
-plan-disk-spec =
-    tie.close
-    (tie.spec
-    is-width-requires
-    refused-plan-requires
-    returns
-    add-if2
-    refused-plan-requires-2
-    returns-2
-    our-plan-requires
-    finished-requires
-    returns-3)
+plan-disk-spec = tie.close (tie.spec plan-fault-requires no-steps-requires returns our-plan-requires finished-requires returns-2)

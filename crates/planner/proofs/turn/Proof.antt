@@ -4,17 +4,17 @@ use borrow.Author.Needs.{needs}
 use Rattle.planner.proofs.turn.Statement.{statement}
 use Rattle.planner.proofs.turn.Tie as tie
 
-array-read-if1 : tie.Need-array-read-if1
-array-read-if1 c = search needs
+element-copy-out-if1 : tie.Need-element-copy-out-if1
+element-copy-out-if1 c = search needs
 
 decide-requires : tie.Need-decide-requires
 decide-requires c κs = search needs
 
 returns : tie.Need-returns
-returns c = let a = c .before .before .before .args in turn-decides (a .width) (a .disk) (a .row) (a .r .routes) (c .decide .result) (c .before .before .before .pre .2) (c .before .if1 .taken) (c .decide .ensures)
+returns c = let t = c .before .before in let s = t .before .before in let a = s .args in turn-decides (a .width) (a .disk) (a .row) (a .routes .now) _ (c .decide .result) (s .pre .2) (t .if1 .taken) (c .decide .ensures)
 
 returns-2 : tie.Need-returns-2
-returns-2 c = let a = c .before .before .args in turn-skips (a .width) (a .disk) (a .row) (a .r) (c .before .before .pre .2) (c .before .before .pre .3) (c .if1 .left)
+returns-2 c = let s = c .before .before in let a = s .args in turn-skips (a .width) (a .disk) (a .row) (a .routes .now) (a .word) (s .pre .2) (s .pre .3) (s .pre .4) (c .if1 .left)
 
 pub turn-spec : {M : Type 1} → statement M
-turn-spec = tie.close (tie.spec array-read-if1 decide-requires returns returns-2)
+turn-spec = tie.close (tie.spec element-copy-out-if1 decide-requires returns returns-2)

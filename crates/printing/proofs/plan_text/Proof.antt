@@ -4,8 +4,10 @@ use mathlib.Core.Bool.{true}
 use native.Mathlib.Omega.{arith}
 use borrow.Author.Tests.{not-true, not-false}
 use borrow.Author.Needs.{needs}
+use Rattle.liberation.proofs.FaultLaws.{plan-of}
+use Rattle.planner.proofs.PlanLaws.{held-as, planned-is}
 use Rattle.printing.specs.Text.{isForm}
-use Rattle.printing.proofs.HoldsLaws.{fault-zero, fault-small, says-no-form, says-refusal, says-plan}
+use Rattle.printing.proofs.HoldsLaws.{fault-small, says-no-form, says-refusal, says-plan}
 use Rattle.printing.proofs.plan_text.Tie as tie
 use Rattle.printing.proofs.plan_text.Statement.{statement}
 
@@ -47,16 +49,21 @@ returns-2 c =
 
 steps-text-requires : tie.Need-steps-text-requires
 steps-text-requires c κs =
-    let d = c .before .before .plan-disk .ensures in
-    let w = fault-zero (c .before .before .before .before .before .before .first-value .result) (c .before .before .before .before .before .second-value .result) (sym (d .number) ∙ c .if2 .left) in
-    (w .0, w .1, d)
+    let e = c .before in
+    let d = e .before .before .plan-disk .ensures in
+    let p = e .before .before .before .before .before .before .first-value .result in
+    let f = e .before .before .before .before .before .second-value .result in
+    let z = sym (d .number) ∙ e .if2 .left in
+    let w = plan-of p p f z in
+    (w .0, w .1, held-as _ _ _ (planned-is p f z) (d .steps))
 
 returns-3 : tie.Need-returns-3
 returns-3 c =
-    let f = c .before .before .before .before .before .before .before .first-value in
-    let s = c .before .before .before .before .before .before .second-value in
-    says-plan (c .before .before .before .before .before .before .before .before .before .args .input .now) (f .result) (s .result) (formed (c .before .before .before .before)) (f .ensures) (s .ensures)
-    (sym (c .before .before .before .plan-disk .ensures .number) ∙ c .before .if2 .left) (c .steps-text .ensures)
+    let e = c .before .before in
+    let f = e .before .before .before .before .before .before .first-value in
+    let s = e .before .before .before .before .before .second-value in
+    says-plan (e .before .before .before .before .before .before .before .before .args .input .now) (f .result) (s .result) (formed (e .before .before .before)) (f .ensures) (s .ensures)
+    (sym (e .before .before .plan-disk .ensures .number) ∙ e .if2 .left) (c .steps-text .ensures)
 
 pub plan-text-spec : {M : Type 1} → statement M
 plan-text-spec =

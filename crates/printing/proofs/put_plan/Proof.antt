@@ -7,7 +7,7 @@ use lib.ListN.{length, take}
 use lib.Seq.{length-take-le}
 use borrow.Author.Needs.{needs}
 use Rattle.liberation.proofs.Widths.{width-most}
-use Rattle.sets.proofs.MarkLaws.{length-marks, take-marks, cells-most}
+use Rattle.liberation.proofs.MarkLists.{length-marks, take-marks, cells-most}
 use Rattle.printing.specs.Text.{planText}
 use Rattle.printing.proofs.WriteLaws.{wrote-more, wrote-long}
 use Rattle.printing.proofs.put_plan.Tie as tie

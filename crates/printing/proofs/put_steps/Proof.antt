@@ -7,8 +7,8 @@ use lib.ListN.{length, getD}
 use borrow.Author.Needs.{needs}
 use Rattle.liberation.specs.Plans.{planOf}
 use Rattle.liberation.proofs.Widths.{width-most}
-use Rattle.sets.proofs.MarkLaws.{length-marks}
-use Rattle.planner.proofs.ReadingLaws.{plan-length}
+use Rattle.liberation.proofs.MarkLists.{length-marks}
+use Rattle.liberation.proofs.RecordLaws.{plan-length}
 use Rattle.printing.proofs.WriteLaws.{wrote-long}
 use Rattle.printing.proofs.LineLaws.{PlanStep, plan-step, new-few, Printing, printing-start, printing-turn, printing-end}
 use Rattle.printing.proofs.put_steps.Tie as tie
@@ -24,10 +24,10 @@ small : (c : tie.In-loop Inv-loop μ-loop) → c .before .before .before .before
 small c = width-most _ (c .before .before .before .before .before .before .before .pre .0)
 
 -- the step of this turn, and where the record has it
-this : (c : tie.In-loop Inv-loop μ-loop) → let a = c .before .before .before .before .before .before .before .args in PlanStep (a .width) (a .disk) (c .before .loop .i) (a .plan)
+this : (c : tie.In-loop Inv-loop μ-loop) → let a = c .before .before .before .before .before .before .before .args in PlanStep (a .width) (a .disk) (c .before .loop .i) (a .steps)
 this c =
     let q = c .before .before .before .before .before .before .before in
-    plan-step (q .args .width) (q .args .disk) (c .before .loop .i) (q .args .plan) (q .pre .0) (q .pre .1) (q .pre .2) (c .loop-test .taken)
+    plan-step (q .args .width) (q .args .disk) (c .before .loop .i) (q .args .steps) (q .pre .0) (q .pre .1) (q .pre .2) (c .loop-test .taken)
 
 -- marks are as many as cells
 marked : (c : tie.At-loop Inv-loop μ-loop) → let a = c .before .before .before .before .before .before .args in (length (c .loop .marks) ≡ a .width * (a .width + 2)) × (length (a .marks .now) ≡ a .width * (a .width + 2))
@@ -74,7 +74,7 @@ put-line-requires c κs =
       omega (arith, small t),
       omega (arith, this t .row, this t .row-below, small t),
       omega (arith, this t .number, this t .number-below, small t),
-      omega (arith, small t, new-few (q .args .width) (q .args .disk) (getD (q .args .plan .kinds) (l .i) 0) (getD (q .args .plan .sets) (l .i) 0) (m .ensures)),
+      omega (arith, small t, new-few (q .args .width) (q .args .disk) (getD (q .args .steps .kinds) (l .i) 0) (getD (q .args .steps .numbers) (l .i) 0) (m .ensures)),
       omega (arith, l .inv .wrote .ends, l .inv .few, wrote-long (l .inv .wrote), q .pre .4),
     )
 

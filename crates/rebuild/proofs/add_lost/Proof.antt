@@ -5,7 +5,7 @@ use native.Mathlib.Omega.{arith}
 use lib.ListN.{length}
 use borrow.Author.Needs.{needs}
 use Rattle.liberation.specs.Sets.{setOf}
-use Rattle.sets.proofs.RowLaws.{first-row, row-below, row-on}
+use Rattle.liberation.proofs.DiagonalRows.{first-row, row-below, row-on}
 use Rattle.xor.proofs.SourceLaws.{bytes-all}
 use Rattle.rebuild.proofs.AddLaws.{Adding, adding-start, adding-turn, adding-end}
 use Rattle.rebuild.proofs.add_lost.Statement.{statement}

@@ -7,7 +7,7 @@ use lib.ListN.{getD}
 use borrow.Author.Needs.{needs}
 use Rattle.liberation.specs.Plans.{planOf}
 use Rattle.liberation.proofs.Widths.{width-most}
-use Rattle.planner.proofs.ReadingLaws.{StepAt, step-at, plan-length, plan-number}
+use Rattle.liberation.proofs.RecordLaws.{StepAt, step-at, plan-length, plan-number}
 use Rattle.xor.proofs.SourceLaws.{bytes-all}
 use Rattle.rebuild.proofs.FollowLaws.{Stepping, stepping-start, stepping-turn, stepping-end, plan-passed}
 use Rattle.rebuild.proofs.follow.Statement.{statement}
@@ -35,8 +35,8 @@ row c = ap (λ (x : List ℕ). getD x (c .before .loop .i) 0) (c .before .before
 kind : (c : tie.In-loop Inv-loop μ-loop) → getD (c .before .before .before .before .before .before .before .args .steps .kinds) (c .before .loop .i) 0 ≡ this c .this .kind
 kind c = ap (λ (x : List ℕ). getD x (c .before .loop .i) 0) (c .before .before .before .before .before .before .before .pre .0 .0 .held .kinds) ∙ this c .held (λ s. s .kind)
 
-number : (c : tie.In-loop Inv-loop μ-loop) → getD (c .before .before .before .before .before .before .before .args .steps .sets) (c .before .loop .i) 0 ≡ this c .this .number
-number c = ap (λ (x : List ℕ). getD x (c .before .loop .i) 0) (c .before .before .before .before .before .before .before .pre .0 .0 .held .sets) ∙ this c .held (λ s. s .number)
+number : (c : tie.In-loop Inv-loop μ-loop) → getD (c .before .before .before .before .before .before .before .args .steps .numbers) (c .before .loop .i) 0 ≡ this c .this .number
+number c = ap (λ (x : List ℕ). getD x (c .before .loop .i) 0) (c .before .before .before .before .before .before .before .pre .0 .0 .held .numbers) ∙ this c .held (λ s. s .number)
 
 loop-holds : tie.Need-loop-holds Inv-loop μ-loop
 loop-holds c = stepping-start _ _ _ _ _ (c .before .before .before .before .before .pre .1 .1)

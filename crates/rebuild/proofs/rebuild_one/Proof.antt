@@ -1,7 +1,8 @@
 -- `rebuild_one`: a refusal leaves the column as it was; else our plan is made and followed.
 use mathlib.Core.Path.{_≡_, sym, _∙_}
-use native.Mathlib.Omega.{arith}
 use lib.ListN.{length}
+use Rattle.liberation.proofs.FaultLaws.{plan-none}
+use Rattle.planner.proofs.PlanLaws.{held-as, planned-is}
 use Rattle.rebuild.specs.Says.{oneFault}
 use Rattle.rebuild.proofs.SaysLaws.{Fit, fault-none, refused, accepted}
 use borrow.Author.Needs.{needs}
@@ -29,13 +30,16 @@ returns c =
     let a = i .before .before .before .before .args in
     refused (a .width) (a .size) (a .disk) (f .result) (a .stripe .now) (a .column .now) (c .answered .result) (f .ensures) (i .if1 .taken) (c .answered .ensures)
 
-our-plan-requires : tie.Need-our-plan-requires
-our-plan-requires c κs = (fit c .width, omega (arith, fit c .disk))
+plan-steps-requires : tie.Need-plan-steps-requires
+plan-steps-requires c κs = search needs
 
 follow-requires : tie.Need-follow-requires
 follow-requires c κs =
-    let q = fit (c .before .before .before) in
-    ((record { width = q .width; disk = q .disk; held = c .before .before .our-plan .ensures .steps }, q .small), (q .stripe, q .column))
+    let e = c .before .before .before in
+    let a = e .before .before .before .before .args in
+    let q = fit e in
+    let planned = planned-is (a .width) (a .disk) (plan-none (a .width) (a .width) (a .disk) (q .width) (q .disk)) in
+    ((record { width = q .width; disk = q .disk; held = held-as _ _ _ planned (c .before .before .plan-steps .ensures .steps) }, q .small), (q .stripe, q .column))
 
 answered-requires-2 : tie.Need-answered-requires-2
 answered-requires-2 c κs = search needs
@@ -51,4 +55,4 @@ returns-2 c =
     accepted (a .width) (a .size) (a .disk) (a .stripe .now) (a .column .now) (g .follow .last .1 .1 .1 .1 .1 .0) (c .answered2 .result) (passed i) (g .follow .ensures) (c .answered2 .ensures)
 
 pub rebuild-one-spec : {M : Type 1} → statement M
-rebuild-one-spec = tie.close (tie.spec one-fault-requires answered-requires returns our-plan-requires follow-requires answered-requires-2 same-length returns-2)
+rebuild-one-spec = tie.close (tie.spec one-fault-requires answered-requires returns plan-steps-requires follow-requires answered-requires-2 same-length returns-2)

@@ -32,7 +32,7 @@ small c = omega arith
 mul-t7 : tie.Need-mul-t7
 mul-t7 c =
     let i = c .before .before .before in
-    record { fits = product-fits (i .before .before .before .args .run .next) (i .plan-disk .result .reads) (small c) (omega (arith, c .struct-known3 .given .1 .1 .1 .1 .1 .1 .0)) }
+    record { fits = product-fits (i .before .before .before .args .run .next) (i .plan-disk .result .reads) (small c) (omega (arith, c .struct-known3 .given .1 .1 .1 .1 .0)) }
 
 returns-2 : tie.Need-returns-2
 returns-2 c =

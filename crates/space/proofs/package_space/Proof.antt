@@ -1,106 +1,69 @@
--- `package_space`: refusals 1, 2 and 11 in this order, else the three numbers, none of which wraps.
-use mathlib.Core.Path.{_≡_, refl, sym, _∙_}
-use mathlib.Core.Bool.{true}
-use mathlib.Core.Logic.{⊎-elim}
+-- `package_space`: a refusal, else the three numbers, none of which wraps.
+use mathlib.Core.Path.{_≡_, sym, _∙_}
+use Prim.Native.Nat.{_^_, _≤_}
 use native.Mathlib.Omega.{arith}
-use borrow.Author.Tests.{not-true, not-false, ltb-true, ltb-false}
-use Rattle.liberation.specs.Sets.{isWidth, sizeFault}
-use Rattle.liberation.proofs.Widths.{width-least, width-most}
-use Rattle.liberation.proofs.FaultLaws.{size-none, size-over, size-accepted}
-use Rattle.space.proofs.SpaceLaws.{Bounds, bounds, fault-width, fault-size, fault-long, fault-none, refusal-says, space-says}
+use Rattle.space.specs.Says.{spaceFault}
+use Rattle.space.proofs.SpaceLaws.{Bounds, fault-of, small, refusal-says, space-says}
 use borrow.Author.Needs.{needs}
 use Rattle.space.proofs.package_space.Statement.{statement}
 use Rattle.space.proofs.package_space.Tie as tie
 
--- past the first test the width is one of the ten
-wide : (c : tie.Else1) → isWidth (c .before .before .args .width) ≡ true
-wide c = sym (c .before .is-width .ensures) ∙ not-false (c .before .is-width .result) (c .if1 .left)
+-- past the refusals
+none : (c : tie.Else1) → let a = c .before .before .args in spaceFault (a .width) (a .size) (a .bytes) ≡ 0
+none c = sym (c .before .space-fault .ensures) ∙ c .if1 .left
 
--- past the second the size is accepted
-sized : (c : tie.Else3) → sizeFault (c .before .before .before .before .args .size) ≡ 0
-sized c =
-    let a = c .before .before .before .before .args in
-    size-accepted (a .size) (omega arith) (omega (arith, ltb-false))
+-- so the numbers are small
+bound : (c : tie.Else1) → let a = c .before .before .args in Bounds (a .width) (a .width) (a .size) (a .bytes)
+bound c = let a = c .before .before .args in small (a .width) (a .size) (a .bytes) (none c)
 
--- past all of them the numbers are small
-small : (c : tie.Else4) → let a = c .before .before .before .before .before .args in Bounds (a .width) (a .width) (a .size) (a .bytes)
-small c =
-    let a = c .before .before .before .before .before .args in
-    let w = wide (c .before .before .before) in
-    let l = width-least (a .width) w in
-    let m = width-most (a .width) w in
-    bounds (a .width) (a .width) (a .size) (a .bytes) (omega arith) m (omega arith) m (omega arith) (omega (arith, ltb-false)) (omega arith)
+-- and the package is at most 2^48 bytes
+most : (c : tie.Else1) → c .before .before .args .bytes ≤ 2 ^ 48
+most c = let a = c .before .before .args in fault-of (a .width) (a .size) (a .bytes) (none c) .3
 
-is-width-requires : tie.Need-is-width-requires
-is-width-requires c κs = search needs
+space-fault-requires : tie.Need-space-fault-requires
+space-fault-requires c κs = search needs
 
 refused-space-requires : tie.Need-refused-space-requires
 refused-space-requires c κs = search needs
 
 returns : tie.Need-returns
 returns c =
-    let w = c .before .before in
-    let a = w .before .args in
-    refusal-says (a .width) (a .size) (a .bytes) (a .free) 1 (c .refused-space .result) refl (fault-width (a .width) (a .size) (a .bytes) (sym (w .is-width .ensures) ∙ not-true (w .is-width .result) (c .before .if1 .taken))) (c .refused-space .ensures)
-
-refused-space-requires-2 : tie.Need-refused-space-requires-2
-refused-space-requires-2 c κs = search needs
-
-returns-2 : tie.Need-returns-2
-returns-2 c =
-    let e = c .before .before in
-    let a = e .before .before .args in
-    let f : sizeFault (a .size) ≡ 2 = ⊎-elim (λ t. size-none (a .size) (omega arith)) (λ t. size-over (a .size) (omega (arith, ltb-true))) (c .before .if2 .came) in
-    refusal-says (a .width) (a .size) (a .bytes) (a .free) 2 (c .refused-space2 .result) refl (fault-size (a .width) (a .size) (a .bytes) (wide e) f) (c .refused-space2 .ensures)
-
-refused-space-requires-3 : tie.Need-refused-space-requires-3
-refused-space-requires-3 c κs = search needs
-
-returns-3 : tie.Need-returns-3
-returns-3 c =
-    let e = c .before .before in
-    let a = e .before .before .before .before .args in
-    refusal-says (a .width) (a .size) (a .bytes) (a .free) 11 (c .refused-space3 .result) refl (fault-long (a .width) (a .size) (a .bytes) (wide (e .before .before)) (sized e) (omega arith)) (c .refused-space3 .ensures)
+    let q = c .before .before in
+    let a = q .before .args in
+    refusal-says (a .width) (a .size) (a .bytes) (a .free) (q .space-fault .result) (c .refused-space .result) (q .space-fault .ensures) (c .before .if1 .taken) (c .refused-space .ensures)
 
 mul-gives : tie.Need-mul-gives
-mul-gives c = omega (arith, small c)
+mul-gives c = omega (arith, bound c)
 
 mul-holds : tie.Need-mul-holds
-mul-holds c = omega (arith, small c)
+mul-holds c = omega (arith, bound c)
 
 sub-stripes : tie.Need-sub-stripes
-sub-stripes c = omega (arith, small c)
+sub-stripes c = omega (arith, bound c)
 
 add-stripes : tie.Need-add-stripes
-add-stripes c = omega (arith, small c)
+add-stripes c = omega (arith, bound c, most c)
 
 div-stripes : tie.Need-div-stripes
-div-stripes c = omega (arith, small c)
+div-stripes c = omega (arith, bound c)
 
 mul-need : tie.Need-mul-need
-mul-need c = omega (arith, small c)
+mul-need c = omega (arith, bound c)
 
-returns-4 : tie.Need-returns-4
-returns-4 c =
-    let e = c .before in
-    let a = e .before .before .before .before .args in
-    space-says (a .width) (a .size) (a .bytes) (a .free) (fault-none (a .width) (a .size) (a .bytes) (wide (e .before .before)) (sized e) (omega arith))
+returns-2 : tie.Need-returns-2
+returns-2 c = let a = c .before .before .args in space-says (a .width) (a .size) (a .bytes) (a .free) (none c)
 
 pub package-space-spec : {M : Type 1} → statement M
 package-space-spec =
     tie.close
     (tie.spec
-    is-width-requires
+    space-fault-requires
     refused-space-requires
     returns
-    refused-space-requires-2
-    returns-2
-    refused-space-requires-3
-    returns-3
     mul-gives
     mul-holds
     sub-stripes
     add-stripes
     div-stripes
     mul-need
-    returns-4)
+    returns-2)

@@ -9,7 +9,7 @@ use borrow.Author.Needs.{needs}
 use borrow.Author.Tests.{eq-eqb, ne-eqb}
 use Rattle.liberation.specs.Sets.{setOf}
 use Rattle.parity.specs.Stripes.{without}
-use Rattle.sets.proofs.RowLaws.{first-row, row-below, row-on}
+use Rattle.liberation.proofs.DiagonalRows.{first-row, row-below, row-on}
 use Rattle.stripes.proofs.CollectLaws.{Collected, collected-start, collected-turn, collected-end, cells-few, cell-small}
 use Rattle.stripes.proofs.SourceLaws.{others-kept}
 use Rattle.stripes.proofs.other_cells.Statement.{statement}

@@ -4,7 +4,7 @@ use Prim.Native.Nat.{_+_, _*_}
 use native.Mathlib.Omega.{arith}
 use lib.ListN.{length}
 use borrow.Author.Needs.{needs}
-use Rattle.sets.proofs.MarkLaws.{cells-most}
+use Rattle.liberation.proofs.MarkLists.{cells-most}
 use Rattle.stripes.proofs.SourceLaws.{others-inside, others-clean}
 use Rattle.stripes.proofs.set_is_clean.Statement.{statement}
 use Rattle.stripes.proofs.set_is_clean.Tie as tie

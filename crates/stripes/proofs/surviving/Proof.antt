@@ -10,7 +10,7 @@ use borrow.Author.Needs.{needs}
 use borrow.Author.Tests.{not-true, not-false}
 use Rattle.liberation.specs.Sets.{diskAt, setOf}
 use Rattle.stripes.specs.Cells.{survivors}
-use Rattle.sets.proofs.RowLaws.{first-row, row-below, row-on}
+use Rattle.liberation.proofs.DiagonalRows.{first-row, row-below, row-on}
 use Rattle.stripes.proofs.CollectLaws.{Collected, collected-start, collected-turn, collected-end, cells-few, cell-small}
 use Rattle.stripes.proofs.SurvivorLaws.{survivors-kept}
 use Rattle.stripes.proofs.surviving.Statement.{statement}

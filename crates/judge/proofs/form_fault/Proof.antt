@@ -1,0 +1,44 @@
+-- `form_fault`: refusals 1 and 3, then 5.
+use mathlib.Core.Path.{_≡_, sym, ap₂, _∙_}
+use mathlib.Core.Bool.{Bool, not}
+use Prim.Native.Nat.{ℕ, _*_}
+use native.Mathlib.Omega.{arith}
+use lib.Dec.{eqb}
+use borrow.Author.Tests.{eq-eqb, ne-eqb}
+use borrow.Author.Needs.{needs}
+use Rattle.laws.specs.Choice.{when, firstOf}
+use Rattle.laws.proofs.ChoiceLaws.{first-kept}
+use Rattle.liberation.specs.Sets.{planFault}
+use Rattle.liberation.proofs.Widths.{width-most}
+use Rattle.liberation.proofs.FaultLaws.{plan-of}
+use Rattle.judge.proofs.form_fault.Statement.{statement}
+use Rattle.judge.proofs.form_fault.Tie as tie
+
+-- past refusals 1 and 3
+none : (c : tie.Else1) → let a = c .before .before .args in planFault (a .width) (a .width) (a .disk) ≡ 0
+none c = sym (c .before .plan-fault .ensures) ∙ c .if1 .left
+
+plan-fault-requires : tie.Need-plan-fault-requires
+plan-fault-requires c κs = search needs
+
+returns : tie.Need-returns
+returns c =
+    let q = c .before in
+    let a = q .before .args in
+    first-kept _ _ (when (not (eqb (a .long) (3 * a .width))) 5) (q .plan-fault .ensures) (c .if1 .taken)
+
+mul-if2 : tie.Need-mul-if2
+mul-if2 c = let a = c .before .before .args in omega (arith, width-most (a .width) (plan-of (a .width) (a .width) (a .disk) (none c) .0))
+
+returns-2 : tie.Need-returns-2
+returns-2 c =
+    let a = c .before .before .before .args in
+    sym (ap₂ (λ (n : ℕ) (b : Bool). firstOf n (when (not b) 5)) (none (c .before)) (ne-eqb (a .long) (3 * a .width) (c .if2 .taken)))
+
+returns-3 : tie.Need-returns-3
+returns-3 c =
+    let a = c .before .before .before .args in
+    sym (ap₂ (λ (n : ℕ) (b : Bool). firstOf n (when (not b) 5)) (none (c .before)) (eq-eqb (a .long) (3 * a .width) (c .if2 .left)))
+
+pub form-fault-spec : {M : Type 1} → statement M
+form-fault-spec = tie.close (tie.spec plan-fault-requires returns mul-if2 returns-2 returns-3)
