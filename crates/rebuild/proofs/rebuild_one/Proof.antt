@@ -1,7 +1,10 @@
 -- `rebuild_one`: a refusal leaves the column as it was; else our plan is made and followed.
 use mathlib.Core.Path.{_≡_, sym, _∙_}
+use mathlib.Core.Bool.{true}
 use native.Mathlib.Omega.{arith}
 use lib.ListN.{length}
+use Rattle.laws.specs.Xor.{allBytes}
+use Rattle.xor.proofs.SourceLaws.{bytes-all}
 use Rattle.rebuild.specs.Says.{oneFault}
 use Rattle.rebuild.proofs.SaysLaws.{Fit, fault-none, refused, accepted}
 use borrow.Author.Needs.{needs}
@@ -16,6 +19,10 @@ passed c = sym (c .before .one-fault .ensures) ∙ c .if1 .left
 fit : (c : tie.Else1) → let a = c .before .before .before .before .args in Fit (a .width) (a .size) (a .disk) (length (a .stripe .now)) (length (a .column .now))
 fit c = let a = c .before .before .before .before .args in fault-none (a .width) (a .size) (a .disk) (length (a .stripe .now)) (length (a .column .now)) (passed c)
 
+-- the lent stripe is bytes
+bytes : (c : tie.After-shared-slice-known) → allBytes (c .before .args .stripe .now) ≡ true
+bytes c = bytes-all (c .before .args .stripe .now) (c .shared-slice-known .given)
+
 one-fault-requires : tie.Need-one-fault-requires
 one-fault-requires c κs = search needs
 
@@ -27,7 +34,7 @@ returns c =
     let i = c .before in
     let f = i .before .one-fault in
     let a = i .before .before .before .before .args in
-    refused (a .width) (a .size) (a .disk) (f .result) (a .stripe .now) (a .column .now) (c .answered .result) (f .ensures) (i .if1 .taken) (c .answered .ensures)
+    refused (a .width) (a .size) (a .disk) (f .result) (a .stripe .now) (a .column .now) (c .answered .result) (f .ensures) (i .if1 .taken) (c .answered .ensures) (bytes (i .before .before .before))
 
 our-plan-requires : tie.Need-our-plan-requires
 our-plan-requires c κs = (fit c .width, omega (arith, fit c .disk))
@@ -48,7 +55,7 @@ returns-2 c =
     let g = c .before .before .before in
     let i = g .before .before .before .before in
     let a = i .before .before .before .before .args in
-    accepted (a .width) (a .size) (a .disk) (a .stripe .now) (a .column .now) (g .follow .last .1 .1 .1 .1 .1 .0) (c .answered2 .result) (passed i) (g .follow .ensures) (c .answered2 .ensures)
+    accepted (a .width) (a .size) (a .disk) (a .stripe .now) (a .column .now) (g .follow .last .1 .1 .1 .1 .1 .0) (c .answered2 .result) (passed i) (g .follow .ensures) (c .answered2 .ensures) (bytes (i .before .before .before))
 
 pub rebuild-one-spec : {M : Type 1} → statement M
 rebuild-one-spec = tie.close (tie.spec one-fault-requires answered-requires returns our-plan-requires follow-requires answered-requires-2 same-length returns-2)
