@@ -30,7 +30,7 @@ pub record Compared (p f : ℕ) (bs : List ℕ) (r : Plan) (j : Judged) : Type 0
   pub equally : eqb (j .reads) (r .reads) ≡ isBest p p f (stepsIn p bs)
 
 -- the planner's count is the read count of our plan
-our-reads : (p f : ℕ) (r : Plan) → PlanSays p f r → r .number ≡ 0 → r .reads ≡ readCount p p f (planOf p p f)
+pub our-reads : (p f : ℕ) (r : Plan) → PlanSays p f r → r .number ≡ 0 → r .reads ≡ readCount p p f (planOf p p f)
 our-reads p f r k z = let m = plan-means p f r k z in m .count ∙ ap (readCount p p f) (m .steps)
 
 pub compared : (p f : ℕ) (bs : List ℕ) (r : Plan) (j : Judged) → f < p → PlanSays p f r → JudgeSays p f bs j → j .number ≡ 0 → Compared p f bs r j

@@ -13,8 +13,8 @@ use Rattle.runs.specs.declared.Run.{Run}
 use Rattle.runs.specs.declared.RunAnswer.{RunAnswer}
 use Rattle.runs.specs.declared.Progress.{Progress}
 use Rattle.runs.specs.Runs.{opened, noRun, isOver, cellsSoFar, runFault, moved, runColumn, OpenSays, ProgressSays}
-use Rattle.runs.specs.Claims.{Call, Left, isAccepted, steps, acceptedIn, written, inOrder, rebuiltEach, Made, none-made, step-made, lastRun, columnsOf, RunDone, RunMade, RunRead, Calls-right, Progress-right}
-use Rattle.runs.proofs.RunLaws.{steps-ahead, runs-right}
+use Rattle.runs.specs.Claims.{Call, Left, isAccepted, steps, acceptedIn, written, inOrder, rebuiltEach, Made, none-made, step-made, lastRun, columnsOf, RunDone, RunMade, RunRead, Calls-right, Calls-go, Progress-right}
+use Rattle.runs.proofs.RunLaws.{steps-ahead, runs-right, runs-go}
 
 -- the record after the calls is that after the steps
 made-run : (x : Run) (cs : List Call) (ls : List Left) → Made x cs ls → lastRun x ls ≡ steps x cs
@@ -82,6 +82,9 @@ module _ (p s f n : ℕ) (r : RunAnswer) (cs : List Call) (ls : List Left) (o : 
 
 pub calls-right : Calls-right
 calls-right p s f n r cs ls o z m = made p s f n r cs ls o z m
+
+pub calls-go : Calls-go
+calls-go p s f n r cs ls o z m order lengths few = long p s f n r cs ls o z m ∙ ap length (runs-go p s f n cs (fine p s f n r cs ls o z m) order lengths few)
 
 pub progress-right : Progress-right
 progress-right p s f n r cs ls g o z m k = read p s f n r cs ls o z m g k

@@ -109,3 +109,7 @@ pub record RunRead (p f n : ℕ) (ls : List Left) (g : Progress) : Type 0 where
 
 abbrev pub Progress-right : Type 0
 Progress-right = (p s f n : ℕ) (r : RunAnswer) (cs : List Call) (ls : List Left) (g : Progress) → OpenSays p s f n r → r .answer .number ≡ 0 → Made (r .run) cs ls → ProgressSays (lastRun (r .run) ls) g → RunRead p f n ls g
+
+-- Steps in order on slices of the lengths required, no more than n of them, are all accepted.
+abbrev pub Calls-go : Type 0
+Calls-go = (p s f n : ℕ) (r : RunAnswer) (cs : List Call) (ls : List Left) → OpenSays p s f n r → r .answer .number ≡ 0 → Made (r .run) cs ls → inOrder 0 cs ≡ true → allLong p s cs ≡ true → length cs ≤ n → length (columnsOf ls) ≡ length cs
