@@ -1,18 +1,17 @@
 -- Demand 2, and the last sentence of demand 3, said of the calls that encode, check and rebuild one disk: whatever they return, as long as they keep their promises.
 -- t, u are lent stripes, o a column as it was lent, o′ as it is given back. That their lengths are those required and that stripes are bytes comes with the answers.
 use mathlib.Core.Path.{_≡_, sym, ap, _∙_}
-use mathlib.Core.Bool.{true, _&&_, not}
+use mathlib.Core.Bool.{true, _&&_}
 use mathlib.Core.List.{List}
 use Prim.Native.Nat.{ℕ, _+_, _*_, _<_}
 use native.Mathlib.Omega.{arith}
 use lib.Dec.{eqb}
 use lib.ListN.{length, getD}
-use borrow.Author.Tests.{eqb-true, eq-eqb, not-false}
-use Rattle.laws.specs.Choice.{pick, firstOf}
+use borrow.Author.Tests.{eq-eqb}
+use Rattle.laws.specs.Choice.{pick}
 use Rattle.laws.specs.Xor.{allBytes}
-use Rattle.laws.proofs.ChoiceLaws.{first-none, when-none}
 use Rattle.laws.proofs.Flags.{and-i}
-use Rattle.liberation.specs.Sets.{diskAt, widthFault, sizeFault, longFault}
+use Rattle.liberation.specs.Sets.{diskAt}
 use Rattle.liberation.specs.Plans.{readList}
 use Rattle.liberation.proofs.Demand3.{plan-accepted}
 use Rattle.parity.specs.Stripes.{cellAt, columnOf, stripeLong, isStripe, clean, encoded, rebuilt}
@@ -22,21 +21,12 @@ use Rattle.sets.specs.declared.Answer.{Answer}
 use Rattle.planner.specs.Says.{ListSays}
 use Rattle.stripes.specs.declared.Checked.{Checked}
 use Rattle.stripes.specs.Says.{stripeFault, EncodeSays, CheckSays}
+use Rattle.stripes.proofs.FaultLaws.{fault-none as within-limits}
 use Rattle.rebuild.specs.Says.{OneSays}
 use Rattle.rebuild.proofs.SaysLaws.{Fit, fault-none}
 
--- what an accepted call on a stripe shows of its arguments
-is-long : (n : ℕ) (t : List ℕ) → longFault n t ≡ 0 → length t ≡ n
-is-long n t e = eqb-true (length t) n (not-false (eqb (length t) n) (when-none (not (eqb (length t) n)) 4 e))
-
 pub is-stripe : (p s : ℕ) (t : List ℕ) → length t ≡ stripeLong p p s → allBytes t ≡ true → isStripe p p s t ≡ true
 is-stripe p s t e b = and-i (eqb (length t) (stripeLong p p s)) (allBytes t) (eq-eqb (length t) (stripeLong p p s) e) b
-
-stripe-length : (p s : ℕ) (t : List ℕ) → stripeFault p s t ≡ 0 → length t ≡ stripeLong p p s
-stripe-length p s t e =
-    let a = first-none (widthFault p) (firstOf (sizeFault s) (longFault (stripeLong p p s) t)) e in
-    let b = first-none (sizeFault s) (longFault (stripeLong p p s) t) (a .1) in
-    is-long (stripeLong p p s) t (b .1)
 
 -- An accepted encoding of t leaves t′.
 pub record Encodes (p s : ℕ) (t t′ : List ℕ) : Type 0 where
@@ -52,7 +42,7 @@ pub encodes : (p s : ℕ) (t t′ : List ℕ) (r : Answer) → EncodeSays p s t 
 encodes p s t t′ r k z =
     let e : stripeFault p s t ≡ 0 = sym (k .number) ∙ z in
     let done : t′ ≡ encoded p p s t = k .stripe ∙ ap (λ (n : ℕ). pick (eqb n 0) (encoded p p s t) t) e in
-    let ok : isStripe p p s t ≡ true = is-stripe p s t (stripe-length p s t e) (k .bytes) in
+    let ok : isStripe p p s t ≡ true = is-stripe p s t (within-limits p s t e .long) (k .bytes) in
     record {
       stripe = ap (isStripe p p s) done ∙ encoded-stripe p p s t ok;
       is-clean = ap (clean p p s) done ∙ encoded-clean p p s t ok;
