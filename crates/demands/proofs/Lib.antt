@@ -2,3 +2,4 @@
 pub mod Plans
 pub mod Stripes
 pub mod Pairs
+pub mod Runs

@@ -6,11 +6,10 @@ use Prim.Native.Nat.{ℕ, _+_, _*_, _≤_, _<_}
 use native.Mathlib.Omega.{arith}
 use lib.Dec.{eqb}
 use Rattle.laws.specs.Choice.{pick}
-use Rattle.laws.specs.Xor.{allBytes}
 use Rattle.liberation.specs.Sets.{diskAt}
 use Rattle.parity.specs.Stripes.{cellAt, isStripe, clean}
 use Rattle.pairs.specs.Pairs.{pairSolved}
-use Rattle.pairs.proofs.PairLaws.{pair-off, pair-clean, pair-back}
+use Rattle.pairs.proofs.PairLaws.{pair-stripe, pair-off, pair-clean, pair-back}
 use Rattle.sets.specs.declared.Answer.{Answer}
 use Rattle.repair.specs.Says.{twoFault, TwoSays}
 use Rattle.repair.proofs.RefusalLaws.{fault-none}
@@ -18,22 +17,25 @@ use Rattle.demands.proofs.Stripes.{is-stripe}
 
 -- An accepted rebuild of the disks a and b of t leaves t′.
 pub record Restored (p s a b : ℕ) (t t′ : List ℕ) : Type 0 where
+  -- a stripe still, in length and bytes
+  pub stripe : isStripe p p s t′ ≡ true
   pub is-clean : clean p p s t′ ≡ true
   -- the rest is untouched
   pub kept : (x : ℕ) → (diskAt p x ≡ a → ⊥) → (diskAt p x ≡ b → ⊥) → cellAt s t′ x ≡ cellAt s t x
   -- no other clean stripe has the other disks' contents: survivors of a clean stripe u bring u back, whatever the lost columns held
   pub only : (u : List ℕ) → isStripe p p s u ≡ true → clean p p s u ≡ true → ((x : ℕ) → x < p * (p + 2) → (diskAt p x ≡ a → ⊥) → (diskAt p x ≡ b → ⊥) → cellAt s t x ≡ cellAt s u x) → t′ ≡ u
 
-pub restores : (p s a b : ℕ) (t t′ : List ℕ) (r : Answer) → allBytes t ≡ true → TwoSays p s a b t t′ r → r .number ≡ 0 → Restored p s a b t t′
-restores p s a b t t′ r bytes k z =
+pub restores : (p s a b : ℕ) (t t′ : List ℕ) (r : Answer) → TwoSays p s a b t t′ r → r .number ≡ 0 → Restored p s a b t t′
+restores p s a b t t′ r k z =
     let e : twoFault p s a b t ≡ 0 = sym (k .number) ∙ z in
     let c = fault-none p s a b t e in
     let m : p ≤ p = omega arith in
     let ha : a < p + 2 = omega (arith, c .first) in
     let hb : b < p + 2 = omega (arith, c .second) in
-    let ok : isStripe p p s t ≡ true = is-stripe p s t (c .sized .long) bytes in
+    let ok : isStripe p p s t ≡ true = is-stripe p s t (c .sized .long) (k .bytes) in
     let done : t′ ≡ pairSolved p p s a b t = k .stripe ∙ ap (λ (n : ℕ). pick (eqb n 0) (pairSolved p p s a b t) t) e in
     record {
+      stripe = ap (isStripe p p s) done ∙ pair-stripe p p s a b (c .width) m ha hb (c .apart) t ok;
       is-clean = ap (clean p p s) done ∙ pair-clean p p s a b (c .width) m ha hb (c .apart) t ok;
       kept = λ x i j. ap (λ (l : List ℕ). cellAt s l x) done ∙ pair-off p p s a b (c .width) m ha hb (c .apart) t ok x i j;
       only = λ u v d h. done ∙ pair-back p p s a b (c .width) m ha hb (c .apart) t u ok v d h;

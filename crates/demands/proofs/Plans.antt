@@ -1,28 +1,26 @@
--- Demand 3 said of the planner's and the judge's calls: whatever bytes a host sends and whatever the two calls return, as long as they keep their promises.
+-- Demand 3 and ask 13 said of the planner's and the judge's calls: whatever bytes a host sends and whatever the two calls return, as long as they keep their promises.
 use mathlib.Core.Path.{_≡_, sym, ap, ap₂, _∙_}
+use mathlib.Core.Bool.{true}
 use mathlib.Core.List.{List}
 use Prim.Native.Nat.{ℕ, _+_, _-_, _*_, _≤_, _<_}
 use native.Mathlib.Omega.{arith}
 use lib.Dec.{eqb}
-use Rattle.laws.specs.Choice.{pick, when}
-use Rattle.liberation.specs.Sets.{planFault}
+use Rattle.laws.specs.Choice.{when}
 use Rattle.liberation.specs.Plans.{Step, planOf, readCount}
 use Rattle.liberation.specs.Judging.{accepted, stepsIn}
 use Rattle.liberation.specs.Claims.{isBest, diagonalsUsed, loneExtras, byExtra, Rearranged}
-use Rattle.liberation.proofs.FaultLaws.{plan-of, plan-none}
+use Rattle.liberation.proofs.FaultLaws.{plan-none}
 use Rattle.liberation.proofs.Rearranging.{count-same}
 use Rattle.liberation.proofs.Demand3.{plans-best, plan-accepted}
+use Rattle.parity.specs.Stripes.{isStripe, followed}
+use Rattle.parity.proofs.Rearranging.{bytes-same}
 use Rattle.planner.specs.declared.Plan.{Plan}
 use Rattle.planner.specs.Says.{PlanSays}
-use Rattle.planner.proofs.FormLaws.{formOf, plan-form}
-use Rattle.liberation.proofs.RecordLaws.{length-form}
+use Rattle.planner.proofs.FormLaws.{formOf, length-of, plan-form}
+use Rattle.planner.proofs.MeansLaws.{plan-means}
 use Rattle.judge.specs.declared.Judged.{Judged}
 use Rattle.judge.specs.Says.{JudgeSays}
 use Rattle.judge.proofs.AcceptLaws.{Acceptable, zero-accepts, accepts-zero, zero-counts}
-
--- the planner's count is the read count of our plan
-planner-reads : (p f : ℕ) (r : Plan) → planFault p p f ≡ 0 → PlanSays p f r → r .reads ≡ readCount p p f (planOf p p f)
-planner-reads p f r z k = k .reads ∙ ap (λ (n : ℕ). pick (eqb n 0) (readCount p p f (planOf p p f)) 0) z
 
 -- What holds of a host's plan bs for a lost data disk f that the judge accepts with answer j, where our planner answers r.
 pub record Compared (p f : ℕ) (bs : List ℕ) (r : Plan) (j : Judged) : Type 0 where
@@ -31,51 +29,63 @@ pub record Compared (p f : ℕ) (bs : List ℕ) (r : Plan) (j : Judged) : Type 0
   -- and as much exactly under the three conditions on the steps in those bytes
   pub equally : eqb (j .reads) (r .reads) ≡ isBest p p f (stepsIn p bs)
 
--- Ask 13: "every plan that the judge accepts reads exactly p² - t(p - t) + u + v cells", said of the judge's count
-pub priced : (p f : ℕ) (bs : List ℕ) (j : Judged) → f < p → JudgeSays p f bs j → j .number ≡ 0
-    → j .reads + diagonalsUsed p (stepsIn p bs) * (p - diagonalsUsed p (stepsIn p bs)) ≡ p * p + (loneExtras p p f (stepsIn p bs) + when (byExtra p p f (stepsIn p bs)) 1)
-priced p f bs j l d z =
-    let a = zero-accepts p f bs j d z in
-    let ss = stepsIn p bs in
-    ap (λ (n : ℕ). n + diagonalsUsed p ss * (p - diagonalsUsed p ss)) (zero-counts p f bs j d z) ∙ plans-best p f (a .width) l .price ss (a .accepts) .price
-
--- "rearranging a plan's steps into another accepted plan changes [not] its count", whatever disk is lost
-pub rearranged : (p f : ℕ) (bs cs : List ℕ) (j q : Judged) → JudgeSays p f bs j → j .number ≡ 0 → JudgeSays p f cs q → q .number ≡ 0 → Rearranged (stepsIn p bs) (stepsIn p cs) → j .reads ≡ q .reads
-rearranged p f bs cs j q d z e y r =
-    zero-counts p f bs j d z
-    ∙ count-same p p f (stepsIn p bs) (stepsIn p cs) (zero-accepts p f bs j d z .accepts) (zero-accepts p f cs q e y .accepts) r
-    ∙ sym (zero-counts p f cs q e y)
+-- the planner's count is the read count of our plan
+pub our-reads : (p f : ℕ) (r : Plan) → PlanSays p f r → r .number ≡ 0 → r .reads ≡ readCount p p f (planOf p p f)
+our-reads p f r k z = let m = plan-means p f r k z in m .count ∙ ap (readCount p p f) (m .steps)
 
 pub compared : (p f : ℕ) (bs : List ℕ) (r : Plan) (j : Judged) → f < p → PlanSays p f r → JudgeSays p f bs j → j .number ≡ 0 → Compared p f bs r j
 compared p f bs r j l k d z =
     let a = zero-accepts p f bs j d z in
     let best = plans-best p f (a .width) l in
     let ss = stepsIn p bs in
-    let ours : r .reads ≡ readCount p p f (planOf p p f) = planner-reads p f r (plan-none p p f (a .width) (a .disk)) k in
+    let ours : r .reads ≡ readCount p p f (planOf p p f) = our-reads p f r k (k .number ∙ plan-none p p f (a .width) (a .disk)) in
     let theirs : j .reads ≡ readCount p p f ss = zero-counts p f bs j d z in
     record {
       least = omega (arith, ours, theirs, best .least ss (a .accepts));
       equally = ap₂ eqb theirs ours ∙ best .equally ss (a .accepts);
     }
 
--- The judge accepts the planner's own record put into its form, with the planner's count.
+-- Ask 13: "For a lost data disk and k = p, every plan that the judge accepts reads exactly p² - t(p - t) + u + v cells", said of the judge's count.
+pub record Priced (p f : ℕ) (bs : List ℕ) (j : Judged) : Type 0 where
+  -- t is at most p, so that p - t is a difference
+  pub few : diagonalsUsed p (stepsIn p bs) ≤ p
+  pub price : j .reads + diagonalsUsed p (stepsIn p bs) * (p - diagonalsUsed p (stepsIn p bs)) ≡ p * p + (loneExtras p p f (stepsIn p bs) + when (byExtra p p f (stepsIn p bs)) 1)
+
+pub priced : (p f : ℕ) (bs : List ℕ) (j : Judged) → f < p → JudgeSays p f bs j → j .number ≡ 0 → Priced p f bs j
+priced p f bs j l d z =
+    let a = zero-accepts p f bs j d z in
+    let ss = stepsIn p bs in
+    let q = plans-best p f (a .width) l .price ss (a .accepts) in
+    record { few = q .few; price = ap (λ (n : ℕ). n + diagonalsUsed p ss * (p - diagonalsUsed p ss)) (zero-counts p f bs j d z) ∙ q .price }
+
+-- "rearranging a plan's steps into another accepted plan changes neither its count nor any byte its steps rebuild, on dirty stripes too", whatever disk is lost
+pub record Unchanged (p f : ℕ) (bs cs : List ℕ) (j q : Judged) : Type 0 where
+  pub count : j .reads ≡ q .reads
+  pub bytes : (s : ℕ) (t : List ℕ) → isStripe p p s t ≡ true → followed p p s f (stepsIn p bs) t ≡ followed p p s f (stepsIn p cs) t
+
+pub rearranged : (p f : ℕ) (bs cs : List ℕ) (j q : Judged) → JudgeSays p f bs j → j .number ≡ 0 → JudgeSays p f cs q → q .number ≡ 0 → Rearranged (stepsIn p bs) (stepsIn p cs) → Unchanged p f bs cs j q
+rearranged p f bs cs j q d z e y r =
+    let a = zero-accepts p f bs j d z .accepts in
+    let b = zero-accepts p f cs q e y .accepts in
+    record {
+      count = zero-counts p f bs j d z ∙ count-same p p f (stepsIn p bs) (stepsIn p cs) a b r ∙ sym (zero-counts p f cs q e y);
+      bytes = λ s t h. bytes-same p p s f (stepsIn p bs) (stepsIn p cs) a b r t h;
+    }
+
+-- The judge accepts the record of the planner's accepted answer put into its form, with the planner's count.
 pub record OwnAccepted (r : Plan) (j : Judged) : Type 0 where
   pub number : j .number ≡ 0
   pub reads : j .reads ≡ r .reads
 
-pub own-accepted : (p f : ℕ) (r : Plan) (j : Judged) → PlanSays p f r → r .number ≡ 0 → JudgeSays p f (formOf p (r .steps)) j → OwnAccepted r j
-own-accepted p f r j k n d =
-    let s = r .steps in
-    let bs : List ℕ = formOf p s in
-    let none : planFault p p f ≡ 0 = sym (k .number) ∙ n in
-    let w = plan-of p p f none in
-    let e : stepsIn p bs ≡ planOf p p f = plan-form p f r none k in
-    let a : Acceptable p f bs = record { width = w .0; disk = w .1; long = length-form p 0 (s .rows) (s .kinds) (s .numbers); accepts = ap (accepted p p f) e ∙ plan-accepted p f (w .0) (w .1) } in
-    let z : j .number ≡ 0 = accepts-zero p f bs j d a in
-    record { number = z; reads = zero-counts p f bs j d z ∙ ap (λ (ss : List Step). readCount p p f ss) e ∙ sym (planner-reads p f r none k) }
+pub own-accepted : (p f : ℕ) (r : Plan) (j : Judged) → PlanSays p f r → r .number ≡ 0 → JudgeSays p f (formOf p r) j → OwnAccepted r j
+own-accepted p f r j k z d =
+    let m = plan-means p f r k z in
+    let bs : List ℕ = formOf p r in
+    let e : stepsIn p bs ≡ planOf p p f = plan-form p f r k z in
+    let a : Acceptable p f bs = record { width = m .width; disk = m .disk; long = length-of p r; accepts = ap (accepted p p f) e ∙ plan-accepted p f (m .width) (m .disk) } in
+    let y : j .number ≡ 0 = accepts-zero p f bs j d a in
+    record { number = y; reads = zero-counts p f bs j d y ∙ ap (λ (ss : List Step). readCount p p f ss) e ∙ sym (our-reads p f r k z) }
 
 -- "Ours is (3p² + 1)/4."
 pub own-count : (p f : ℕ) (r : Plan) → f < p → PlanSays p f r → r .number ≡ 0 → 4 * r .reads ≡ 3 * (p * p) + 1
-own-count p f r l k n =
-    let none : planFault p p f ≡ 0 = sym (k .number) ∙ n in
-    ap (λ (m : ℕ). 4 * m) (planner-reads p f r none k) ∙ plans-best p f (plan-of p p f none .0) l .ours-count
+own-count p f r l k z = ap (λ (n : ℕ). 4 * n) (our-reads p f r k z) ∙ plans-best p f (plan-means p f r k z .width) l .ours-count

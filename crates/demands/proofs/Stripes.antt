@@ -1,57 +1,50 @@
 -- Demand 2, and the last sentence of demand 3, said of the calls that encode, check and rebuild one disk: whatever they return, as long as they keep their promises.
--- The lent slices are lists of bytes; t, u are stripes, o a column as it was lent, o′ as it is given back.
+-- t, u are lent stripes, o a column as it was lent, o′ as it is given back. That their lengths are those required and that stripes are bytes comes with the answers.
 use mathlib.Core.Path.{_≡_, sym, ap, _∙_}
-use mathlib.Core.Bool.{true, _&&_, not}
+use mathlib.Core.Bool.{true, _&&_}
 use mathlib.Core.List.{List}
 use Prim.Native.Nat.{ℕ, _+_, _*_, _<_}
 use native.Mathlib.Omega.{arith}
 use lib.Dec.{eqb}
 use lib.ListN.{length, getD}
-use borrow.Author.Tests.{eqb-true, eq-eqb, not-false}
-use Rattle.laws.specs.Choice.{pick, firstOf}
+use borrow.Author.Tests.{eq-eqb}
+use Rattle.laws.specs.Choice.{pick}
 use Rattle.laws.specs.Xor.{allBytes}
-use Rattle.laws.proofs.ChoiceLaws.{first-none, when-none}
 use Rattle.laws.proofs.Flags.{and-i}
-use Rattle.liberation.specs.Sets.{diskAt, widthFault, sizeFault, longFault}
+use Rattle.liberation.specs.Sets.{diskAt}
 use Rattle.liberation.specs.Plans.{readList}
 use Rattle.liberation.proofs.Demand3.{plan-accepted}
 use Rattle.parity.specs.Stripes.{cellAt, columnOf, stripeLong, isStripe, clean, encoded, rebuilt}
-use Rattle.parity.proofs.Encoding.{encoded-data, encoded-clean, encoded-only}
-use Rattle.parity.proofs.Rebuilding.{one-back, only-read}
+use Rattle.parity.proofs.Encoding.{encoded-stripe, encoded-data, encoded-clean, encoded-only}
+use Rattle.parity.proofs.Rebuilding.{one-back, lost-unused, only-read}
 use Rattle.sets.specs.declared.Answer.{Answer}
 use Rattle.planner.specs.Says.{ListSays}
 use Rattle.stripes.specs.declared.Checked.{Checked}
 use Rattle.stripes.specs.Says.{stripeFault, EncodeSays, CheckSays}
+use Rattle.stripes.proofs.FaultLaws.{fault-none as within-limits}
 use Rattle.rebuild.specs.Says.{OneSays}
 use Rattle.rebuild.proofs.SaysLaws.{Fit, fault-none}
-
--- what an accepted call on a stripe shows of its arguments
-is-long : (n : ℕ) (t : List ℕ) → longFault n t ≡ 0 → length t ≡ n
-is-long n t e = eqb-true (length t) n (not-false (eqb (length t) n) (when-none (not (eqb (length t) n)) 4 e))
 
 pub is-stripe : (p s : ℕ) (t : List ℕ) → length t ≡ stripeLong p p s → allBytes t ≡ true → isStripe p p s t ≡ true
 is-stripe p s t e b = and-i (eqb (length t) (stripeLong p p s)) (allBytes t) (eq-eqb (length t) (stripeLong p p s) e) b
 
-stripe-length : (p s : ℕ) (t : List ℕ) → stripeFault p s t ≡ 0 → length t ≡ stripeLong p p s
-stripe-length p s t e =
-    let a = first-none (widthFault p) (firstOf (sizeFault s) (longFault (stripeLong p p s) t)) e in
-    let b = first-none (sizeFault s) (longFault (stripeLong p p s) t) (a .1) in
-    is-long (stripeLong p p s) t (b .1)
-
 -- An accepted encoding of t leaves t′.
 pub record Encodes (p s : ℕ) (t t′ : List ℕ) : Type 0 where
+  -- a stripe still, in length and bytes
+  pub stripe : isStripe p p s t′ ≡ true
   pub is-clean : clean p p s t′ ≡ true
   -- no data cell is touched
   pub kept : (x : ℕ) → x < p * p → cellAt s t′ x ≡ cellAt s t x
   -- no other clean stripe has those data
   pub only : (u : List ℕ) → isStripe p p s u ≡ true → clean p p s u ≡ true → ((x : ℕ) → x < p * p → cellAt s u x ≡ cellAt s t x) → u ≡ t′
 
-pub encodes : (p s : ℕ) (t t′ : List ℕ) (r : Answer) → allBytes t ≡ true → EncodeSays p s t t′ r → r .number ≡ 0 → Encodes p s t t′
-encodes p s t t′ r b k z =
+pub encodes : (p s : ℕ) (t t′ : List ℕ) (r : Answer) → EncodeSays p s t t′ r → r .number ≡ 0 → Encodes p s t t′
+encodes p s t t′ r k z =
     let e : stripeFault p s t ≡ 0 = sym (k .number) ∙ z in
     let done : t′ ≡ encoded p p s t = k .stripe ∙ ap (λ (n : ℕ). pick (eqb n 0) (encoded p p s t) t) e in
-    let ok : isStripe p p s t ≡ true = is-stripe p s t (stripe-length p s t e) b in
+    let ok : isStripe p p s t ≡ true = is-stripe p s t (within-limits p s t e .long) (k .bytes) in
     record {
+      stripe = ap (isStripe p p s) done ∙ encoded-stripe p p s t ok;
       is-clean = ap (clean p p s) done ∙ encoded-clean p p s t ok;
       kept = λ x h. ap (λ (l : List ℕ). cellAt s l x) done ∙ encoded-data p p s t ok x h;
       only = λ u a c h. encoded-only p p s t ok u a c h ∙ sym done;
@@ -65,26 +58,38 @@ checks p s t r k z = k .clean ∙ ap (λ (n : ℕ). eqb n 0 && clean p p s t) (s
 taken : (p s f : ℕ) (t o o′ : List ℕ) (r : Answer) → OneSays p s f t o o′ r → r .number ≡ 0 → Fit p s f (length t) (length o)
 taken p s f t o o′ r k z = fault-none p s f (length t) (length o) (sym (k .number) ∙ z)
 
+stripe-is : (p s f : ℕ) (t o o′ : List ℕ) (r : Answer) → OneSays p s f t o o′ r → r .number ≡ 0 → isStripe p p s t ≡ true
+stripe-is p s f t o o′ r k z = is-stripe p s t (taken p s f t o o′ r k z .stripe) (k .bytes)
+
 column-is : (p s f : ℕ) (t o o′ : List ℕ) (r : Answer) → OneSays p s f t o o′ r → r .number ≡ 0 → o′ ≡ rebuilt p p s f t
 column-is p s f t o o′ r k z = k .column ∙ ap (λ (n : ℕ). pick (eqb n 0) (rebuilt p p s f t) o) (sym (k .number) ∙ z)
 
 -- Demand 2 for one lost disk: survivors of a clean stripe u bring the disk back as it was in u, whatever stood in the lost column.
 pub brings-back :
-    (p s f : ℕ) (t u o o′ : List ℕ) (r : Answer) → allBytes t ≡ true → isStripe p p s u ≡ true → clean p p s u ≡ true → OneSays p s f t o o′ r → r .number ≡ 0
+    (p s f : ℕ) (t u o o′ : List ℕ) (r : Answer) → isStripe p p s u ≡ true → clean p p s u ≡ true → OneSays p s f t o o′ r → r .number ≡ 0
     → ((x : ℕ) → x < p * (p + 2) → (diskAt p x ≡ f → ⊥) → cellAt s t x ≡ cellAt s u x) → o′ ≡ columnOf p s f u
-brings-back p s f t u o o′ r b v c k z h =
+brings-back p s f t u o o′ r v c k z h =
     let a = taken p s f t o o′ r k z in
-    column-is p s f t o o′ r k z ∙ one-back p p s f (plan-accepted p f (a .width) (a .disk)) (omega (arith, a .disk)) t u (is-stripe p s t (a .stripe) b) v c h
+    column-is p s f t o o′ r k z ∙ one-back p p s f (plan-accepted p f (a .width) (a .disk)) (omega (arith, a .disk)) t u (stripe-is p s f t o o′ r k z) v c h
+
+-- "What the stripe holds for the lost disk is never used": two accepted calls on stripes alike off that disk write one column, on dirty stripes too.
+pub never-used :
+    (p s f : ℕ) (t u o o′ n n′ : List ℕ) (r q : Answer) → OneSays p s f t o o′ r → r .number ≡ 0 → OneSays p s f u n n′ q → q .number ≡ 0
+    → ((x : ℕ) → x < p * (p + 2) → (diskAt p x ≡ f → ⊥) → cellAt s t x ≡ cellAt s u x) → o′ ≡ n′
+never-used p s f t u o o′ n n′ r q k z m y h =
+    let a = taken p s f t o o′ r k z in
+    column-is p s f t o o′ r k z
+    ∙ lost-unused p p s f (plan-accepted p f (a .width) (a .disk)) (omega (arith, a .disk)) t u (stripe-is p s f t o o′ r k z) (stripe-is p s f u n n′ q m y) h
+    ∙ sym (column-is p s f u n n′ q m y)
 
 -- The last sentence of demand 3: stripes alike in every cell marked 1 in the list that `read_list` writes give one rebuilt disk, dirty stripes too.
 pub one-column :
-    (p s f : ℕ) (t u o o′ n n′ l l′ : List ℕ) (r q a : Answer) → allBytes t ≡ true → allBytes u ≡ true
+    (p s f : ℕ) (t u o o′ n n′ l l′ : List ℕ) (r q a : Answer)
     → OneSays p s f t o o′ r → r .number ≡ 0 → OneSays p s f u n n′ q → q .number ≡ 0 → ListSays p f l l′ a → a .number ≡ 0
     → ((x : ℕ) → getD l′ x 0 ≡ 1 → cellAt s t x ≡ cellAt s u x) → o′ ≡ n′
-one-column p s f t u o o′ n n′ l l′ r q a bt bu k z m y w e h =
+one-column p s f t u o o′ n n′ l l′ r q a k z m y w e h =
     let i = taken p s f t o o′ r k z in
-    let j = taken p s f u n n′ q m y in
     let list : l′ ≡ readList p p f = w .list ∙ ap (λ (x : ℕ). pick (eqb x 0) (readList p p f) l) (sym (w .number) ∙ e) in
     column-is p s f t o o′ r k z
-    ∙ only-read p p s f (plan-accepted p f (i .width) (i .disk)) (omega (arith, i .disk)) t u (is-stripe p s t (i .stripe) bt) (is-stripe p s u (j .stripe) bu) (λ x g. h x (ap (λ (v : List ℕ). getD v x 0) list ∙ g))
+    ∙ only-read p p s f (plan-accepted p f (i .width) (i .disk)) (omega (arith, i .disk)) t u (stripe-is p s f t o o′ r k z) (stripe-is p s f u n n′ q m y) (λ x g. h x (ap (λ (v : List ℕ). getD v x 0) list ∙ g))
     ∙ sym (column-is p s f u n n′ q m y)

@@ -1,5 +1,5 @@
--- The planner's record put into the judge's form, three bytes a step, is the defined plan; the ones of the read list are as many as the count says.
-use mathlib.Core.Path.{_≡_, ap, _∙_}
+-- The record of an accepted plan holds the defined plan, and so does the record put into the judge's form, three bytes a step; the ones of the read list are as many as the count says.
+use mathlib.Core.Path.{_≡_, sym, _∙_}
 use mathlib.Core.Bool.{true}
 use mathlib.Core.List.{List}
 use Prim.Native.Nat.{ℕ, _+_, _*_, _≤_}
@@ -15,25 +15,32 @@ use Rattle.liberation.proofs.ReadLaws.{marks-count}
 use Rattle.liberation.proofs.UsedLaws.{named-numbers}
 use Rattle.liberation.proofs.AcceptedLaws.{accepted-named}
 use Rattle.liberation.proofs.Demand3.{plan-accepted}
-use Rattle.liberation.proofs.RecordLaws.{form-steps, recorded-from, plan-length}
+use Rattle.liberation.proofs.RecordLaws.{length-form, form-steps, recorded-from, plan-length}
 use Rattle.planner.specs.declared.Plan.{Plan}
-use Rattle.planner.specs.declared.Steps.{Steps}
-use Rattle.planner.specs.Records.{Holds}
 use Rattle.planner.specs.Says.{PlanSays, plannedSteps}
 use Rattle.planner.proofs.PlanLaws.{held-as, planned-is}
 
--- the record's steps in the judge's form
-abbrev pub formOf : ℕ → Steps → List ℕ
-formOf p s = judgeForm p 0 (s .rows) (s .kinds) (s .numbers)
+-- the p steps of a plan's record, and the same in the judge's form
+abbrev pub stepsHeld : ℕ → Plan → List Step
+stepsHeld p r = recorded p 0 (r .steps .rows) (r .steps .kinds) (r .steps .numbers)
 
-held-form : (p : ℕ) (ss : List Step) (s : Steps) → 0 + p ≡ length ss → Holds ss s → stepsIn p (formOf p s) ≡ ss
-held-form p ss s e k = form-steps p 0 (s .rows) (s .kinds) (s .numbers) ∙ (λ j. recorded p 0 (k .rows j) (k .kinds j) (k .numbers j)) ∙ recorded-from p 0 ss e
+abbrev pub formOf : ℕ → Plan → List ℕ
+formOf p r = judgeForm p 0 (r .steps .rows) (r .steps .kinds) (r .steps .numbers)
+
+pub length-of : (p : ℕ) (r : Plan) → length (formOf p r) ≡ 3 * p
+length-of p r = length-form p 0 (r .steps .rows) (r .steps .kinds) (r .steps .numbers)
+
+-- an accepted answer's record holds our plan
+pub plan-held : (p f : ℕ) (r : Plan) → PlanSays p f r → r .number ≡ 0 → stepsHeld p r ≡ planOf p p f
+plan-held p f r k z =
+    let n : planFault p p f ≡ 0 = sym (k .number) ∙ z in
+    let w = plan-of p p f n in
+    let h = held-as (plannedSteps p f) (planOf p p f) (r .steps) (planned-is p f n) (k .steps) in
+    (λ j. recorded p 0 (h .rows j) (h .kinds j) (h .numbers j)) ∙ recorded-from p 0 (planOf p p f) (omega (arith, plan-length p f (w .0) (w .1)))
 
 -- "ours for the p steps of the planner's record, put in that form"
-pub plan-form : (p f : ℕ) (r : Plan) → planFault p p f ≡ 0 → PlanSays p f r → stepsIn p (formOf p (r .steps)) ≡ planOf p p f
-plan-form p f r z k =
-    let a = plan-of p p f z in
-    held-form p (planOf p p f) (r .steps) (omega (arith, plan-length p f (a .0) (a .1))) (held-as (plannedSteps p f) (planOf p p f) (r .steps) (planned-is p f z) (k .steps))
+pub plan-form : (p f : ℕ) (r : Plan) → PlanSays p f r → r .number ≡ 0 → stepsIn p (formOf p r) ≡ planOf p p f
+plan-form p f r k z = form-steps p 0 (r .steps .rows) (r .steps .kinds) (r .steps .numbers) ∙ plan-held p f r k z
 
 -- "so the ones are as many as the count says"
 pub list-ones : (p f : ℕ) → isWidth p ≡ true → f ≤ p + 1 → total (readList p p f) ≡ readCount p p f (planOf p p f)

@@ -3,3 +3,4 @@ pub mod StepLaws
 pub mod ReadingLaws
 pub mod PlanLaws
 pub mod FormLaws
+pub mod MeansLaws

@@ -6,6 +6,7 @@ use Prim.Native.Nat.{ℕ, _+_, _*_, _≤_, _<_}
 use lib.Dec.{eqb}
 use borrow.Author.Tests.{ne-eqb, eqb-true, not-false}
 use Rattle.laws.specs.Choice.{pick, firstOf, when}
+use Rattle.laws.specs.Xor.{allBytes}
 use Rattle.laws.proofs.ChoiceLaws.{first-none, when-none}
 use Rattle.liberation.specs.Sets.{isWidth, numbersFault}
 use Rattle.liberation.proofs.FaultLaws.{numbers-of}
@@ -44,11 +45,11 @@ fault-none p s f n m e =
     }
 
 -- a refusal
-pub refused : (p s f n : ℕ) (t o : List ℕ) (r : Answer) → n ≡ oneFault p s f t o → (n ≡ 0 → ⊥) → (r .number ≡ n) × (r .place ≡ 0) → OneSays p s f t o o r
-refused p s f n t o r e z a =
-    record { number = a .0 ∙ e; place = a .1; column = sym (ap (λ (b : Bool). pick b (rebuilt p p s f t) o) (ne-eqb (oneFault p s f t o) 0 (λ q. z (e ∙ q)))) }
+pub refused : (p s f n : ℕ) (t o : List ℕ) (r : Answer) → n ≡ oneFault p s f t o → (n ≡ 0 → ⊥) → (r .number ≡ n) × (r .place ≡ 0) → allBytes t ≡ true → OneSays p s f t o o r
+refused p s f n t o r e z a b =
+    record { number = a .0 ∙ e; place = a .1; column = sym (ap (λ (b : Bool). pick b (rebuilt p p s f t) o) (ne-eqb (oneFault p s f t o) 0 (λ q. z (e ∙ q)))); bytes = b }
 
 -- the accepted call
-pub accepted : (p s f : ℕ) (t o o′ : List ℕ) (r : Answer) → oneFault p s f t o ≡ 0 → o′ ≡ rebuilt p p s f t → (r .number ≡ 0) × (r .place ≡ 0) → OneSays p s f t o o′ r
-accepted p s f t o o′ r z e a =
-    record { number = a .0 ∙ sym z; place = a .1; column = e ∙ sym (ap (λ (x : ℕ). pick (eqb x 0) (rebuilt p p s f t) o) z) }
+pub accepted : (p s f : ℕ) (t o o′ : List ℕ) (r : Answer) → oneFault p s f t o ≡ 0 → o′ ≡ rebuilt p p s f t → (r .number ≡ 0) × (r .place ≡ 0) → allBytes t ≡ true → OneSays p s f t o o′ r
+accepted p s f t o o′ r z e a b =
+    record { number = a .0 ∙ sym z; place = a .1; column = e ∙ sym (ap (λ (x : ℕ). pick (eqb x 0) (rebuilt p p s f t) o) z); bytes = b }

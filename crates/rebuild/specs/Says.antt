@@ -1,11 +1,12 @@
 -- The promise of `rebuild_one`, for accepted and refused calls alike.
 use mathlib.Core.Path.{_≡_}
-use mathlib.Core.Bool.{not}
+use mathlib.Core.Bool.{true, not}
 use mathlib.Core.List.{List}
 use Prim.Native.Nat.{ℕ, _*_}
 use lib.Dec.{eqb}
 use lib.ListN.{length}
 use Rattle.laws.specs.Choice.{pick, when, firstOf}
+use Rattle.laws.specs.Xor.{allBytes}
 use Rattle.liberation.specs.Sets.{numbersFault}
 use Rattle.parity.specs.Stripes.{stripeLong, rebuilt}
 use Rattle.sets.specs.declared.Answer.{Answer}
@@ -23,3 +24,5 @@ pub record OneSays (p s f : ℕ) (t o o′ : List ℕ) (r : Answer) : Type 0 whe
   pub number : r .number ≡ oneFault p s f t o
   pub place : r .place ≡ 0
   pub column : o′ ≡ pick (eqb (oneFault p s f t o) 0) (rebuilt p p s f t) o
+  -- what was lent are bytes
+  pub bytes : allBytes t ≡ true

@@ -8,6 +8,7 @@ use lib.Dec.{eqb, ltb}
 use lib.ListN.{length}
 use borrow.Author.Tests.{ne-eqb, eq-eqb, ltb-false, eqb-true, eqb-false, not-false}
 use Rattle.laws.specs.Choice.{pick, when, firstOf}
+use Rattle.laws.specs.Xor.{allBytes}
 use Rattle.laws.proofs.ChoiceLaws.{first-none, when-none}
 use Rattle.liberation.specs.Sets.{isWidth, numbersFault, diskFault, longFault}
 use Rattle.liberation.proofs.Widths.{width-most, width-odd}
@@ -58,18 +59,20 @@ fault-none p s a b t e =
       apart = eqb-false a b (when-none (eqb a b) 3 (h .0));
     }
 
-pub two-refused : (p s a b n : ℕ) (t : List ℕ) (r : Answer) → n ≡ twoFault p s a b t → (n ≡ 0 → ⊥) → (r .number ≡ n) × (r .place ≡ 0) → TwoSays p s a b t t r
-two-refused p s a b n t r e z q =
+pub two-refused : (p s a b n : ℕ) (t : List ℕ) (r : Answer) → n ≡ twoFault p s a b t → (n ≡ 0 → ⊥) → (r .number ≡ n) × (r .place ≡ 0) → allBytes t ≡ true → TwoSays p s a b t t r
+two-refused p s a b n t r e z q y =
     record {
       number = q .0 ∙ e;
       place = q .1;
       stripe = sym (ap (λ (c : Bool). pick c (pairSolved p p s a b t) t) (ne-eqb (twoFault p s a b t) 0 (λ h. z (e ∙ h))));
+      bytes = y;
     }
 
-pub two-done : (p s a b : ℕ) (t u : List ℕ) (r : Answer) → twoFault p s a b t ≡ 0 → u ≡ pairSolved p p s a b t → (r .number ≡ 0) × (r .place ≡ 0) → TwoSays p s a b t u r
-two-done p s a b t u r z e q =
+pub two-done : (p s a b : ℕ) (t u : List ℕ) (r : Answer) → twoFault p s a b t ≡ 0 → u ≡ pairSolved p p s a b t → (r .number ≡ 0) × (r .place ≡ 0) → allBytes t ≡ true → TwoSays p s a b t u r
+two-done p s a b t u r z e q y =
     record {
       number = q .0 ∙ sym z;
       place = q .1;
       stripe = e ∙ sym (ap (λ (c : Bool). pick c (pairSolved p p s a b t) t) (eq-eqb (twoFault p s a b t) 0 z));
+      bytes = y;
     }

@@ -1,9 +1,11 @@
 -- The promise of `rebuild_two`, for accepted and refused calls alike.
 use mathlib.Core.Path.{_≡_}
+use mathlib.Core.Bool.{true}
 use mathlib.Core.List.{List}
 use Prim.Native.Nat.{ℕ}
 use lib.Dec.{eqb}
 use Rattle.laws.specs.Choice.{pick, when, firstOf}
+use Rattle.laws.specs.Xor.{allBytes}
 use Rattle.liberation.specs.Sets.{numbersFault, diskFault, longFault}
 use Rattle.parity.specs.Stripes.{stripeLong}
 use Rattle.pairs.specs.Pairs.{pairSolved}
@@ -18,3 +20,5 @@ pub record TwoSays (p s a b : ℕ) (t t′ : List ℕ) (r : Answer) : Type 0 whe
   pub number : r .number ≡ twoFault p s a b t
   pub place : r .place ≡ 0
   pub stripe : t′ ≡ pick (eqb (twoFault p s a b t) 0) (pairSolved p p s a b t) t
+  -- what was lent are bytes
+  pub bytes : allBytes t ≡ true

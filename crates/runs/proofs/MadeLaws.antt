@@ -1,16 +1,20 @@
--- Calls made one after another: each leaves what its promise says, so the record and the columns are those of the steps, and the law of runs holds of the calls.
+-- Calls made one after another: each leaves what its promise says, so the record and the columns are those of the steps, and the law of runs holds of the calls, and of what reading the record answers then.
 use mathlib.Core.Path.{_≡_, refl, sym, ap, ap₂, _∙_}
-use mathlib.Core.Bool.{Bool, true, false}
+use mathlib.Core.Bool.{Bool, true, false, _&&_}
 use mathlib.Core.List.{List, [], _∷_}
 use Prim.Native.Nat.{ℕ, suc, _*_}
+use native.Mathlib.Omega.{arith}
 use lib.Dec.{eqb}
 use lib.ListN.{length}
 use Rattle.laws.specs.Choice.{pick}
+use Rattle.liberation.specs.Sets.{numbersFault}
 use Rattle.liberation.specs.Plans.{planOf, readCount}
 use Rattle.runs.specs.declared.Run.{Run}
-use Rattle.runs.specs.Runs.{opened, noRun, isOver, cellsSoFar, moved, runColumn}
-use Rattle.runs.specs.Claims.{Call, Left, isAccepted, steps, acceptedIn, written, inOrder, rebuiltEach, Made, none-made, step-made, lastRun, columnsOf, RunDone, Calls-right}
-use Rattle.runs.proofs.RunLaws.{runs-right}
+use Rattle.runs.specs.declared.RunAnswer.{RunAnswer}
+use Rattle.runs.specs.declared.Progress.{Progress}
+use Rattle.runs.specs.Runs.{opened, noRun, isOver, cellsSoFar, runFault, moved, runColumn, OpenSays, ProgressSays}
+use Rattle.runs.specs.Claims.{Call, Left, isAccepted, steps, acceptedIn, written, inOrder, rebuiltEach, Made, none-made, step-made, lastRun, columnsOf, RunDone, RunMade, RunRead, Calls-right, Calls-go, Progress-right}
+use Rattle.runs.proofs.RunLaws.{steps-ahead, runs-right, runs-go}
 
 -- the record after the calls is that after the steps
 made-run : (x : Run) (cs : List Call) (ls : List Left) → Made x cs ls → lastRun x ls ≡ steps x cs
@@ -36,17 +40,51 @@ each-long p s f [] = refl
 each-long p s f (c ∷ cs) = ap (λ (n : ℕ). suc n) (each-long p s f cs)
 
 -- calls on an opened run
+module _ (p s f n : ℕ) (r : RunAnswer) (cs : List Call) (ls : List Left) (o : OpenSays p s f n r) (z : r .answer .number ≡ 0) (m : Made (r .run) cs ls) where
+  fine : numbersFault p p s f ≡ 0
+  fine = sym (o .number) ∙ z
+
+  start : r .run ≡ opened p s f n
+  start = o .run ∙ ap (λ (i : ℕ). pick (eqb i 0) (opened p s f n) noRun) fine
+
+  last : lastRun (r .run) ls ≡ steps (opened p s f n) cs
+  last = made-run (r .run) cs ls m ∙ ap (λ (y : Run). steps y cs) start
+
+  kept : columnsOf ls ≡ rebuiltEach p s f (acceptedIn (opened p s f n) cs)
+  kept = made-columns (r .run) cs ls m ∙ ap (λ (y : Run). written y cs) start ∙ runs-right p s f n cs .columns
+
+  long : length (columnsOf ls) ≡ length (acceptedIn (opened p s f n) cs)
+  long = ap length kept ∙ each-long p s f (acceptedIn (opened p s f n) cs)
+
+  made : RunMade p s f n (r .run) cs ls
+  made =
+      let d : RunDone p s f n cs = runs-right p s f n cs in
+      record {
+        few = omega (arith, long, d .few);
+        over = ap isOver last ∙ d .over ∙ ap (λ (i : ℕ). eqb i n) (sym long);
+        cells = ap cellsSoFar last ∙ d .cells ∙ ap (λ (i : ℕ). i * readCount p p f (planOf p p f)) (sym long);
+        columns = kept ∙ ap (λ (y : Run). rebuiltEach p s f (acceptedIn y cs)) (sym start);
+        order = ap (λ (y : Run). inOrder 0 (acceptedIn y cs)) start ∙ d .order;
+      }
+
+  -- steps leave width, size and disk, so the record can be read
+  readable : runFault (lastRun (r .run) ls) ≡ 0
+  readable = ap runFault (last ∙ steps-ahead (opened p s f n) cs) ∙ fine
+
+  read : (g : Progress) → ProgressSays (lastRun (r .run) ls) g → RunRead p f n ls g
+  read g k =
+      let x : Run = lastRun (r .run) ls in
+      record {
+        number = k .number ∙ readable;
+        over = k .over ∙ ap (λ (i : ℕ). eqb i 0 && isOver x) readable ∙ made .over;
+        cells = k .cells ∙ ap (λ (i : ℕ). pick (eqb i 0) (cellsSoFar x) 0) readable ∙ made .cells;
+      }
+
 pub calls-right : Calls-right
-calls-right p s f n r cs ls o z m =
-    let x : Run = opened p s f n in
-    let start : r .run ≡ x = o .run ∙ ap (λ (i : ℕ). pick (eqb i 0) x noRun) (sym (o .number) ∙ z) in
-    let d : RunDone p s f n cs = runs-right p s f n cs in
-    let last : lastRun (r .run) ls ≡ steps x cs = made-run (r .run) cs ls m ∙ ap (λ (y : Run). steps y cs) start in
-    let kept : columnsOf ls ≡ rebuiltEach p s f (acceptedIn x cs) = made-columns (r .run) cs ls m ∙ ap (λ (y : Run). written y cs) start ∙ d .columns in
-    let long : length (columnsOf ls) ≡ length (acceptedIn x cs) = ap length kept ∙ each-long p s f (acceptedIn x cs) in
-    record {
-      over = ap isOver last ∙ d .over ∙ ap (λ (i : ℕ). eqb i n) (sym long);
-      cells = ap cellsSoFar last ∙ d .cells ∙ ap (λ (i : ℕ). i * readCount p p f (planOf p p f)) (sym long);
-      columns = kept ∙ ap (λ (y : Run). rebuiltEach p s f (acceptedIn y cs)) (sym start);
-      order = ap (λ (y : Run). inOrder 0 (acceptedIn y cs)) start ∙ d .order;
-    }
+calls-right p s f n r cs ls o z m = made p s f n r cs ls o z m
+
+pub calls-go : Calls-go
+calls-go p s f n r cs ls o z m order lengths few = long p s f n r cs ls o z m ∙ ap length (runs-go p s f n cs (fine p s f n r cs ls o z m) order lengths few)
+
+pub progress-right : Progress-right
+progress-right p s f n r cs ls g o z m k = read p s f n r cs ls o z m g k

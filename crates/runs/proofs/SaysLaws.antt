@@ -9,6 +9,7 @@ use native.Mathlib.Omega.{arith}
 use lib.Dec.{eqb, leb}
 use borrow.Author.Tests.{eq-eqb, ne-eqb, leb-false}
 use Rattle.laws.specs.Choice.{pick, when, firstOf}
+use Rattle.laws.specs.Xor.{allBytes}
 use Rattle.laws.proofs.Flags.{or-false-l}
 use Rattle.laws.proofs.ChoiceLaws.{first-none, when-none}
 use Rattle.laws.proofs.Modulo.{lt-or-le}
@@ -52,14 +53,15 @@ not-over x i n m e =
     let b : Bool = not (eqb i (x .next)) in
     leb-false (x .stripes) (x .next) (or-false-l a b (when-none (a || b) 9 (first-none (lengthsFault (x .width) (x .size) (x .disk) n m) (when (a || b) 10) e .1)))
 
-pub step-refused : (x : Run) (i n : ℕ) (t o : List ℕ) (a : Answer) → n ≡ stepFault x i t o → (n ≡ 0 → ⊥) → (a .number ≡ n) × (a .place ≡ 0) → StepSays x x i t o o a
-step-refused x i n t o a e z k =
+pub step-refused : (x : Run) (i n : ℕ) (t o : List ℕ) (a : Answer) → n ≡ stepFault x i t o → (n ≡ 0 → ⊥) → (a .number ≡ n) × (a .place ≡ 0) → allBytes t ≡ true → StepSays x x i t o o a
+step-refused x i n t o a e z k b =
     let f : stepOk x i t o ≡ false = ne-eqb (stepFault x i t o) 0 (λ q. z (e ∙ q)) in
     record {
       number = k .0 ∙ e;
       place = k .1;
       run = sym (ap (λ (b : Bool). pick b (moved x) x) f);
       column = sym (ap (λ (b : Bool). pick b (runColumn x t) o) f);
+      bytes = b;
     }
 
 -- no refusal: the rebuild of one disk is accepted, and its answer is the step's
@@ -71,6 +73,19 @@ step-done x i t o o′ a z k =
       place = k .place;
       run = sym (ap (λ (n : ℕ). pick (eqb n 0) (moved x) x) z);
       column = k .column ∙ ap (λ (n : ℕ). pick (eqb n 0) (runColumn x t) o) (one ∙ sym z);
+      bytes = k .bytes;
+    }
+
+-- "and rebuilds that stripe": an accepted step is an accepted rebuild of the record's disk, so all that holds of rebuilds holds of steps
+pub step-rebuilds : (x x′ : Run) (i : ℕ) (t o o′ : List ℕ) (a : Answer) → StepSays x x′ i t o o′ a → a .number ≡ 0 → OneSays (x .width) (x .size) (x .disk) t o o′ a
+step-rebuilds x x′ i t o o′ a k z =
+    let e : stepFault x i t o ≡ 0 = sym (k .number) ∙ z in
+    let one : oneFault (x .width) (x .size) (x .disk) t o ≡ 0 = first-none (oneFault (x .width) (x .size) (x .disk) t o) (nextFault x i) e .0 in
+    record {
+      number = z ∙ sym one;
+      place = k .place;
+      column = k .column ∙ ap (λ (n : ℕ). pick (eqb n 0) (runColumn x t) o) (e ∙ sym one);
+      bytes = k .bytes;
     }
 
 pub progress-refused : (x : Run) (n : ℕ) → n ≡ runFault x → (n ≡ 0 → ⊥) → ProgressSays x (record { number = n; place = 0; over = false; cells = 0 })

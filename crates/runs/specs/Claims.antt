@@ -12,7 +12,8 @@ use Rattle.parity.specs.Stripes.{stripeLong, rebuilt}
 use Rattle.sets.specs.declared.Answer.{Answer}
 use Rattle.runs.specs.declared.Run.{Run}
 use Rattle.runs.specs.declared.RunAnswer.{RunAnswer}
-use Rattle.runs.specs.Runs.{opened, isOver, cellsSoFar, stepOk, moved, runColumn, OpenSays, StepSays}
+use Rattle.runs.specs.declared.Progress.{Progress}
+use Rattle.runs.specs.Runs.{opened, isOver, cellsSoFar, stepOk, moved, runColumn, OpenSays, StepSays, ProgressSays}
 
 -- what a step is given besides the record: a stripe number, a stripe, a column
 pub record Call : Type 0 where
@@ -89,8 +90,9 @@ unfoldable pub columnsOf : List Left → List (List ℕ)
 columnsOf [] = []
 columnsOf (l ∷ ls) = pick (eqb (l .answer .number) 0) (l .column ∷ columnsOf ls) (columnsOf ls)
 
--- Calls on a record that was opened over n stripes: the run is over exactly when n of them were accepted, and not before; cells read are as many times the read count; each column is the rebuilt disk of the stripe given with it.
+-- Calls on a record that was opened over n stripes: no more than n of them are accepted, and the run is over exactly when n were, not before; cells read are as many times the read count; each column is the rebuilt disk of the stripe given with it.
 pub record RunMade (p s f n : ℕ) (x : Run) (cs : List Call) (ls : List Left) : Type 0 where
+  pub few : length (columnsOf ls) ≤ n
   pub over : isOver (lastRun x ls) ≡ eqb (length (columnsOf ls)) n
   pub cells : cellsSoFar (lastRun x ls) ≡ length (columnsOf ls) * readCount p p f (planOf p p f)
   pub columns : columnsOf ls ≡ rebuiltEach p s f (acceptedIn x cs)
@@ -98,3 +100,16 @@ pub record RunMade (p s f n : ℕ) (x : Run) (cs : List Call) (ls : List Left) :
 
 abbrev pub Calls-right : Type 0
 Calls-right = (p s f n : ℕ) (r : RunAnswer) (cs : List Call) (ls : List Left) → OpenSays p s f n r → r .answer .number ≡ 0 → Made (r .run) cs ls → RunMade p s f n (r .run) cs ls
+
+-- what reading the record answers then: no refusal, over exactly when n steps were accepted, and as many times the read count
+pub record RunRead (p f n : ℕ) (ls : List Left) (g : Progress) : Type 0 where
+  pub number : g .number ≡ 0
+  pub over : g .over ≡ eqb (length (columnsOf ls)) n
+  pub cells : g .cells ≡ length (columnsOf ls) * readCount p p f (planOf p p f)
+
+abbrev pub Progress-right : Type 0
+Progress-right = (p s f n : ℕ) (r : RunAnswer) (cs : List Call) (ls : List Left) (g : Progress) → OpenSays p s f n r → r .answer .number ≡ 0 → Made (r .run) cs ls → ProgressSays (lastRun (r .run) ls) g → RunRead p f n ls g
+
+-- Steps in order on slices of the lengths required, no more than n of them, are all accepted.
+abbrev pub Calls-go : Type 0
+Calls-go = (p s f n : ℕ) (r : RunAnswer) (cs : List Call) (ls : List Left) → OpenSays p s f n r → r .answer .number ≡ 0 → Made (r .run) cs ls → inOrder 0 cs ≡ true → allLong p s cs ≡ true → length cs ≤ n → length (columnsOf ls) ≡ length cs

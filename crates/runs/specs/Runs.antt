@@ -1,11 +1,12 @@
 -- A rebuild run over many stripes (document 01, "Run and space"): its progress, its refusals, what a step does to its record and to the lent column, and the promises of the calls for accepted and refused calls alike.
 use mathlib.Core.Path.{_≡_}
-use mathlib.Core.Bool.{Bool, _&&_, _||_, not}
+use mathlib.Core.Bool.{Bool, true, _&&_, _||_, not}
 use mathlib.Core.List.{List}
 use Prim.Native.Nat.{ℕ, _+_, _*_, _≤_}
 use lib.Dec.{eqb, leb}
 use lib.ListN.{length}
 use Rattle.laws.specs.Choice.{pick, when, firstOf}
+use Rattle.laws.specs.Xor.{allBytes}
 use Rattle.liberation.specs.Sets.{numbersFault}
 use Rattle.liberation.specs.Plans.{planOf, readCount}
 use Rattle.parity.specs.Stripes.{rebuilt}
@@ -70,6 +71,8 @@ pub record StepSays (x x′ : Run) (i : ℕ) (t o o′ : List ℕ) (r : Answer) 
   pub place : r .place ≡ 0
   pub run : x′ ≡ pick (stepOk x i t o) (moved x) x
   pub column : o′ ≡ pick (stepOk x i t o) (runColumn x t) o
+  -- what was lent are bytes
+  pub bytes : allBytes t ≡ true
 
 -- reading a record
 pub record ProgressSays (x : Run) (r : Progress) : Type 0 where

@@ -10,6 +10,7 @@ use lib.ListN.{length}
 use borrow.Author.Tests.{ne-eqb, eq-eqb, ltb-false, eqb-true, not-false}
 use Rattle.laws.specs.Choice.{pick, when, firstOf}
 use Rattle.laws.specs.Sums.{allTo}
+use Rattle.laws.specs.Xor.{allBytes}
 use Rattle.laws.proofs.Flags.{or-false-r}
 use Rattle.laws.proofs.ChoiceLaws.{first-none, first-kept, first-assoc, when-none}
 use Rattle.liberation.specs.Sets.{isWidth, widthFault, longFault, sizeFault, numbersFault}
@@ -59,12 +60,13 @@ fault-none p s t e =
       long = eqb-true (length t) (stripeLong p p s) (not-false (eqb (length t) (stripeLong p p s)) (when-none (not (eqb (length t) (stripeLong p p s))) 4 (v .1)));
     }
 
-pub encode-refused : (p s n : ℕ) (t : List ℕ) (r : Answer) → n ≡ stripeFault p s t → (n ≡ 0 → ⊥) → (r .number ≡ n) × (r .place ≡ 0) → EncodeSays p s t t r
-encode-refused p s n t r e z a =
+pub encode-refused : (p s n : ℕ) (t : List ℕ) (r : Answer) → n ≡ stripeFault p s t → (n ≡ 0 → ⊥) → (r .number ≡ n) × (r .place ≡ 0) → allBytes t ≡ true → EncodeSays p s t t r
+encode-refused p s n t r e z a b =
     record {
       number = a .0 ∙ e;
       place = a .1;
       stripe = sym (ap (λ (b : Bool). pick b (encoded p p s t) t) (ne-eqb (stripeFault p s t) 0 (λ q. z (e ∙ q))));
+      bytes = b;
     }
 
 -- P by the row sets, then Q by the diagonal sets
@@ -77,12 +79,13 @@ both-kinds p s t u v e q =
     ∙ ap₂ (λ (f : ℕ) (l : List ℕ). followed p p s f (allOf p 1 0) l) o (e ∙ ap (λ (f : ℕ). followed p p s f (allOf p 0 0) t) z)
     ∙ sym (ap₂ (λ (x y : List Step). followed p p s (suc p) y (followed p p s p x t)) (plan-row-parity p p) (plan-diagonal-parity p p))
 
-pub encode-done : (p s : ℕ) (t u v : List ℕ) (r : Answer) → stripeFault p s t ≡ 0 → u ≡ followed p p s (p + 0) (allOf p 0 0) t → v ≡ followed p p s (p + 1) (allOf p 1 0) u → (r .number ≡ 0) × (r .place ≡ 0) → EncodeSays p s t v r
-encode-done p s t u v r z e q a =
+pub encode-done : (p s : ℕ) (t u v : List ℕ) (r : Answer) → stripeFault p s t ≡ 0 → u ≡ followed p p s (p + 0) (allOf p 0 0) t → v ≡ followed p p s (p + 1) (allOf p 1 0) u → (r .number ≡ 0) × (r .place ≡ 0) → allBytes t ≡ true → EncodeSays p s t v r
+encode-done p s t u v r z e q a b =
     record {
       number = a .0 ∙ sym z;
       place = a .1;
       stripe = both-kinds p s t u v e q ∙ sym (ap (λ (b : Bool). pick b (encoded p p s t) t) (eq-eqb (stripeFault p s t) 0 z));
+      bytes = b;
     }
 
 pub check-refused : (p s n : ℕ) (t : List ℕ) → n ≡ stripeFault p s t → (n ≡ 0 → ⊥) → CheckSays p s t (record { number = n; place = 0; clean = false })

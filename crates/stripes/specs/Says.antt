@@ -1,10 +1,11 @@
 -- The promises of the two public calls, for accepted and refused calls alike. Stripes have p data disks.
 use mathlib.Core.Path.{_≡_}
-use mathlib.Core.Bool.{_&&_}
+use mathlib.Core.Bool.{true, _&&_}
 use mathlib.Core.List.{List}
 use Prim.Native.Nat.{ℕ}
 use lib.Dec.{eqb}
 use Rattle.laws.specs.Choice.{pick, firstOf}
+use Rattle.laws.specs.Xor.{allBytes}
 use Rattle.liberation.specs.Sets.{widthFault, sizeFault, longFault}
 use Rattle.parity.specs.Stripes.{stripeLong, encoded, clean}
 use Rattle.sets.specs.declared.Answer.{Answer}
@@ -19,6 +20,8 @@ pub record EncodeSays (p s : ℕ) (t t′ : List ℕ) (r : Answer) : Type 0 wher
   pub number : r .number ≡ stripeFault p s t
   pub place : r .place ≡ 0
   pub stripe : t′ ≡ pick (eqb (stripeFault p s t) 0) (encoded p p s t) t
+  -- what was lent are bytes
+  pub bytes : allBytes t ≡ true
 
 pub record CheckSays (p s : ℕ) (t : List ℕ) (r : Checked) : Type 0 where
   pub number : r .number ≡ stripeFault p s t

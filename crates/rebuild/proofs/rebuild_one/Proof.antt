@@ -1,8 +1,11 @@
 -- `rebuild_one`: a refusal leaves the column as it was; else our plan is made and followed.
 use mathlib.Core.Path.{_≡_, sym, _∙_}
+use mathlib.Core.Bool.{true}
 use lib.ListN.{length}
+use Rattle.laws.specs.Xor.{allBytes}
 use Rattle.liberation.proofs.FaultLaws.{plan-none}
 use Rattle.planner.proofs.PlanLaws.{held-as, planned-is}
+use Rattle.xor.proofs.SourceLaws.{bytes-all}
 use Rattle.rebuild.specs.Says.{oneFault}
 use Rattle.rebuild.proofs.SaysLaws.{Fit, fault-none, refused, accepted}
 use borrow.Author.Needs.{needs}
@@ -17,6 +20,10 @@ passed c = sym (c .before .one-fault .ensures) ∙ c .if1 .left
 fit : (c : tie.Else1) → let a = c .before .before .before .before .args in Fit (a .width) (a .size) (a .disk) (length (a .stripe .now)) (length (a .column .now))
 fit c = let a = c .before .before .before .before .args in fault-none (a .width) (a .size) (a .disk) (length (a .stripe .now)) (length (a .column .now)) (passed c)
 
+-- the lent stripe is bytes
+bytes : (c : tie.After-shared-slice-known) → allBytes (c .before .args .stripe .now) ≡ true
+bytes c = bytes-all (c .before .args .stripe .now) (c .shared-slice-known .given)
+
 one-fault-requires : tie.Need-one-fault-requires
 one-fault-requires c κs = search needs
 
@@ -28,7 +35,7 @@ returns c =
     let i = c .before in
     let f = i .before .one-fault in
     let a = i .before .before .before .before .args in
-    refused (a .width) (a .size) (a .disk) (f .result) (a .stripe .now) (a .column .now) (c .answered .result) (f .ensures) (i .if1 .taken) (c .answered .ensures)
+    refused (a .width) (a .size) (a .disk) (f .result) (a .stripe .now) (a .column .now) (c .answered .result) (f .ensures) (i .if1 .taken) (c .answered .ensures) (bytes (i .before .before .before))
 
 plan-steps-requires : tie.Need-plan-steps-requires
 plan-steps-requires c κs = search needs
@@ -52,7 +59,7 @@ returns-2 c =
     let g = c .before .before .before in
     let i = g .before .before .before .before in
     let a = i .before .before .before .before .args in
-    accepted (a .width) (a .size) (a .disk) (a .stripe .now) (a .column .now) (g .follow .last .1 .1 .1 .1 .1 .0) (c .answered2 .result) (passed i) (g .follow .ensures) (c .answered2 .ensures)
+    accepted (a .width) (a .size) (a .disk) (a .stripe .now) (a .column .now) (g .follow .last .1 .1 .1 .1 .1 .0) (c .answered2 .result) (passed i) (g .follow .ensures) (c .answered2 .ensures) (bytes (i .before .before .before))
 
 pub rebuild-one-spec : {M : Type 1} → statement M
 rebuild-one-spec = tie.close (tie.spec one-fault-requires answered-requires returns plan-steps-requires follow-requires answered-requires-2 same-length returns-2)

@@ -1,6 +1,9 @@
 -- `rebuild_two`: a refusal leaves the stripe as it was; else both disks are rebuilt in it.
 use mathlib.Core.Path.{_≡_, sym, _∙_}
+use mathlib.Core.Bool.{true}
 use borrow.Author.Needs.{needs}
+use Rattle.laws.specs.Xor.{allBytes}
+use Rattle.xor.proofs.SourceLaws.{bytes-all}
 use Rattle.repair.specs.Says.{twoFault}
 use Rattle.repair.proofs.RefusalLaws.{fault-none, two-refused, two-done}
 use Rattle.repair.proofs.rebuild_two.Statement.{statement}
@@ -9,6 +12,10 @@ use Rattle.repair.proofs.rebuild_two.Tie as tie
 -- past the refusals
 passed : (c : tie.Else1) → let a = c .before .before .before .args in twoFault (a .width) (a .size) (a .first) (a .second) (a .stripe .now) ≡ 0
 passed c = sym (c .before .two-fault .ensures) ∙ c .if1 .left
+
+-- the lent stripe is bytes
+bytes : (c : tie.After-slice-known) → allBytes (c .before .args .stripe .now) ≡ true
+bytes c = bytes-all (c .before .args .stripe .now) (c .slice-known .given)
 
 two-fault-requires : tie.Need-two-fault-requires
 two-fault-requires c κs = search needs
@@ -21,7 +28,7 @@ returns c =
     let i = c .before in
     let f = i .before .two-fault in
     let a = i .before .before .before .args in
-    two-refused (a .width) (a .size) (a .first) (a .second) (f .result) (a .stripe .now) (c .answered .result) (f .ensures) (i .if1 .taken) (c .answered .ensures)
+    two-refused (a .width) (a .size) (a .first) (a .second) (f .result) (a .stripe .now) (c .answered .result) (f .ensures) (i .if1 .taken) (c .answered .ensures) (bytes (i .before .before))
 
 solve-pair-requires : tie.Need-solve-pair-requires
 solve-pair-requires c κs =
@@ -41,7 +48,7 @@ returns-2 c =
     let w = c .before .before .before in
     let i = w .before .before in
     let a = i .before .before .before .args in
-    two-done (a .width) (a .size) (a .first) (a .second) (a .stripe .now) (w .solve-pair .last .1 .1 .1 .1 .0) (c .answered2 .result) (passed i) (w .solve-pair .ensures) (c .answered2 .ensures)
+    two-done (a .width) (a .size) (a .first) (a .second) (a .stripe .now) (w .solve-pair .last .1 .1 .1 .1 .0) (c .answered2 .result) (passed i) (w .solve-pair .ensures) (c .answered2 .ensures) (bytes (i .before .before))
 
 pub rebuild-two-spec : {M : Type 1} → statement M
 rebuild-two-spec =

@@ -2,6 +2,7 @@
 use mathlib.Core.Path.{_≡_, sym, _∙_}
 use native.Mathlib.Omega.{arith}
 use borrow.Author.Needs.{needs}
+use Rattle.xor.proofs.SourceLaws.{bytes-all}
 use Rattle.runs.specs.Runs.{stepFault}
 use Rattle.runs.proofs.SaysLaws.{not-over, step-refused, step-done}
 use Rattle.runs.proofs.stepped.Statement.{statement}
@@ -22,7 +23,7 @@ returns c =
     let i = c .before in
     let f = i .before .step-fault in
     let a = i .before .before .before .before .args in
-    step-refused (a .run) (a .which) (f .result) (a .stripe .now) (a .column .now) (c .answered .result) (f .ensures) (i .if1 .taken) (c .answered .ensures)
+    step-refused (a .run) (a .which) (f .result) (a .stripe .now) (a .column .now) (c .answered .result) (f .ensures) (i .if1 .taken) (c .answered .ensures) (bytes-all (a .stripe .now) (i .before .before .before .shared-slice-known .given))
 
 rebuild-one-requires : tie.Need-rebuild-one-requires
 rebuild-one-requires c κs = search needs

@@ -1,8 +1,11 @@
 -- `encode_stripe`: a refusal leaves the stripe as it was; else P is written by the row sets, then Q by the diagonal sets.
 use mathlib.Core.Path.{_≡_, sym, _∙_}
+use mathlib.Core.Bool.{true}
 use native.Mathlib.Omega.{arith}
 use lib.ListN.{length}
 use borrow.Author.Needs.{needs}
+use Rattle.laws.specs.Xor.{allBytes}
+use Rattle.xor.proofs.SourceLaws.{bytes-all}
 use Rattle.stripes.specs.Cells.{Sized}
 use Rattle.stripes.specs.Says.{stripeFault}
 use Rattle.stripes.proofs.FaultLaws.{fault-none, encode-refused, encode-done}
@@ -16,6 +19,10 @@ passed c = sym (c .before .stripe-fault .ensures) ∙ c .if1 .left
 sized : (c : tie.Else1) → let a = c .before .before .before .args in Sized (a .width) (a .width) (a .size) (a .stripe .now)
 sized c = let a = c .before .before .before .args in fault-none (a .width) (a .size) (a .stripe .now) (passed c)
 
+-- the lent stripe is bytes
+bytes : (c : tie.After-slice-known) → allBytes (c .before .args .stripe .now) ≡ true
+bytes c = bytes-all (c .before .args .stripe .now) (c .slice-known .given)
+
 stripe-fault-requires : tie.Need-stripe-fault-requires
 stripe-fault-requires c κs = search needs
 
@@ -27,7 +34,7 @@ returns c =
     let q = c .before in
     let f = q .before .stripe-fault in
     let a = q .before .before .before .args in
-    encode-refused (a .width) (a .size) (f .result) (a .stripe .now) (c .answered .result) (f .ensures) (q .if1 .taken) (c .answered .ensures)
+    encode-refused (a .width) (a .size) (f .result) (a .stripe .now) (c .answered .result) (f .ensures) (q .if1 .taken) (c .answered .ensures) (bytes (q .before .before))
 
 encode-kind-requires : tie.Need-encode-kind-requires
 encode-kind-requires c κs = (sized (c .before), omega arith)
@@ -54,7 +61,7 @@ returns-2 c =
     let k = d .before .before .before .before in
     let e = k .before .before in
     let a = e .before .before .before .args in
-    encode-done (a .width) (a .size) (a .stripe .now) (k .encode-kind .last .1 .1 .1 .0) (d .encode-kind2 .last .1 .1 .1 .0) (c .answered2 .result) (passed e) (k .encode-kind .ensures) (d .encode-kind2 .ensures) (c .answered2 .ensures)
+    encode-done (a .width) (a .size) (a .stripe .now) (k .encode-kind .last .1 .1 .1 .0) (d .encode-kind2 .last .1 .1 .1 .0) (c .answered2 .result) (passed e) (k .encode-kind .ensures) (d .encode-kind2 .ensures) (c .answered2 .ensures) (bytes (e .before .before))
 
 pub encode-stripe-spec : {M : Type 1} → statement M
 encode-stripe-spec =

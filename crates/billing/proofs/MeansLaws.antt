@@ -1,0 +1,56 @@
+-- What an accepted bill means, of bytes or of a run: its bands add up to the bytes, and its cents are the fewest that cover what the bands cost.
+use mathlib.Core.Path.{_≡_, sym, ap, ap₂, subst, _∙_}
+use Prim.Native.Nat.{ℕ, _+_, _*_, _≤_, _<_}
+use native.Mathlib.Omega.{arith}
+use lib.Dec.{eqb}
+use Rattle.laws.specs.Choice.{pick}
+use Rattle.laws.proofs.ChoiceLaws.{first-none}
+use Rattle.runs.specs.declared.Run.{Run}
+use Rattle.runs.specs.declared.Progress.{Progress}
+use Rattle.runs.specs.Runs.{cellsSoFar, runFault, ProgressSays}
+use Rattle.billing.specs.declared.Bill.{Bill}
+use Rattle.billing.specs.Bills.{gib, inFirst, inSecond, inThird, charge, centsOf, billFault, Says, BillSays, runBytes, runBillFault, RunBillSays}
+use Rattle.billing.proofs.BillLaws.{bands-add, cents-enough, cents-fewest}
+
+-- what the bands of a bill cost at the rates r, s and t, in cents times bytes of a GiB
+abbrev pub costs : Bill → ℕ → ℕ → ℕ → ℕ
+costs x r s t = x .first * r + x .second * s + x .third * t
+
+-- An accepted bill x of b bytes.
+pub record BillMeans (b r s t : ℕ) (x : Bill) : Type 0 where
+  -- "bytes in each band, adding up to the whole"
+  pub whole : x .first + x .second + x .third ≡ b
+  -- "rounded up to a whole cent": the cents are enough
+  pub enough : costs x r s t ≤ x .cents * gib
+  -- and no fewer are
+  pub fewest : (n : ℕ) → costs x r s t ≤ n * gib → x .cents ≤ n
+
+means : (m b r s t : ℕ) (x : Bill) → Says m b r s t x → x .number ≡ 0 → BillMeans b r s t x
+means m b r s t x k z =
+    let e : m ≡ 0 = sym (k .number) ∙ z in
+    let got : (n : ℕ) → pick (eqb m 0) n 0 ≡ n = λ n. ap (λ (i : ℕ). pick (eqb i 0) n 0) e in
+    let i : x .first ≡ inFirst b = k .first ∙ got (inFirst b) in
+    let j : x .second ≡ inSecond b = k .second ∙ got (inSecond b) in
+    let l : x .third ≡ inThird b = k .third ∙ got (inThird b) in
+    let c : x .cents ≡ centsOf b r s t = k .cents ∙ got (centsOf b r s t) in
+    let cost : costs x r s t ≡ charge b r s t = ap₂ (λ (u v : ℕ). u * r + v * s + x .third * t) i j ∙ ap (λ (u : ℕ). inFirst b * r + inSecond b * s + u * t) l in
+    record {
+      whole = ap₂ (λ (u v : ℕ). u + v + x .third) i j ∙ ap (λ (u : ℕ). inFirst b + inSecond b + u) l ∙ bands-add b;
+      enough = rw (cost, c) (cents-enough b r s t);
+      fewest = λ n h. rw c (least-cents (charge b r s t) (centsOf b r s t) n (cents-fewest b r s t) (rw cost at h));
+    }
+  where
+    least-cents : (a c n : ℕ) → c * gib < a + gib → a ≤ n * gib → c ≤ n
+    least-cents a c n h l = omega arith
+
+pub bill-means : (b r s t : ℕ) (x : Bill) → BillSays b r s t x → x .number ≡ 0 → BillMeans b r s t x
+bill-means b r s t x k z = means (billFault b r s t) b r s t x k z
+
+pub run-bill-means : (x : Run) (r s t : ℕ) (y : Bill) → RunBillSays x r s t y → y .number ≡ 0 → BillMeans (runBytes x) r s t y
+run-bill-means x r s t y k z = means (runBillFault x r s t) (runBytes x) r s t y k z
+
+-- "The bill of a run takes cells read × s as its bytes": the cells that reading the record answers
+pub run-bill-read : (x : Run) (r s t : ℕ) (y : Bill) (g : Progress) → RunBillSays x r s t y → y .number ≡ 0 → ProgressSays x g → BillMeans (g .cells * x .size) r s t y
+run-bill-read x r s t y g k z q =
+    let e : runFault x ≡ 0 = first-none (runFault x) (billFault (runBytes x) r s t) (sym (k .number) ∙ z) .0 in
+    subst (λ (n : ℕ). BillMeans (n * x .size) r s t y) (sym (q .cells ∙ ap (λ (n : ℕ). pick (eqb n 0) (cellsSoFar x) 0) e)) (run-bill-means x r s t y k z)
