@@ -1,35 +1,38 @@
 -- One step: the XOR of the surviving cells of the set, read in the stripe, and of its other lost cells, read in the column, is that of the set's other cells in the stripe with the column put in.
 -- The cell of the step itself is none of the survivors, and among the lost cells it is the one of its row.
 use mathlib.Core.Path.{_≡_, refl, sym, ap, ap₂, subst, _∙_}
-use mathlib.Core.Bool.{Bool, true, false, _&&_, not, false≢true}
-use mathlib.Core.Logic.{⊎-elim}
+use mathlib.Core.Bool.{Bool, true, false, _&&_, not}
+use mathlib.Core.Logic.{_⊎_, inl, inr, ⊎-elim}
 use mathlib.Core.List.{List, [], _∷_}
-use Prim.Native.Nat.{ℕ, suc, _+_, _-_, _*_, _≤_, _<_}
-use native.Mathlib.Nat.{mod-lt}
+use Prim.Native.Nat.{ℕ, zero, suc, _+_, _-_, _*_, _≤_, _<_}
+use native.Mathlib.Nat.{mul-le-mul-right}
 use native.Mathlib.Omega.{arith}
-use lib.Dec.{eqb}
-use lib.ListN.{length, replicate, length-take, length-drop}
+use lib.Dec.{eqb, ltb}
+use lib.ListN.{length, getD, set, take, length-take, length-drop}
 use borrow.Rule.Slice.PartMut.{putMid, midOf}
-use borrow.Author.Tests.{eqb-true, eqb-false, eq-eqb, ne-eqb, not-true}
+use borrow.Author.Tests.{eqb-true, eqb-false, eq-eqb, ne-eqb, lt-ltb, le-ltb, not-true}
 use Rattle.laws.specs.Choice.{pick}
 use Rattle.laws.specs.Lists.{isIn}
 use Rattle.laws.specs.Xor.{xorL}
-use Rattle.laws.proofs.Flags.{and-l, and-r, or-cases}
-use Rattle.laws.proofs.XorLaws.{xorL-zero}
+use Rattle.laws.proofs.Flags.{and-l, and-r}
+use Rattle.laws.proofs.Modulo.{lt-or-le}
+use Rattle.laws.proofs.XorLaws.{xorL-zeros}
 use Rattle.liberation.specs.Sets.{place, rowAt, diskAt, setOf, lostIn, survivingIn}
 use Rattle.liberation.proofs.SetLaws.{disk-place, row-place, place-of, in-surviving, survivors-below}
 use Rattle.parity.specs.Stripes.{cellAt, withCell, withColumn, xorOver, without, solved}
-use Rattle.parity.proofs.CellLaws.{cell-fits, cell-long, with-same, cell-with, with-with, cell-other, cell-on, cell-off, column-put}
+use Rattle.parity.proofs.CellLaws.{cell-fits, cell-long, length-with, with-same, cell-with, with-with, cell-other, cell-on, cell-off, column-put}
 use Rattle.parity.proofs.OverLaws.{over-long, over-bytes, over-ext, over-split, in-without}
 use Rattle.parity.proofs.Solving.{cells-long}
-use Rattle.xor.specs.Parts.{xorOffsets}
-use Rattle.stripes.proofs.SourceLaws.{over-offsets, counted}
-use Rattle.xor.specs.Reach.{offsets, Inside}
-use Rattle.xor.specs.declared.Sources.{Sources}
+use Rattle.xor.specs.Parts.{withPart, xorOffsets}
+use Rattle.xor.specs.Reach.{Reached}
 use Rattle.xor.proofs.PartLaws.{put-part}
-use Rattle.stripes.specs.Cells.{scaled, Surviving}
-use Rattle.stripes.proofs.SurvivorLaws.{one-disk, survivors-inside}
+use Rattle.xor_within.specs.Beside.{Beside}
+use Rattle.offsets.specs.Offsets.{scaled, Pushed}
+use Rattle.offsets.proofs.OffsetLaws.{over-offsets}
+use Rattle.stripes.specs.Cells.{survivors}
+use Rattle.stripes.proofs.SetLists.{survivors-one, survivors-few, survivors-reached, size-fits}
 use Rattle.rebuild.specs.Cells.{Ready}
+use Rattle.rebuild.proofs.LostLaws.{lost-below}
 
 -- the cell of the step is on the lost disk, so no survivor is left out
 surviving-without : (p f row : ℕ) (xs : List ℕ) → row < p → survivingIn p f (without (place p row f) xs) ≡ survivingIn p f xs
@@ -62,33 +65,6 @@ lost-without p f row (x ∷ xs) h = go (eqb (place p row f) x) (eqb (diskAt p x)
         ∙ ap (λ (ys : List ℕ). rowAt p x ∷ ys) rest
         ∙ sym (ap (λ (t : Bool). pick t (without row (lostIn p f xs)) (rowAt p x ∷ without row (lostIn p f xs))) (ne-eqb row (rowAt p x) n))
     go false false e q rest = ap (λ (t : Bool). pick t (rowAt p x ∷ lostIn p f (without (place p row f) xs)) (lostIn p f (without (place p row f) xs))) q ∙ rest
-
--- the lost rows are rows
-lost-below : (p f r : ℕ) (xs : List ℕ) → 0 < p → isIn r (lostIn p f xs) ≡ true → r < p
-unfolding lostIn
-lost-below p f r [] h e = absurd (false≢true e)
-lost-below p f r (x ∷ xs) h e = go (eqb (diskAt p x) f) (λ t. lost-below p f r xs h t) e
-  where
-    go : (b : Bool) → (isIn r (lostIn p f xs) ≡ true → r < p) → isIn r (pick b (rowAt p x ∷ lostIn p f xs) (lostIn p f xs)) ≡ true → r < p
-    go true rest t = ⊎-elim (λ q. omega (arith, eqb-true r (rowAt p x) q, mod-lt x h)) rest (or-cases (eqb r (rowAt p x)) (isIn r (lostIn p f xs)) t)
-    go false rest t = rest t
-
--- a cell survives or is lost
-lost-count : (p f : ℕ) (xs : List ℕ) → length (lostIn p f xs) + length (survivingIn p f xs) ≡ length xs
-unfolding lostIn survivingIn
-lost-count p f [] = refl
-lost-count p f (x ∷ xs) = go (eqb (diskAt p x) f) (lost-count p f xs)
-  where
-    go : (b : Bool) → length (lostIn p f xs) + length (survivingIn p f xs) ≡ length xs → length (pick b (rowAt p x ∷ lostIn p f xs) (lostIn p f xs)) + length (pick b (survivingIn p f xs) (x ∷ survivingIn p f xs)) ≡ suc (length xs)
-    go true e = omega arith
-    go false e = omega arith
-
--- of one row, which is this one, no other is left
-only-row : (row : ℕ) (ys : List ℕ) → isIn row ys ≡ true → length ys ≤ 1 → without row ys ≡ []
-unfolding without
-only-row row [] h l = refl
-only-row row (y ∷ []) h l = ap (λ (b : Bool). pick b [] (y ∷ [])) (⊎-elim (λ q. q) (λ q. absurd (false≢true q)) (or-cases (eqb row y) false h))
-only-row row (y ∷ (z ∷ zs)) h l = absurd (omega arith)
 
 module _ (p s f row kind number : ℕ) (t col : List ℕ) (ready : Ready p s f row kind number t col) where
   abbrev xs : List ℕ
@@ -137,57 +113,98 @@ module _ (p s f row kind number : ℕ) (t col : List ℕ) (ready : Ready p s f r
       over-long s (cellAt s t) (survivingIn p f xs)
       (cells-long (p * (p + 2)) s (survivingIn p f xs) t (ready .stripe ∙ omega arith) (survivors-below p p f kind number (ready .within .numbered)))
 
-  -- each source has the length of the row's part, and lies in the stripe
-  pub sources-fit : (src : Sources) → length (src .at) ≡ 33 → Surviving p s f f kind number src → Inside (length (midOf (row * s) (row * s + s - row * s) col)) (length t) src
-  sources-fit src l k =
-      let e : length (midOf (row * s) (row * s + s - row * s) col) ≡ s = simp (length-take, length-drop) (omega (arith, row-fits)) in
-      subst (λ (n : ℕ). Inside n (length t) src) (sym e) (survivors-inside p s f f kind number t src (ready .within .numbered) (ready .stripe) l k)
+  -- the offsets of the survivors: each has the length of the row's part, and lies in the stripe
+  module _ (n : ℕ) (old at : List ℕ) (room : length at ≡ 33) (pushed : Pushed old at 0 n (scaled s (survivors p f f xs))) where
+    pub survivors-most : n ≤ 33
+    survivors-most = survivors-few p p s kind number f f n old at t (ready .within .numbered) room (ready .stripe) pushed .1
 
-  -- the sources are the survivors, and ys is their XOR: it is put into the row's part of the column
-  module _ (src : Sources) (ys : List ℕ) (k : Surviving p s f f kind number src) (gathered : ys ≡ xorOffsets (length (midOf (row * s) (row * s + s - row * s) col)) t (offsets src)) where
-    places : offsets src ≡ scaled s (survivingIn p f xs)
-    places = k .places ∙ ap (scaled s) (one-disk p f xs)
+    mid-long : length (midOf (row * s) (row * s + s - row * s) col) ≡ s
+    mid-long = simp (length-take, length-drop) (omega (arith, row-fits))
 
-    abbrev mid : List ℕ
-    mid = putMid (row * s) (row * s + s - row * s) col ys
+    pub sources-fit : (length (midOf (row * s) (row * s + s - row * s) col) ≤ length t) × Reached (length (midOf (row * s) (row * s + s - row * s) col)) (length t) (take n at)
+    sources-fit = (
+      omega (arith, mid-long, size-fits p p s kind number f f n old at t (ready .within .numbered) room (ready .stripe) pushed),
+      subst (λ (m : ℕ). Reached m (length t) (take n at)) (sym mid-long) (survivors-reached p p s kind number f f n old at t (ready .within .numbered) room (ready .stripe) pushed),
+    )
 
-    mid-is : mid ≡ withCell s row alive col
-    mid-is =
-        put-part (λ l. xorOffsets (length l) t (offsets src)) (row * s) s col ys gathered
-        ∙ ap (λ (n : ℕ). withCell s row (xorOffsets n t (offsets src)) col) (cell-long s row col row-fits)
-        ∙ ap (λ (l : List ℕ). withCell s row l col) (ap (xorOffsets s t) places ∙ over-offsets s t (survivingIn p f xs))
+    -- ys is their XOR: it is put into the row's part of the column
+    module _ (ys : List ℕ) (gathered : ys ≡ xorOffsets (length (midOf (row * s) (row * s + s - row * s) col)) t (take n at)) where
+      abbrev mid : List ℕ
+      mid = putMid (row * s) (row * s + s - row * s) col ys
 
-    stands : cellAt s mid row ≡ alive
-    stands = ap (λ (c : List ℕ). cellAt s c row) mid-is ∙ cell-with s row alive col alive-long row-fits
+      mid-is : mid ≡ withCell s row alive col
+      mid-is =
+          put-part (λ l. xorOffsets (length l) t (take n at)) (row * s) s col ys gathered
+          ∙ ap (λ (m : ℕ). withCell s row (xorOffsets m t (take n at)) col) (cell-long s row col row-fits)
+          ∙ ap (λ (l : List ℕ). withCell s row l col) (ap (xorOffsets s t) (pushed .list ∙ ap (scaled s) (survivors-one p f xs)) ∙ over-offsets s t (survivingIn p f xs))
 
-    -- then the other lost cells are added
-    pub step-done : (last : List ℕ) → last ≡ withCell s row (xorL (cellAt s mid row) (lost mid)) mid → withColumn p s f last t ≡ solved s (place p row f) xs whole
-    step-done last q =
-        ap (λ (c : List ℕ). withColumn p s f c t) (q ∙ ap₂ (λ (c m : List ℕ). withCell s row c m) (ap₂ xorL stands same ∙ sym others) mid-is ∙ with-with s row alive col alive-long row-fits new)
-        ∙ column-put p s f col t (ready .column) disk-fits row new (ready .rows)
-      where
-        new : List ℕ
-        new = xorOver s (cellAt s whole) (without (place p row f) xs)
+      stands : cellAt s mid row ≡ alive
+      stands = ap (λ (c : List ℕ). cellAt s c row) mid-is ∙ cell-with s row alive col alive-long row-fits
 
-        same : lost mid ≡ lost col
-        same =
-            over-ext s (cellAt s mid) (cellAt s col) (without row (lostIn p f xs))
-            (λ y h. ap (λ (c : List ℕ). cellAt s c y) mid-is ∙ cell-other s row alive col alive-long row-fits y (eqb-false y row (not-true (eqb y row) (and-r (isIn y (lostIn p f xs)) (not (eqb y row)) (kept-row y h)))))
+      -- then the other lost cells are added
+      step-done : (last : List ℕ) → last ≡ withCell s row (xorL (cellAt s mid row) (lost mid)) mid → withColumn p s f last t ≡ solved s (place p row f) xs whole
+      step-done last q =
+          ap (λ (c : List ℕ). withColumn p s f c t) (q ∙ ap₂ (λ (c m : List ℕ). withCell s row c m) (ap₂ xorL stands same ∙ sym others) mid-is ∙ with-with s row alive col alive-long row-fits new)
+          ∙ column-put p s f col t (ready .column) disk-fits row new (ready .rows)
+        where
+          new : List ℕ
+          new = xorOver s (cellAt s whole) (without (place p row f) xs)
 
-    -- where all cells of the set but one survive, none is to be added
-    pub step-alone : length (src .at) ≡ 33 → length xs ≤ src .count + 1 → withColumn p s f mid t ≡ solved s (place p row f) xs whole
-    unfolding xorOver
-    step-alone l few =
-        step-done mid
-        (sym
-        (ap (λ (c : List ℕ). withCell s row c mid)
-        (ap₂ xorL stands (ap (xorOver s (cellAt s mid)) none)
-        ∙ ap (λ (n : ℕ). xorL alive (replicate n 0)) (sym alive-long)
-        ∙ xorL-zero alive (over-bytes s (cellAt s t) (survivingIn p f xs))
-        ∙ sym stands)
-        ∙ with-same s row mid))
-      where
-        none : without row (lostIn p f xs) ≡ []
-        none =
-            only-row row (lostIn p f xs) (ready .own)
-            (omega (arith, few, lost-count p f xs, counted s (p * (p + 2)) (src .count) (survivingIn p f xs) (src .at) (survivors-below p p f kind number (ready .within .numbered)) (omega (arith, k .few)) places))
+          same : lost mid ≡ lost col
+          same =
+              over-ext s (cellAt s mid) (cellAt s col) (without row (lostIn p f xs))
+              (λ y h. ap (λ (c : List ℕ). cellAt s c y) mid-is ∙ cell-other s row alive col alive-long row-fits y (eqb-false y row (not-true (eqb y row) (and-r (isIn y (lostIn p f xs)) (not (eqb y row)) (kept-row y h)))))
+
+      -- there is no other
+      pub step-alone : (other : ℕ) → p ≤ other → without row (lostIn p f xs) ≡ pick (ltb other p) (other ∷ []) [] → withColumn p s f mid t ≡ solved s (place p row f) xs whole
+      unfolding xorOver
+      step-alone other h e =
+          step-done mid
+          (sym
+          (ap (λ (c : List ℕ). withCell s row c mid)
+          (ap₂ xorL stands (ap (xorOver s (cellAt s mid)) (e ∙ ap (λ (b : Bool). pick b (other ∷ []) []) (le-ltb other p h)))
+          ∙ xorL-zeros s alive alive-long (over-bytes s (cellAt s t) (survivingIn p f xs))
+          ∙ sym stands)
+          ∙ with-same s row mid))
+
+      -- there is one, and the list has the row's own cell and that one
+      module _ (other : ℕ) (h : other < p) (e : without row (lostIn p f xs) ≡ pick (ltb other p) (other ∷ []) []) (pair : List ℕ) (two : pair ≡ row * s ∷ (other * s ∷ [])) where
+        one-left : without row (lostIn p f xs) ≡ other ∷ []
+        one-left = e ∙ ap (λ (b : Bool). pick b (other ∷ []) []) (lt-ltb other p h)
+
+        apart : (other * s + s ≤ row * s) ⊎ (row * s ≤ other * s)
+        apart = ⊎-elim (λ l. inl (cell-fits row s other l)) (λ l. inr (mul-le-mul-right s l)) (lt-or-le other row)
+
+        mid-size : length mid ≡ p * s
+        mid-size = ap length mid-is ∙ length-with s row alive col alive-long row-fits ∙ ready .column
+
+        pub pair-beside : Beside (row * s) s (length mid) pair
+        pair-beside =
+            subst (Beside (row * s) s (length mid)) (sym two)
+            (record {
+              sources = record { few = omega arith; inside = inside };
+              fits = omega (arith, mid-size, cell-fits p s row (ready .rows));
+              apart = beside;
+            })
+          where
+            inside : (i : ℕ) → i < 2 → getD (row * s ∷ (other * s ∷ [])) i 0 + s ≤ length mid
+            inside zero l = omega (arith, mid-size, cell-fits p s row (ready .rows))
+            inside (suc zero) l = omega (arith, mid-size, cell-fits p s other h)
+            inside (suc (suc i)) l = absurd (omega arith)
+
+            beside : (i : ℕ) → i < 2 → (getD (row * s ∷ (other * s ∷ [])) i 0 + s ≤ row * s) ⊎ (row * s ≤ getD (row * s ∷ (other * s ∷ [])) i 0)
+            beside zero l = inr (omega arith)
+            beside (suc zero) l = apart
+            beside (suc (suc i)) l = absurd (omega arith)
+
+        pub step-added : (last : List ℕ) → last ≡ withPart s (row * s) (xorOffsets s mid pair) mid → withColumn p s f last t ≡ solved s (place p row f) xs whole
+        unfolding xorOffsets xorOver
+        step-added last q =
+            step-done last
+            (q ∙ ap (λ (l : List ℕ). withCell s row (xorOffsets s mid l) mid) two ∙ sym (ap (λ (l : List ℕ). withCell s row (xorL (cellAt s mid row) (xorOver s (cellAt s mid) l)) mid) one-left))
+
+-- the first two numbers of a list, put there one after the other
+pub two-put : (at : List ℕ) (a b : ℕ) → 2 ≤ length at → take 2 (set (set at 0 a) 1 b) ≡ a ∷ (b ∷ [])
+two-put [] a b h = absurd (omega arith)
+two-put (x ∷ []) a b h = absurd (omega arith)
+two-put (x ∷ (y ∷ at)) a b h = refl

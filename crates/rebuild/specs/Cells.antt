@@ -2,7 +2,7 @@
 use mathlib.Core.Path.{_≡_}
 use mathlib.Core.Bool.{true}
 use mathlib.Core.List.{List}
-use Prim.Native.Nat.{ℕ, _+_, _*_, _≤_, _<_}
+use Prim.Native.Nat.{ℕ, _+_, _*_, _%_, _≤_, _<_}
 use lib.ListN.{length}
 use Rattle.laws.specs.Lists.{isIn}
 use Rattle.liberation.specs.Sets.{isWidth, setOf, lostIn}
@@ -15,6 +15,7 @@ use Rattle.planner.specs.Records.{Holds}
 -- a step for disk f of a stripe t, with a lent column: the set holds the lost cell of the row
 pub record Ready (p s f row kind number : ℕ) (t col : List ℕ) : Type 0 where
   pub within : Within p p number
+  pub odd : p % 2 ≡ 1
   pub rows : row < p
   pub own : isIn row (lostIn p f (setOf p p kind number)) ≡ true
   pub disk : f ≤ p + 1

@@ -1,60 +1,42 @@
 // The rebuild of one lost disk: our plan's steps, one after another, from a lent stripe into a lent column. Each cell goes to its own stretch of the column.
 use planner::Steps;
 use sets::Answer;
-use xor::Sources;
 ghost use mathlib.Core.Path.{_≡_};
-ghost use mathlib.Core.Bool.{_&&_, not};
-ghost use Prim.Native.Nat.{_+_, _*_, _≤_, _<_};
-ghost use lib.Dec.{eqb};
+ghost use mathlib.Core.Bool.{true};
+ghost use mathlib.Core.List.{[], _∷_};
+ghost use Prim.Native.Nat.{_+_, _*_, _%_, _≤_, _<_};
+ghost use lib.Dec.{ltb};
 ghost use lib.ListN.{length};
 ghost use Rattle.laws.specs.Choice.{pick};
-ghost use Rattle.laws.specs.Xor.{xorL};
-ghost use Rattle.liberation.specs.Sets.{place, rowAt, diskAt, setOf, lostIn};
-ghost use Rattle.parity.specs.Stripes.{cellAt, withCell, withColumn, xorOver, without, solved, stripeLong, rebuilt};
+ghost use Rattle.laws.specs.Lists.{isIn};
+ghost use Rattle.liberation.specs.Sets.{place, setOf, lostIn};
+ghost use Rattle.parity.specs.Stripes.{withColumn, without, solved, stripeLong, rebuilt};
 ghost use Rattle.sets.specs.Limits.{Within};
 ghost use Rattle.rebuild.specs.Cells.{Ready, Ours};
 ghost use Rattle.rebuild.specs.Says.{lengthsFault, OneSays};
 
-// A cell on the lost disk, of another row, is added to the cell of this row.
-fn add_cell(width: usize, size: usize, disk: usize, row: usize, cell: usize, column: &mut [u8])
-    requires { ⌜ (row < width) × (width ≤ 31) × (disk ≤ 32) × (length (now column) ≡ width * size) ⌝ }
-    ensures { λ _. ⌜ now (column .exit) ≡ pick (eqb (diskAt width cell) disk && not (eqb row (rowAt width cell))) (withCell size row (xorL (cellAt size (now (column .entry)) row) (cellAt size (now (column .entry)) (rowAt width cell))) (now (column .entry))) (now (column .entry)) ⌝ }
+// The row of the set's other cell on the lost disk, the width if there is none. Only a diagonal whose extra cell is on that disk has two cells there: the extra one and an ordinary one.
+fn other_row(width: usize, disk: usize, row: usize, kind: usize, number: usize) -> usize
+    requires { ⌜ Within width width number × (width % 2 ≡ 1) × (row < width) × (isIn row (lostIn width disk (setOf width width kind number)) ≡ true) ⌝ }
+    ensures { λ r. ⌜ without row (lostIn width disk (setOf width width kind number)) ≡ pick (ltb r width) (r ∷ []) [] ⌝ }
 {
-    if !stripes::is_on(width, disk, cell) {
-        return;
+    if kind == 0 {
+        return width;
     }
-    let other = cell - disk * width;
-    if row == other {
-        return;
+    if number == 0 {
+        return width;
     }
-    within::add_one_within(column, row * size, size, other * size);
+    if sets::extra_disk(width, number) != disk {
+        return width;
+    }
+    let extra = width - 1 - number;
+    if extra != row {
+        return extra;
+    }
+    offsets::row_on(width, number, disk)
 }
 
-// The set's other cells on the lost disk, which earlier steps have rebuilt, are added to the cell of this row.
-fn add_lost(
-    width: usize,
-    size: usize,
-    disk: usize,
-    row: usize,
-    kind: usize,
-    number: usize,
-    column: &mut [u8],
-)
-    requires { ⌜ Within width width number × (row < width) × (disk ≤ 32) × (length (now column) ≡ width * size) ⌝ }
-    ensures { λ _. ⌜ now (column .exit) ≡ withCell size row (xorL (cellAt size (now (column .entry)) row) (xorOver size (cellAt size (now (column .entry))) (without row (lostIn width disk (setOf width width kind number))))) (now (column .entry)) ⌝ }
-{
-    let cells = sets::set_size(width, width, kind, number);
-    let mut on = number;
-    let mut i = 0;
-    while i < cells {
-        let cell = sets::cell_in_row(width, width, kind, number, i, on);
-        add_cell(width, size, disk, row, cell, column);
-        on = sets::next_row(width, on);
-        i += 1;
-    }
-}
-
-// One step: the lost disk's cell of this row becomes the XOR of the set's other cells. The surviving ones come from the stripe, the others from the column. Where all cells but one survive, there are no others.
+// One step: the lost disk's cell of this row becomes the XOR of the set's other cells. The surviving ones come from the stripe; another lost one, which an earlier step has rebuilt, from the column.
 fn rebuild_cell(
     width: usize,
     size: usize,
@@ -68,12 +50,16 @@ fn rebuild_cell(
     requires { ⌜ Ready width size disk row kind number (now stripe) (now column) ⌝ }
     ensures { λ _. ⌜ withColumn width size disk (now (column .exit)) (now (stripe .entry)) ≡ solved size (place width row disk) (setOf width width kind number) (withColumn width size disk (now (column .entry)) (now (stripe .entry))) ⌝ }
 {
-    let sources = stripes::surviving(width, size, disk, disk, kind, number);
+    let mut at = offsets::no_offsets();
+    let n = stripes::surviving(width, width, size, kind, number, disk, disk, &mut at);
     let start = row * size;
     let end = start + size;
-    xor::gather(&mut column[start..end], stripe, sources);
-    if sources.count + 1 < sets::set_size(width, width, kind, number) {
-        add_lost(width, size, disk, row, kind, number, column);
+    xor::gather(&mut column[start..end], stripe, &at[..n]);
+    let other = other_row(width, disk, row, kind, number);
+    if other < width {
+        at[0] = start;
+        at[1] = other * size;
+        xor_within::gather_within(column, start, size, &at[..2]);
     }
 }
 
@@ -123,9 +109,9 @@ pub fn rebuild_one(
 ) -> Answer
     ensures { λ r. ⌜ OneSays width size disk (now (stripe .entry)) (now (column .entry)) (now (column .exit)) r ⌝ }
 {
-    let fault = one_fault(width, size, disk, stripe.len(), column.len());
-    if fault != 0 {
-        return sets::answered(fault);
+    let refusal = one_fault(width, size, disk, stripe.len(), column.len());
+    if refusal != 0 {
+        return sets::answered(refusal);
     }
     let plan = planner::plan_steps(width, disk);
     let steps = plan.steps;

@@ -2,7 +2,7 @@
 use mathlib.Core.Path.{_≡_, refl, sym, ap, ap₂, _∙_}
 use mathlib.Core.Bool.{Bool, true, false, _&&_, _||_, not}
 use mathlib.Core.List.{List}
-use Prim.Native.Nat.{ℕ, suc, _+_, _*_, _≤_}
+use Prim.Native.Nat.{ℕ, suc, _+_, _*_, _≤_, _<_}
 use native.Mathlib.Nat.{mul-le-mul}
 use native.Mathlib.Omega.{arith}
 use lib.Dec.{eqb, ltb}
@@ -15,8 +15,8 @@ use Rattle.laws.proofs.Flags.{or-false-r}
 use Rattle.laws.proofs.ChoiceLaws.{first-none, first-kept, first-assoc, when-none}
 use Rattle.liberation.specs.Sets.{isWidth, widthFault, longFault, sizeFault, numbersFault}
 use Rattle.liberation.specs.Plans.{Step, allOf}
-use Rattle.liberation.proofs.Widths.{width-most}
-use Rattle.liberation.proofs.FaultLaws.{numbers-of, numbers-first}
+use Rattle.liberation.proofs.Widths.{width-least, width-most}
+use Rattle.liberation.proofs.FaultLaws.{width-of, numbers-of, numbers-first}
 use Rattle.liberation.proofs.ParityPlans.{plan-row-parity, plan-diagonal-parity}
 use Rattle.sets.specs.declared.Answer.{Answer}
 use Rattle.parity.specs.Stripes.{stripeLong, encoded, followed, clean, setClean}
@@ -60,6 +60,12 @@ fault-none p s t e =
       long = eqb-true (length t) (stripeLong p p s) (not-false (eqb (length t) (stripeLong p p s)) (when-none (not (eqb (length t) (stripeLong p p s))) 4 (v .1)));
     }
 
+-- and has rows
+pub fault-some : (p s : ℕ) (t : List ℕ) → stripeFault p s t ≡ 0 → 0 < p
+fault-some p s t e =
+    let w = first-none (widthFault p) (firstOf (sizeFault s) (longFault (stripeLong p p s) t)) e in
+    omega (arith, width-least p (width-of p (w .0)))
+
 pub encode-refused : (p s n : ℕ) (t : List ℕ) (r : Answer) → n ≡ stripeFault p s t → (n ≡ 0 → ⊥) → (r .number ≡ n) × (r .place ≡ 0) → allBytes t ≡ true → EncodeSays p s t t r
 encode-refused p s n t r e z a b =
     record {
@@ -70,16 +76,15 @@ encode-refused p s n t r e z a b =
     }
 
 -- P by the row sets, then Q by the diagonal sets
-both-kinds : (p s : ℕ) (t u v : List ℕ) → u ≡ followed p p s (p + 0) (allOf p 0 0) t → v ≡ followed p p s (p + 1) (allOf p 1 0) u → v ≡ encoded p p s t
+both-kinds : (p s : ℕ) (t u v : List ℕ) → u ≡ followed p p s p (allOf p 0 0) t → v ≡ followed p p s (p + 1) (allOf p 1 0) u → v ≡ encoded p p s t
 unfolding encoded
 both-kinds p s t u v e q =
-    let z : p + 0 ≡ p = omega arith in
     let o : p + 1 ≡ suc p = omega arith in
     q
-    ∙ ap₂ (λ (f : ℕ) (l : List ℕ). followed p p s f (allOf p 1 0) l) o (e ∙ ap (λ (f : ℕ). followed p p s f (allOf p 0 0) t) z)
+    ∙ ap₂ (λ (f : ℕ) (l : List ℕ). followed p p s f (allOf p 1 0) l) o e
     ∙ sym (ap₂ (λ (x y : List Step). followed p p s (suc p) y (followed p p s p x t)) (plan-row-parity p p) (plan-diagonal-parity p p))
 
-pub encode-done : (p s : ℕ) (t u v : List ℕ) (r : Answer) → stripeFault p s t ≡ 0 → u ≡ followed p p s (p + 0) (allOf p 0 0) t → v ≡ followed p p s (p + 1) (allOf p 1 0) u → (r .number ≡ 0) × (r .place ≡ 0) → allBytes t ≡ true → EncodeSays p s t v r
+pub encode-done : (p s : ℕ) (t u v : List ℕ) (r : Answer) → stripeFault p s t ≡ 0 → u ≡ followed p p s p (allOf p 0 0) t → v ≡ followed p p s (p + 1) (allOf p 1 0) u → (r .number ≡ 0) × (r .place ≡ 0) → allBytes t ≡ true → EncodeSays p s t v r
 encode-done p s t u v r z e q a b =
     record {
       number = a .0 ∙ sym z;

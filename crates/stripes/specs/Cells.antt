@@ -1,31 +1,38 @@
--- The cells of a set as sources of bytes, and what the functions over a stripe ask of it.
+-- The cells of a set whose offsets are pushed into a list, and what the functions over a stripe ask.
 use mathlib.Core.Path.{_≡_}
+use mathlib.Core.Bool.{true}
 use mathlib.Core.List.{List, [], _∷_}
-use Prim.Native.Nat.{ℕ, _*_, _≤_}
+use Prim.Native.Nat.{ℕ, suc, _+_, _≤_, _<_}
+use lib.Dec.{eqb}
 use lib.ListN.{length}
-use Rattle.liberation.specs.Sets.{setOf, survivingIn}
-use Rattle.parity.specs.Stripes.{without, stripeLong}
-use Rattle.xor.specs.declared.Sources.{Sources}
-use Rattle.xor.specs.Reach.{offsets}
-
--- the offsets of cells of s bytes, by their places
-unfoldable pub scaled : ℕ → List ℕ → List ℕ
-scaled s [] = []
-scaled s (x ∷ xs) = x * s ∷ scaled s xs
-
--- the sources are the cells of xs but x
-pub record Others (s x : ℕ) (xs : List ℕ) (src : Sources) : Type 0 where
-  pub few : src .count ≤ 33
-  pub places : offsets src ≡ scaled s (without x xs)
+use Rattle.laws.specs.Choice.{pick}
+use Rattle.laws.specs.Lists.{isIn}
+use Rattle.liberation.specs.Sets.{place, rowSet, ordinary, hasExtra, extraOf, survivingIn}
+use Rattle.parity.specs.Stripes.{stripeLong}
 
 -- the cells on neither of the disks x and y
 abbrev pub survivors : ℕ → ℕ → ℕ → List ℕ → List ℕ
 survivors p x y xs = survivingIn p x (survivingIn p y xs)
 
--- the sources are those of a set
-pub record Surviving (p s x y kind number : ℕ) (src : Sources) : Type 0 where
-  pub few : src .count ≤ 33
-  pub places : offsets src ≡ scaled s (survivors p x y (setOf p p kind number))
+-- a set's ordinary cells, one of each data disk and the parity cell; the disk of the parity cell; the extra cell, if the set has one
+abbrev pub ordinaryOf : ℕ → ℕ → ℕ → ℕ → List ℕ
+ordinaryOf p k kind i = pick (eqb kind 0) (rowSet p k i) (ordinary p k i)
+
+abbrev pub parityDisk : ℕ → ℕ → ℕ
+parityDisk k kind = pick (eqb kind 0) k (suc k)
+
+abbrev pub extraIn : ℕ → ℕ → ℕ → ℕ → List ℕ
+extraIn p k kind i = pick (eqb kind 0) [] (pick (hasExtra p k i) (extraOf p i ∷ []) [])
+
+-- set i of p rows and k data disks, with cells of s bytes, is to be pushed into a list of `long` numbers without its cells on disks x and y
+pub record Listing (p k s i x y long : ℕ) : Type 0 where
+  pub widest : p ≤ 31
+  pub disks : k ≤ p
+  pub numbered : i < p
+  pub small : s ≤ 4096
+  pub ordered : x ≤ y
+  pub last : y ≤ p + 2
+  pub room : long ≡ 33
 
 -- a stripe of p rows and k data disks, with cells of s bytes, is within the widest array and the largest cells
 pub record Sized (p k s : ℕ) (t : List ℕ) : Type 0 where
@@ -33,3 +40,9 @@ pub record Sized (p k s : ℕ) (t : List ℕ) : Type 0 where
   pub disks : k ≤ p
   pub small : s ≤ 4096
   pub long : length t ≡ stripeLong p k s
+
+-- row r of disk c holds an ordinary cell of set i
+pub record Ordinary (p k kind i c r : ℕ) : Type 0 where
+  pub numbered : i < p
+  pub row : r < p
+  pub own : isIn (place p r c) (ordinaryOf p k kind i) ≡ true

@@ -1,22 +1,20 @@
 // Encoding a stripe, which writes P and Q, and checking whether a stripe is clean.
 ghost use mathlib.Core.Path.{_≡_};
-ghost use mathlib.Core.Bool.{_||_, not};
-ghost use Prim.Native.Nat.{_+_, _*_, _≤_, _<_};
+ghost use mathlib.Core.Bool.{not};
+ghost use mathlib.Core.List.{[], _∷_, _++_};
+ghost use Prim.Native.Nat.{_+_, _-_, _*_, _≤_, _<_};
 ghost use lib.Dec.{eqb};
-ghost use lib.ListN.{length, replicate};
+ghost use lib.ListN.{length};
 ghost use Rattle.laws.specs.Choice.{firstOf, when};
-ghost use Rattle.laws.specs.Lists.{same};
 ghost use Rattle.laws.specs.Sums.{allTo};
-ghost use Rattle.liberation.specs.Sets.{diskAt, setOf, widthFault, sizeFault};
+ghost use Rattle.liberation.specs.Sets.{place, setOf, widthFault, sizeFault};
 ghost use Rattle.liberation.specs.Plans.{allOf};
 ghost use Rattle.sets.specs.Limits.{Within};
 ghost use Rattle.parity.specs.Stripes.{solved, followed, setClean, stripeLong};
-ghost use Rattle.xor.specs.Parts.{xorOffsets};
-ghost use Rattle.xor.specs.Reach.{offsets, Inside};
-ghost use Rattle.stripes.specs.Cells.{Others, Surviving, Sized};
+ghost use Rattle.offsets.specs.Offsets.{scaled, cellsFrom, Pushed};
+ghost use Rattle.stripes.specs.Cells.{survivors, ordinaryOf, parityDisk, extraIn, Listing, Sized, Ordinary};
 ghost use Rattle.stripes.specs.Says.{EncodeSays, CheckSays};
 use sets::Answer;
-use xor::Sources;
 
 // A refusal number (0 for none) and its place, or whether the stripe is clean.
 #[repr(C)]
@@ -26,163 +24,246 @@ pub struct Checked {
     pub clean: bool,
 }
 
-// The cells of a set but `cell`, as sources.
-fn other_cells(
+// The smaller one of two numbers.
+pub fn least(a: usize, b: usize) -> usize
+    ensures { λ r. ⌜ r ≡ b - (b - a) ⌝ }
+{
+    if a < b { a } else { b }
+}
+
+// The disk of a set's parity cell: P for a row set, Q for a diagonal set.
+fn parity_disk(disks: usize, kind: usize) -> usize
+    requires { ⌜ disks ≤ 31 ⌝ }
+    ensures { λ r. ⌜ r ≡ parityDisk disks kind ⌝ }
+{
+    if kind == 0 { disks } else { disks + 1 }
+}
+
+// The offset of a cell, after the first `count` numbers, unless the cell is on disk x or y; the new count.
+fn push_cell(
+    width: usize,
+    size: usize,
+    row: usize,
+    disk: usize,
+    x: usize,
+    y: usize,
+    at: &mut [usize],
+    count: usize,
+) -> usize
+    requires { ⌜ (width ≤ 31) × (row < width) × (disk ≤ 32) × (size ≤ 4096) × (count < length (now at)) ⌝ }
+    ensures { λ r. ⌜ Pushed (now (at .entry)) (now (at .exit)) count r (scaled size (survivors width x y (place width row disk ∷ []))) ⌝ }
+{
+    if disk == x {
+        return count;
+    }
+    if disk == y {
+        return count;
+    }
+    at[count] = (disk * width + row) * size;
+    count + 1
+}
+
+// The offsets of a set's cells on data disks but x and y: those before x, between x and y, and after y, so no test for each cell is needed.
+fn push_data(
     width: usize,
     disks: usize,
     size: usize,
     kind: usize,
     number: usize,
-    cell: usize,
-) -> Sources
-    requires { ⌜ Within width disks number ⌝ }
-    requires { ⌜ size ≤ 4096 ⌝ }
-    ensures { λ r. ⌜ Others size cell (setOf width disks kind number) r ⌝ }
-{
-    let n = sets::set_size(width, disks, kind, number);
-    let mut at: [usize; 33] = [0; 33];
-    let mut count = 0;
-    let mut row = number;
-    let mut i = 0;
-    while i < n {
-        let x = sets::cell_in_row(width, disks, kind, number, i, row);
-        if x != cell {
-            at[count] = x * size;
-            count += 1;
-        }
-        row = sets::next_row(width, row);
-        i += 1;
-    }
-    Sources {
-        at: at,
-        count: count,
-    }
-}
-
-// Is a cell on a disk? It is if it lies within the disk's cells, from the first one on: no division for each cell.
-pub fn is_on(width: usize, disk: usize, cell: usize) -> bool
-    requires { ⌜ (0 < width) × (width ≤ 31) × (disk ≤ 32) ⌝ }
-    ensures { λ r. ⌜ r ≡ eqb (diskAt width cell) disk ⌝ }
-{
-    let first = disk * width;
-    if cell < first {
-        return false;
-    }
-    cell - first < width
-}
-
-// Is a cell on one of two disks?
-fn is_on_either(width: usize, x: usize, y: usize, cell: usize) -> bool
-    requires { ⌜ (0 < width) × (width ≤ 31) × (x ≤ 32) × (y ≤ 32) ⌝ }
-    ensures { λ r. ⌜ r ≡ (eqb (diskAt width cell) x || eqb (diskAt width cell) y) ⌝ }
-{
-    if is_on(width, x, cell) {
-        return true;
-    }
-    is_on(width, y, cell)
-}
-
-// The cells of a set that are on neither of two lost disks, as sources. For one lost disk both are that disk.
-pub fn surviving(
-    width: usize,
-    size: usize,
     x: usize,
     y: usize,
-    kind: usize,
-    number: usize,
-) -> Sources
-    requires { ⌜ Within width width number × (size ≤ 4096) × (x ≤ 32) × (y ≤ 32) ⌝ }
-    ensures { λ r. ⌜ Surviving width size x y kind number r ⌝ }
+    at: &mut [usize],
+) -> usize
+    requires { ⌜ Listing width disks size number x y (length (now at)) ⌝ }
+    ensures { λ r. ⌜ Pushed (now (at .entry)) (now (at .exit)) 0 r (scaled size (survivors width x y (cellsFrom kind disks width number 0))) ⌝ }
 {
-    let cells = sets::set_size(width, width, kind, number);
-    let mut at: [usize; 33] = [0; 33];
-    let mut count = 0;
-    let mut row = number;
-    let mut i = 0;
-    while i < cells {
-        let cell = sets::cell_in_row(width, width, kind, number, i, row);
-        if !is_on_either(width, x, y, cell) {
-            at[count] = cell * size;
-            count += 1;
-        }
-        row = sets::next_row(width, row);
-        i += 1;
-    }
-    Sources {
-        at: at,
-        count: count,
-    }
+    let n = offsets::push(width, size, kind, number, 0, least(x, disks), at, 0);
+    let m = offsets::push(width, size, kind, number, x + 1, least(y, disks), at, n);
+    offsets::push(width, size, kind, number, y + 1, disks, at, m)
 }
 
-// The cell becomes the XOR of the other cells of a set.
+// The offsets of a set's ordinary cells but those on disks x and y.
+fn push_ordinary(
+    width: usize,
+    disks: usize,
+    size: usize,
+    kind: usize,
+    number: usize,
+    x: usize,
+    y: usize,
+    at: &mut [usize],
+) -> usize
+    requires { ⌜ Listing width disks size number x y (length (now at)) ⌝ }
+    ensures { λ r. ⌜ Pushed (now (at .entry)) (now (at .exit)) 0 r (scaled size (survivors width x y (ordinaryOf width disks kind number))) ⌝ }
+{
+    let n = push_data(width, disks, size, kind, number, x, y, at);
+    let parity = parity_disk(disks, kind);
+    push_cell(width, size, number, parity, x, y, at, n)
+}
+
+// The offset of a set's extra cell, after the first `count` numbers, unless there is none or it is on disk x or y; the new count.
+fn push_extra(
+    width: usize,
+    disks: usize,
+    size: usize,
+    kind: usize,
+    number: usize,
+    x: usize,
+    y: usize,
+    at: &mut [usize],
+    count: usize,
+) -> usize
+    requires { ⌜ Within width disks number × (size ≤ 4096) × (count < length (now at)) ⌝ }
+    ensures { λ r. ⌜ Pushed (now (at .entry)) (now (at .exit)) count r (scaled size (survivors width x y (extraIn width disks kind number))) ⌝ }
+{
+    if kind == 0 {
+        return count;
+    }
+    if number == 0 {
+        return count;
+    }
+    let disk = sets::extra_disk(width, number);
+    if disks <= disk {
+        return count;
+    }
+    push_cell(width, size, width - 1 - number, disk, x, y, at, count)
+}
+
+// The offsets of the cells of a set that are on neither of two lost disks, x ≤ y, in a lent list; their count. For one lost disk both are that disk.
+pub fn surviving(
+    width: usize,
+    disks: usize,
+    size: usize,
+    kind: usize,
+    number: usize,
+    x: usize,
+    y: usize,
+    at: &mut [usize],
+) -> usize
+    requires { ⌜ Listing width disks size number x y (length (now at)) ⌝ }
+    ensures { λ r. ⌜ Pushed (now (at .entry)) (now (at .exit)) 0 r (scaled size (survivors width x y (setOf width disks kind number))) ⌝ }
+{
+    let n = push_ordinary(width, disks, size, kind, number, x, y, at);
+    push_extra(width, disks, size, kind, number, x, y, at, n)
+}
+
+// The offsets of the cells of a set but its ordinary cell on a disk, in a lent list; their count. The extra cell is on a data disk, so never on P.
+fn others(
+    width: usize,
+    disks: usize,
+    size: usize,
+    kind: usize,
+    number: usize,
+    disk: usize,
+    at: &mut [usize],
+) -> usize
+    requires { ⌜ Listing width disks size number disk disk (length (now at)) ⌝ }
+    ensures { λ r. ⌜ Pushed (now (at .entry)) (now (at .exit)) 0 r (scaled size (survivors width disk disk (ordinaryOf width disks kind number) ++ extraIn width disks kind number)) ⌝ }
+{
+    let n = push_ordinary(width, disks, size, kind, number, disk, disk, at);
+    push_extra(width, disks, size, kind, number, disks, disks, at, n)
+}
+
+// A set's ordinary cell, of this disk and row, becomes the XOR of the other cells of the set, by a lent list.
+fn solve_by(
+    width: usize,
+    disks: usize,
+    size: usize,
+    kind: usize,
+    number: usize,
+    disk: usize,
+    row: usize,
+    stripe: &mut [u8],
+    at: &mut [usize],
+)
+    requires { ⌜ Sized width disks size (now stripe) × Ordinary width disks kind number disk row ⌝ }
+    requires { ⌜ length (now at) ≡ 33 ⌝ }
+    ensures { λ _. ⌜ now (stripe .exit) ≡ solved size (place width row disk) (setOf width disks kind number) (now (stripe .entry)) ⌝ }
+{
+    let n = others(width, disks, size, kind, number, disk, at);
+    let to = (disk * width + row) * size;
+    xor_within::gather_within(stripe, to, size, &at[..n]);
+}
+
+// The same by a list of its own.
 pub fn solve(
     width: usize,
     disks: usize,
     size: usize,
     kind: usize,
     number: usize,
-    cell: usize,
+    disk: usize,
+    row: usize,
     stripe: &mut [u8],
 )
-    requires { ⌜ Sized width disks size (now stripe) ⌝ }
-    requires { ⌜ (number < width) × (cell < width * (disks + 2)) ⌝ }
-    ensures { λ _. ⌜ now (stripe .exit) ≡ solved size cell (setOf width disks kind number) (now (stripe .entry)) ⌝ }
+    requires { ⌜ Sized width disks size (now stripe) × Ordinary width disks kind number disk row ⌝ }
+    ensures { λ _. ⌜ now (stripe .exit) ≡ solved size (place width row disk) (setOf width disks kind number) (now (stripe .entry)) ⌝ }
 {
-    let src = other_cells(width, disks, size, kind, number, cell);
-    within::gather_within(stripe, cell * size, size, src);
+    let mut at = offsets::no_offsets();
+    solve_by(width, disks, size, kind, number, disk, row, stripe, &mut at);
 }
 
-// Writes the parity cells of one kind, each by its set.
-fn encode_kind(width: usize, size: usize, kind: usize, stripe: &mut [u8])
-    requires { ⌜ Sized width width size (now stripe) ⌝ }
-    requires { ⌜ kind ≤ 1 ⌝ }
-    ensures { λ _. ⌜ now (stripe .exit) ≡ followed width width size (width + kind) (allOf width kind 0) (now (stripe .entry)) ⌝ }
+// All cells of a data disk or of P by the row sets, as one run of bytes: the column becomes the XOR of the other columns.
+pub fn solve_rows(width: usize, disks: usize, size: usize, disk: usize, stripe: &mut [u8])
+    requires { ⌜ Sized width disks size (now stripe) × (0 < width) × (disk ≤ disks) ⌝ }
+    ensures { λ _. ⌜ now (stripe .exit) ≡ followed width disks size disk (allOf width 0 0) (now (stripe .entry)) ⌝ }
 {
-    let first = (width + kind) * width;
+    let mut at = offsets::no_offsets();
+    let n = offsets::push_row(width, size, 0, 0, disk, &mut at, 0);
+    let m = offsets::push_row(width, size, 0, disk + 1, disks + 1, &mut at, n);
+    let column = width * size;
+    xor_within::gather_within(stripe, disk * column, column, &at[..m]);
+}
+
+// All cells of Q, each by its diagonal set.
+pub fn solve_diagonals(width: usize, disks: usize, size: usize, stripe: &mut [u8])
+    requires { ⌜ Sized width disks size (now stripe) ⌝ }
+    ensures { λ _. ⌜ now (stripe .exit) ≡ followed width disks size (disks + 1) (allOf width 1 0) (now (stripe .entry)) ⌝ }
+{
+    let mut at = offsets::no_offsets();
     let mut i = 0;
     while i < width {
-        solve(width, width, size, kind, i, first + i, stripe);
+        solve_by(width, disks, size, 1, i, disks + 1, i, stripe, &mut at);
         i += 1;
     }
 }
 
-// Bytes for the largest cell.
-fn no_bytes() -> [u8; 4096]
-    ensures { λ r. ⌜ length r ≡ 4096 ⌝ }
+// Do the cells of every row set XOR to zero? One run of bytes over the columns of the data disks and P.
+fn rows_are_clean(width: usize, disks: usize, size: usize, stripe: &[u8]) -> bool
+    requires { ⌜ Sized width disks size (now stripe) × (0 < width) ⌝ }
+    ensures { λ r. ⌜ r ≡ allTo width (λ i. setClean width disks size (now (stripe .entry)) 0 i) ⌝ }
 {
-    [0; 4096]
+    let mut at = offsets::no_offsets();
+    let n = offsets::push_row(width, size, 0, 0, disks + 1, &mut at, 0);
+    xor::is_zero(stripe, width * size, &at[..n])
 }
 
-// Do the sources XOR to zero?
-fn sum_is_zero(size: usize, stripe: &[u8], src: Sources) -> bool
-    requires { ⌜ size ≤ 4096 ⌝ }
-    requires { ⌜ Inside size (length (now stripe)) src ⌝ }
-    ensures { λ r. ⌜ r ≡ same (xorOffsets size (now (stripe .entry)) (offsets src)) (replicate size 0) ⌝ }
+// Do the cells of a diagonal set XOR to zero? There is no disk past Q, so all are pushed.
+fn diagonal_is_clean(
+    width: usize,
+    disks: usize,
+    size: usize,
+    number: usize,
+    stripe: &[u8],
+    at: &mut [usize],
+) -> bool
+    requires { ⌜ Sized width disks size (now stripe) × (number < width) × (length (now at) ≡ 33) ⌝ }
+    ensures { λ r. ⌜ r ≡ setClean width disks size (now (stripe .entry)) 1 number ⌝ }
 {
-    let mut sum = no_bytes();
-    xor::gather(&mut sum[..size], stripe, src);
-    xor::all_zero(&sum[..size])
+    let none = disks + 2;
+    let n = surviving(width, disks, size, 1, number, none, none, at);
+    xor::is_zero(stripe, size, &at[..n])
 }
 
-// Do the cells of a set XOR to zero?
-fn set_is_clean(width: usize, size: usize, kind: usize, number: usize, stripe: &[u8]) -> bool
-    requires { ⌜ Sized width width size (now stripe) ⌝ }
-    requires { ⌜ number < width ⌝ }
-    ensures { λ r. ⌜ r ≡ setClean width width size (now (stripe .entry)) kind number ⌝ }
+// Do the cells of every diagonal set XOR to zero?
+fn diagonals_are_clean(width: usize, disks: usize, size: usize, stripe: &[u8]) -> bool
+    requires { ⌜ Sized width disks size (now stripe) ⌝ }
+    ensures { λ r. ⌜ r ≡ allTo width (λ i. setClean width disks size (now (stripe .entry)) 1 i) ⌝ }
 {
-    let none = width * (width + 2);
-    let src = other_cells(width, width, size, kind, number, none);
-    sum_is_zero(size, stripe, src)
-}
-
-// Do all sets of one kind XOR to zero?
-fn kind_is_clean(width: usize, size: usize, kind: usize, stripe: &[u8]) -> bool
-    requires { ⌜ Sized width width size (now stripe) ⌝ }
-    ensures { λ r. ⌜ r ≡ allTo width (λ i. setClean width width size (now (stripe .entry)) kind i) ⌝ }
-{
+    let mut at = offsets::no_offsets();
     let mut number = 0;
     while number < width {
-        if !set_is_clean(width, size, kind, number, stripe) {
+        if !diagonal_is_clean(width, disks, size, number, stripe, &mut at) {
             return false;
         }
         number += 1;
@@ -212,8 +293,8 @@ pub fn encode_stripe(width: usize, size: usize, stripe: &mut [u8]) -> Answer
     if fault != 0 {
         return sets::answered(fault);
     }
-    encode_kind(width, size, 0, stripe);
-    encode_kind(width, size, 1, stripe);
+    solve_rows(width, width, size, width, stripe);
+    solve_diagonals(width, width, size, stripe);
     sets::answered(0)
 }
 
@@ -229,9 +310,9 @@ pub fn check_stripe(width: usize, size: usize, stripe: &[u8]) -> Checked
             clean: false,
         };
     }
-    let mut clean = kind_is_clean(width, size, 0, stripe);
+    let mut clean = rows_are_clean(width, width, size, stripe);
     if clean {
-        clean = kind_is_clean(width, size, 1, stripe);
+        clean = diagonals_are_clean(width, width, size, stripe);
     }
     Checked {
         number: 0,

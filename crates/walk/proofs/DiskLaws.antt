@@ -1,28 +1,37 @@
 -- Two lost disks: where the first cell is, the first cell found, the walk, and the order of the disks.
 use mathlib.Core.Path.{_≡_, refl, sym, ap, ap₂, subst, _∙_}
 use mathlib.Core.Bool.{Bool, true, false}
+use mathlib.Core.Logic.{⊎-elim}
 use mathlib.Core.List.{List}
 use Prim.Native.Nat.{ℕ, _+_, _-_, _*_, _/_, _%_, _≤_, _<_}
 use native.Mathlib.Numerals.{add-one}
 use native.Mathlib.Omega.{arith}
 use lib.Dec.{eqb, leb}
-use lib.ListN.{replicate}
+use lib.ListN.{length, getD, replicate, length-replicate, getD-replicate}
 use borrow.Author.Tests.{leb-true, eqb-false, lt-ltb, le-ltb, eq-eqb, ne-eqb}
 use Rattle.laws.specs.Choice.{pick}
 use Rattle.laws.specs.Lists.{isIn}
-use Rattle.laws.proofs.Flags.{and-l, clash}
+use Rattle.laws.proofs.Flags.{and-l, clash, flag}
+use Rattle.laws.proofs.MemberLaws.{at-in}
 use Rattle.liberation.specs.Sets.{place, rowSet}
 use Rattle.liberation.specs.Plans.{allOf}
 use Rattle.liberation.proofs.SetLaws.{place-below}
-use Rattle.parity.specs.Stripes.{withCell, solved, followed}
+use Rattle.parity.specs.Stripes.{cellAt, withCell, solved, followed}
+use Rattle.parity.proofs.CellLaws.{cell-fits, cell-long}
 use Rattle.pairs.specs.Pairs.{extraRowOn, startSets, startCount, firstDisk, otherDisk, startCells, firstCell, started, diagonalWalk, walked, comesToOne, forward, dataSolved, upDiagonals, withRowParity, withDiagonalParity, orderedSolved, pairSolved}
 use Rattle.pairs.specs.PairSteps.{isLost}
 use Rattle.pairs.proofs.FirstCell.{start-survives}
 use Rattle.pairs.proofs.Upward.{lost-first, lost-second}
+use Rattle.xor.specs.Parts.{withPart, xorOffsets}
+use Rattle.offsets.specs.Offsets.{scaled}
+use Rattle.offsets.proofs.OffsetLaws.{over-offsets}
+use Rattle.odd.specs.Toggled.{isOdd, oddFrom, toggledAll}
+use Rattle.odd.specs.Listed.{Marked}
+use Rattle.odd.proofs.OddLaws.{odd-offsets}
 use Rattle.stripes.specs.Cells.{survivors, Sized}
-use Rattle.walk.specs.Adding.{addedTo, Lost, Walked}
+use Rattle.walk.specs.Disks.{Walked}
 use Rattle.walk.proofs.RoleLaws.{extra-below}
-use Rattle.walk.proofs.AddLaws.{cleared-is}
+use Rattle.walk.proofs.ToggleLaws.{toggled-long, toggled-other}
 
 -- x and y are walked
 module _ (p x y : ℕ) (k : Walked p x y) where
@@ -47,12 +56,11 @@ module _ (p x y : ℕ) (k : Walked p x y) where
       go true e = omega (arith, k .other)
       go false e = omega (arith, k .high)
 
-  first-lost : Lost p x y (firstCell p x y)
-  first-lost =
-      record {
-        below = place-below p (p + 2) (extraRowOn p x) (firstDisk x y) row-below (omega (arith, first-range (firstDisk x y) refl));
-        lost = go (eqb y 0);
-      }
+  first-below : firstCell p x y < p * (p + 2)
+  first-below = place-below p (p + 2) (extraRowOn p x) (firstDisk x y) row-below (omega (arith, first-range (firstDisk x y) refl))
+
+  first-lost : isLost p x y (firstCell p x y) ≡ true
+  first-lost = go (eqb y 0)
     where
       go : (b : Bool) → isLost p x y (place p (extraRowOn p x) (pick b x y)) ≡ true
       go true = lost-first p x y (extraRowOn p x) row-below
@@ -62,26 +70,50 @@ module _ (p x y : ℕ) (k : Walked p x y) where
   first-place : (f r : ℕ) → f ≡ firstDisk x y → r ≡ extraRowOn p x → f * p + r ≡ firstCell p x y
   first-place f r ef er = ap₂ (λ (a b : ℕ). a * p + b) ef er
 
-  pub start-lost : (f r : ℕ) → f ≡ firstDisk x y → r ≡ extraRowOn p x → Lost p x y (f * p + r)
-  start-lost f r ef er = subst (λ (d : ℕ). Lost p x y d) (sym (first-place f r ef er)) first-lost
+  from-below : extraRowOn p (firstDisk x y) < p
+  from-below = let g = first-range (firstDisk x y) refl in extra-below p (firstDisk x y) (k .odd) (g .0) (g .1) .1
 
-  -- the cell cleared, and the surviving cells of the start's sets added
-  pub start-done : (s f r q n : ℕ) (t u v : List ℕ) → Sized p p s t → f ≡ firstDisk x y → r ≡ extraRowOn p x → q ≡ extraRowOn p f → n ≡ startCount p y
-      → u ≡ withCell s (f * p + r) (replicate s 0) t → v ≡ addedTo s (f * p + r) (survivors p x y (startSets n p p x y q)) u → v ≡ started p p s x y t
-  unfolding startCells
-  start-done s f r q n t u v z ef er eq en eu ev =
-      ev
-      ∙ ap₂ (λ (m i : ℕ). addedTo s (f * p + r) (survivors p x y (startSets m p p x y i)) u) en (eq ∙ ap (extraRowOn p) ef)
-      ∙ ap (λ (d : ℕ). addedTo s d (startCells p p x y) u) (first-place f r ef er)
-      ∙ cleared-is (p * (p + 2)) s (firstCell p x y) (startCells p p x y) t u (omega (arith, z .long)) (first-lost .below) others (eu ∙ ap (λ (d : ℕ). withCell s d (replicate s 0) t) (first-place f r ef er))
-    where
-      from : extraRowOn p (firstDisk x y) < p
-      from = let g = first-range (firstDisk x y) refl in extra-below p (firstDisk x y) (k .odd) (g .0) (g .1) .1
+  -- the first cell is none of the cells that it is found from
+  first-apart : isIn (firstCell p x y) (startCells p p x y) ≡ false
+  first-apart = ⊎-elim (λ m. clash (isLost p x y (firstCell p x y)) first-lost (start-survives p p x y (firstCell p x y) from-below m .0)) (λ m. m) (flag (isIn (firstCell p x y) (startCells p p x y)))
 
-      others : (c : ℕ) → isIn c (startCells p p x y) ≡ true → (c < p * (p + 2)) × (c ≡ firstCell p x y → ⊥)
-      others c m =
-          let g = start-survives p p x y c from m in
-          (g .1, λ e. clash (isLost p x y (firstCell p x y)) (first-lost .lost) (ap (isLost p x y) (sym e) ∙ g .0))
+  -- the marks of the start's sets were toggled, from no mark at all
+  module _ (s f r q n : ℕ) (ms t : List ℕ) (z : Sized p p s t) (ef : f ≡ firstDisk x y) (er : r ≡ extraRowOn p x) (eq : q ≡ extraRowOn p f) (en : n ≡ startCount p y)
+      (made : ms ≡ toggledAll (survivors p x y (startSets n p p x y q)) (replicate (p * (p + 2)) 0)) where
+    marked : ms ≡ toggledAll (startCells p p x y) (replicate (p * (p + 2)) 0)
+    unfolding startCells
+    marked = made ∙ ap₂ (λ (m i : ℕ). toggledAll (survivors p x y (startSets m p p x y i)) (replicate (p * (p + 2)) 0)) en (eq ∙ ap (extraRowOn p) ef)
+
+    pub marks-long : length ms ≡ p * (p + 2)
+    marks-long = ap length marked ∙ toggled-long (startCells p p x y) (replicate (p * (p + 2)) 0) ∙ length-replicate (p * (p + 2)) 0
+
+    pub start-marked : p * (p + 2) ≤ 1023 → Marked s (f * p + r) ms t
+    start-marked few =
+        subst (λ (d : ℕ). Marked s d ms t) (sym (first-place f r ef er))
+        (record {
+          few = omega (arith, marks-long);
+          small = z .small;
+          cells = ap-le (ap (λ (m : ℕ). m * s) marks-long);
+          place = omega (arith, first-below, marks-long);
+          even = ap isOdd (ap (λ (l : List ℕ). getD l (firstCell p x y) 0) marked ∙ toggled-other (firstCell p x y) (startCells p p x y) (replicate (p * (p + 2)) 0) first-apart ∙ getD-replicate (p * (p + 2)) (firstCell p x y) 0 0 first-below);
+        })
+      where
+        ap-le : length ms * s ≡ p * (p + 2) * s → length ms * s ≤ length t
+        ap-le e = omega (arith, e, z .long)
+
+    -- the odd cells gathered
+    pub start-done : (v : List ℕ) → v ≡ withPart s ((f * p + r) * s) (xorOffsets s t (scaled s (oddFrom 0 ms))) t → v ≡ started p p s x y t
+    start-done v ev =
+        ev
+        ∙ ap (λ (d : ℕ). withPart s (d * s) (xorOffsets s t (scaled s (oddFrom 0 ms))) t) (first-place f r ef er)
+        ∙ ap (λ (l : List ℕ). withCell s (firstCell p x y) l t)
+        (ap (λ (l : List ℕ). xorOffsets s t (scaled s (oddFrom 0 l))) marked ∙ odd-offsets s (p * (p + 2)) t (startCells p p x y) cells below ∙ over-offsets s t (startCells p p x y))
+      where
+        cells : (c : ℕ) → c < p * (p + 2) → length (cellAt s t c) ≡ s
+        cells c h = cell-long s c t (omega (arith, cell-fits (p * (p + 2)) s c h, z .long))
+
+        below : (i : ℕ) → i < length (startCells p p x y) → getD (startCells p p x y) i 0 < p * (p + 2)
+        below i h = start-survives p p x y (getD (startCells p p x y) i 0) from-below (at-in i (startCells p p x y) h) .1
 
   -- the first cell, its row's other cell, the walk
   pub walk-done : (s r o : ℕ) (t u v w : List ℕ) → r ≡ extraRowOn p x → o ≡ otherDisk x y → u ≡ started p p s x y t → v ≡ solved s (o * p + r) (rowSet p p r) u → w ≡ diagonalWalk (2 * (p - 1)) p p s x y r v → w ≡ walked p p s x y t

@@ -1,13 +1,15 @@
 -- The loops over the rows of a disk, and the walk's clauses at a number of the code's: none left, and one less.
 use mathlib.Core.Path.{_≡_, refl, sym, ap, ap₂, _∙_}
 use mathlib.Core.List.{List}
-use Prim.Native.Nat.{ℕ, zero, suc, _+_, _-_, _*_, _≤_, _<_}
-use native.Mathlib.Nat.{mul-le-mul}
+use Prim.Native.Nat.{ℕ, zero, suc, _+_, _-_, _%_, _≤_, _<_}
+use native.Mathlib.Nat.{mod-lt}
 use native.Mathlib.Numerals.{add-one}
 use native.Mathlib.Omega.{arith}
 use lib.ListN.{length}
+use borrow.Author.Tests.{eqb-true, eq-eqb}
 use Rattle.liberation.specs.Sets.{place, rowSet, diagonalSet}
 use Rattle.liberation.specs.Plans.{diagonalOf}
+use Rattle.liberation.proofs.SetLaws.{diagonal-of}
 use Rattle.parity.specs.Stripes.{solved, followed}
 use Rattle.pairs.specs.Pairs.{upDiagonals, nextRow, diagonalWalk, rowWalk}
 use Rattle.stripes.specs.Cells.{Sized}
@@ -16,9 +18,11 @@ use Rattle.stripes.specs.Cells.{Sized}
 pub sized-kept : (p s : ℕ) (t u : List ℕ) → Sized p p s t → length u ≡ length t → Sized p p s u
 sized-kept p s t u q e = record { widest = q .widest; disks = q .disks; small = q .small; long = e ∙ q .long }
 
--- the place of a disk's first cell is small enough to count with
-pub first-most : (p f : ℕ) → p ≤ 31 → f ≤ p + 1 → f * p ≤ 992
-first-most p f h k = let m : f ≤ 32 = omega arith in omega (arith, mul-le-mul m h)
+-- row j's cell on disk f is ordinary on its diagonal
+pub up-row : (p f j : ℕ) → f < p → j < p → j ≡ (diagonalOf p f j + f) % p
+up-row p f j h k =
+    let b : diagonalOf p f j < p = mod-lt (j + p - f) (omega arith) in
+    eqb-true j ((diagonalOf p f j + f) % p) (diagonal-of p (diagonalOf p f j) j f b k h ∙ eq-eqb (diagonalOf p f j) (diagonalOf p f j) refl)
 
 -- the diagonal steps for disk f from row j on, done to a stripe
 module _ (p s f : ℕ) where

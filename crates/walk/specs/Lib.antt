@@ -1,2 +1,2 @@
--- What the walk over two lost disks is given, and cells added to a lost one.
-pub mod Adding
+-- What the walk over two lost disks is given.
+pub mod Disks

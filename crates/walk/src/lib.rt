@@ -1,29 +1,12 @@
 // Two lost disks of a stripe within its limits, rebuilt in place: document 01, "Two lost disks". The first cell, and the walk as two functions that call each other.
 ghost use mathlib.Core.Path.{_≡_};
-ghost use mathlib.Core.Bool.{true};
 ghost use Prim.Native.Nat.{_+_, _-_, _*_, _/_, _%_, _≤_, _<_};
-ghost use lib.ListN.{length, replicate};
-ghost use Rattle.laws.specs.Xor.{allBytes};
 ghost use Rattle.liberation.specs.Sets.{setOf};
-ghost use Rattle.liberation.specs.Plans.{allOf};
-ghost use Rattle.parity.specs.Stripes.{cellAt, withCell, followed};
+ghost use Rattle.parity.specs.Stripes.{followed};
 ghost use Rattle.pairs.specs.Pairs.{extraRowOn, startSets, startCount, firstDisk, otherDisk, started, diagonalWalk, rowWalk, walked, comesToOne, forward, dataSolved, upDiagonals, withRowParity, withDiagonalParity, orderedSolved, pairSolved};
+ghost use Rattle.odd.specs.Toggled.{toggledAll};
 ghost use Rattle.stripes.specs.Cells.{survivors, Sized};
-ghost use Rattle.walk.specs.Adding.{addedTo, Lost, Walked};
-
-// All cells of a disk, each by the set of its row's number.
-fn solve_all(width: usize, size: usize, disk: usize, kind: usize, stripe: &mut [u8])
-    requires { ⌜ Sized width width size (now stripe) ⌝ }
-    requires { ⌜ disk ≤ width + 1 ⌝ }
-    ensures { λ _. ⌜ now (stripe .exit) ≡ followed width width size disk (allOf width kind 0) (now (stripe .entry)) ⌝ }
-{
-    let first = disk * width;
-    let mut i = 0;
-    while i < width {
-        stripes::solve(width, width, size, kind, i, first + i, stripe);
-        i += 1;
-    }
-}
+ghost use Rattle.walk.specs.Disks.{Toggling, Walked};
 
 // All cells of a data disk, rows upward, each by the diagonal set on which it is ordinary.
 fn up_diagonals(width: usize, size: usize, disk: usize, stripe: &mut [u8])
@@ -31,11 +14,10 @@ fn up_diagonals(width: usize, size: usize, disk: usize, stripe: &mut [u8])
     requires { ⌜ disk < width ⌝ }
     ensures { λ _. ⌜ now (stripe .exit) ≡ followed width width size disk (upDiagonals width width disk 0) (now (stripe .entry)) ⌝ }
 {
-    let first = disk * width;
     let mut i = 0;
     while i < width {
         let number = (i + width - disk) % width;
-        stripes::solve(width, width, size, 1, number, first + i, stripe);
+        stripes::solve(width, width, size, 1, number, disk, i, stripe);
         i += 1;
     }
 }
@@ -59,7 +41,7 @@ fn diagonal_step(
     }
     let number = (row + width - x) % width;
     let next = (number + y) % width;
-    stripes::solve(width, width, size, 1, number, y * width + next, stripe);
+    stripes::solve(width, width, size, 1, number, y, next, stripe);
     row_step(left - 1, width, size, x, y, next, stripe);
 }
 
@@ -80,54 +62,48 @@ fn row_step(
     if left == 0 {
         return;
     }
-    stripes::solve(width, width, size, 0, row, x * width + row, stripe);
+    stripes::solve(width, width, size, 0, row, x, row, stripe);
     diagonal_step(left - 1, width, size, x, y, row, stripe);
 }
 
-// The surviving cells of a set are added to the lost cell `to`, which holds bytes.
-fn add_set(
+// The marks of a set's surviving cells are toggled. Cells of one byte have their places as offsets.
+fn toggle_set(
     width: usize,
-    size: usize,
     x: usize,
     y: usize,
     kind: usize,
     number: usize,
-    to: usize,
-    stripe: &mut [u8],
+    marks: &mut [u8],
+    at: &mut [usize],
 )
-    requires { ⌜ Sized width width size (now stripe) ⌝ }
-    requires { ⌜ (x < width) × (y < width) × (number < width) ⌝ }
-    requires { ⌜ Lost width x y to × (allBytes (cellAt size (now stripe) to) ≡ true) ⌝ }
-    ensures { λ _. ⌜ now (stripe .exit) ≡ addedTo size to (survivors width x y (setOf width width kind number)) (now (stripe .entry)) ⌝ }
-    ensures { λ _. ⌜ allBytes (cellAt size (now (stripe .exit)) to) ≡ true ⌝ }
+    requires { ⌜ Toggling width x y (now marks) (now at) × (number < width) ⌝ }
+    ensures { λ _. ⌜ now (marks .exit) ≡ toggledAll (survivors width x y (setOf width width kind number)) (now (marks .entry)) ⌝ }
 {
-    let sources = stripes::surviving(width, size, x, y, kind, number);
-    within::add_within(stripe, to * size, size, sources);
+    let low = stripes::least(x, y);
+    let n = stripes::surviving(width, width, 1, kind, number, low, x + y - low, at);
+    odd::toggle_all(marks, &at[..n]);
 }
 
-// The surviving cells of the row set and the diagonal set of each of `count` rows, from this row on, are added to the lost cell `to`.
-fn add_sets(
+// The marks of the surviving cells of the row set and the diagonal set of each of `count` rows, from this row on, are toggled.
+fn toggle_sets(
     count: usize,
     width: usize,
-    size: usize,
     x: usize,
     y: usize,
     row: usize,
-    to: usize,
-    stripe: &mut [u8],
+    marks: &mut [u8],
+    at: &mut [usize],
 )
-    requires { ⌜ Sized width width size (now stripe) ⌝ }
-    requires { ⌜ (x < width) × (y < width) × (row < width) ⌝ }
-    requires { ⌜ Lost width x y to × (allBytes (cellAt size (now stripe) to) ≡ true) ⌝ }
-    ensures { λ _. ⌜ now (stripe .exit) ≡ addedTo size to (survivors width x y (startSets count width width x y row)) (now (stripe .entry)) ⌝ }
+    requires { ⌜ Toggling width x y (now marks) (now at) × (row < width) ⌝ }
+    ensures { λ _. ⌜ now (marks .exit) ≡ toggledAll (survivors width x y (startSets count width width x y row)) (now (marks .entry)) ⌝ }
 {
     let mut left = count;
-    let mut at = row;
+    let mut on = row;
     while 0 < left {
-        add_set(width, size, x, y, 0, at, to, stripe);
-        let number = (at + width - x) % width;
-        add_set(width, size, x, y, 1, number, to, stripe);
-        at = (number + y) % width;
+        toggle_set(width, x, y, 0, on, marks, at);
+        let number = (on + width - x) % width;
+        toggle_set(width, x, y, 1, number, marks, at);
+        on = (number + y) % width;
         left -= 1;
     }
 }
@@ -160,16 +136,6 @@ fn start_count(width: usize, y: usize) -> usize
     ensures { λ r. ⌜ r ≡ startCount width y ⌝ }
 {
     if y == 0 { width } else { (width - 1) / 2 }
-}
-
-// A cell becomes zero.
-fn clear_cell(size: usize, cell: usize, stripe: &mut [u8])
-    requires { ⌜ cell * size + size ≤ length (now stripe) ⌝ }
-    ensures { λ _. ⌜ now (stripe .exit) ≡ withCell size cell (replicate size 0) (now (stripe .entry)) ⌝ }
-{
-    let from = cell * size;
-    let end = from + size;
-    xor::clear(&mut stripe[from..end]);
 }
 
 // Is 1 among the first (width - 1) / 2 multiples of `gap`?
@@ -207,20 +173,20 @@ fn with_row_parity(width: usize, size: usize, disk: usize, stripe: &mut [u8])
     ensures { λ _. ⌜ now (stripe .exit) ≡ withRowParity width width size disk (now (stripe .entry)) ⌝ }
 {
     up_diagonals(width, size, disk, stripe);
-    solve_all(width, size, width, 0, stripe);
+    stripes::solve_rows(width, width, size, width, stripe);
 }
 
 // A data disk, or P, and Q: the disk by the row sets, then Q by the diagonal sets.
 fn with_diagonal_parity(width: usize, size: usize, disk: usize, stripe: &mut [u8])
     requires { ⌜ Sized width width size (now stripe) ⌝ }
-    requires { ⌜ disk ≤ width ⌝ }
+    requires { ⌜ (0 < width) × (disk ≤ width) ⌝ }
     ensures { λ _. ⌜ now (stripe .exit) ≡ withDiagonalParity width width size disk (now (stripe .entry)) ⌝ }
 {
-    solve_all(width, size, disk, 0, stripe);
-    solve_all(width, size, width + 1, 1, stripe);
+    stripes::solve_rows(width, width, size, disk, stripe);
+    stripes::solve_diagonals(width, width, size, stripe);
 }
 
-// The first cell of the walk: the XOR of the surviving cells of several sets together.
+// The first cell of the walk: the XOR of the surviving cells of several sets together. A cell that occurs an even number of times in them is left out.
 fn start(width: usize, size: usize, x: usize, y: usize, stripe: &mut [u8])
     requires { ⌜ Sized width width size (now stripe) ⌝ }
     requires { ⌜ Walked width x y ⌝ }
@@ -230,9 +196,11 @@ fn start(width: usize, size: usize, x: usize, y: usize, stripe: &mut [u8])
     let row = extra_row(width, x);
     let from = extra_row(width, first);
     let count = start_count(width, y);
-    let to = first * width + row;
-    clear_cell(size, to, stripe);
-    add_sets(count, width, size, x, y, from, to, stripe);
+    let cells = width * (width + 2);
+    let mut marks = sets::no_marks();
+    let mut at = offsets::no_offsets();
+    toggle_sets(count, width, x, y, from, &mut marks[..cells], &mut at);
+    odd::gather_odd(stripe, size, first * width + row, &marks[..cells], &mut at);
 }
 
 // Two data disks: the first cell, its row's other cell, then the walk over the other rows.
@@ -244,7 +212,7 @@ fn walk_disks(width: usize, size: usize, x: usize, y: usize, stripe: &mut [u8])
     start(width, size, x, y, stripe);
     let row = extra_row(width, x);
     let other = other_disk(x, y);
-    stripes::solve(width, width, size, 0, row, other * width + row, stripe);
+    stripes::solve(width, width, size, 0, row, other, row, stripe);
     diagonal_step(2 * (width - 1), width, size, x, y, row, stripe);
 }
 

@@ -1,26 +1,21 @@
-// The work on bytes: a slice of s bytes becomes the XOR of parts of another slice, up to four sources a pass.
+// The work on bytes: a slice becomes the XOR of parts of another slice, or is tested for it, in blocks of 64 bytes that stay in registers.
 ghost use mathlib.Core.Path.{_≡_};
-ghost use Prim.Native.Nat.{_+_, _-_, _%_, _≤_, _<_};
-ghost use lib.ListN.{length, drop, replicate};
+ghost use Prim.Native.Nat.{_+_, _-_, _≤_};
+ghost use lib.ListN.{length, take, drop, replicate};
 ghost use Rattle.laws.specs.Xor.{xorL};
 ghost use Rattle.laws.specs.Lists.{same};
-ghost use Rattle.xor.specs.Parts.{addFour, xorOffsets};
-ghost use Rattle.xor.specs.Reach.{offsets, Inside};
+ghost use Rattle.xor.specs.Parts.{part, withPart, addFour, xorOffsets};
+ghost use Rattle.xor.specs.Reach.{Reached};
 
-// Where the sources are: the first `count` numbers of `at` are their offsets.
-pub struct Sources {
-    pub at: [usize; 33],
-    pub count: usize,
-}
-
-// dst = 0.
-pub fn clear(dst: &mut [u8])
-    ensures { λ _. ⌜ now (dst .exit) ≡ replicate (length (now (dst .entry))) 0 ⌝ }
+// dst = src.
+pub fn copy(dst: &mut [u8], src: &[u8])
+    requires { ⌜ length (now src) ≡ length (now dst) ⌝ }
+    ensures { λ _. ⌜ now (dst .exit) ≡ now (src .entry) ⌝ }
 {
     let n = dst.len();
     let mut i = 0;
     while i < n {
-        dst[i] = 0;
+        dst[i] = src[i];
         i += 1;
     }
 }
@@ -39,6 +34,19 @@ pub fn all_zero(cell: &[u8]) -> bool
     any == 0
 }
 
+// dst ^= the bytes of t from a.
+fn add_one(dst: &mut [u8], t: &[u8], a: usize)
+    requires { ⌜ a + length (now dst) ≤ length (now t) ⌝ }
+    ensures { λ _. ⌜ now (dst .exit) ≡ xorL (now (dst .entry)) (part (length (now (dst .entry))) a (now (t .entry))) ⌝ }
+{
+    let n = dst.len();
+    let mut i = 0;
+    while i < n {
+        dst[i] = dst[i] ^ t[a + i];
+        i += 1;
+    }
+}
+
 // dst ^= the bytes of t from a, from b, from c and from e.
 fn add_four(dst: &mut [u8], t: &[u8], a: usize, b: usize, c: usize, e: usize)
     requires { ⌜ (a + length (now dst) ≤ length (now t)) × (b + length (now dst) ≤ length (now t)) × (c + length (now dst) ≤ length (now t)) × (e + length (now dst) ≤ length (now t)) ⌝ }
@@ -52,60 +60,114 @@ fn add_four(dst: &mut [u8], t: &[u8], a: usize, b: usize, c: usize, e: usize)
     }
 }
 
-// The first pass: dst = the XOR of the first one to four sources. The tests of `first` are the same in each turn, so the compiler takes them out of the loop.
-fn set_first(dst: &mut [u8], t: &[u8], src: Sources, first: usize)
-    requires { ⌜ Inside (length (now dst)) (length (now t)) src ⌝ }
-    requires { ⌜ (1 ≤ first) × (first ≤ 4) × (first ≤ src .count) ⌝ }
-    ensures { λ _. ⌜ xorL (now (dst .exit)) (xorOffsets (length (now (dst .entry))) (now (t .entry)) (drop first (offsets src))) ≡ xorOffsets (length (now (dst .entry))) (now (t .entry)) (offsets src) ⌝ }
+// dst ^= the parts of t at the offsets, four a pass.
+fn add_all(dst: &mut [u8], t: &[u8], at: &[usize])
+    requires { ⌜ Reached (length (now dst)) (length (now t)) (now at) ⌝ }
+    ensures { λ _. ⌜ now (dst .exit) ≡ xorL (now (dst .entry)) (xorOffsets (length (now (dst .entry))) (now (t .entry)) (now (at .entry))) ⌝ }
 {
-    let at = src.at;
-    let a = at[0];
-    let b = at[1];
-    let c = at[2];
-    let e = at[3];
+    let count = at.len();
+    let mut k = 0;
+    while k + 4 <= count {
+        add_four(dst, t, at[k], at[k + 1], at[k + 2], at[k + 3]);
+        k += 4;
+    }
+    while k < count {
+        add_one(dst, t, at[k]);
+        k += 1;
+    }
+}
+
+// A block of 64 zeros.
+fn no_block() -> [u8; 64]
+    ensures { λ r. ⌜ r ≡ replicate 64 0 ⌝ }
+{
+    [0; 64]
+}
+
+// The XOR of the parts of 64 bytes of t at the offsets; it stays in registers.
+pub fn block_of(t: &[u8], at: &[usize]) -> [u8; 64]
+    requires { ⌜ Reached 64 (length (now t)) (now at) ⌝ }
+    ensures { λ r. ⌜ r ≡ xorOffsets 64 (now (t .entry)) (now (at .entry)) ⌝ }
+{
+    let mut block = no_block();
+    add_all(&mut block[..64], t, at);
+    block
+}
+
+// The XOR of the parts of m bytes, at most 64, in the first m of the block.
+pub fn rest_of(t: &[u8], at: &[usize], m: usize) -> [u8; 64]
+    requires { ⌜ (m ≤ 64) × Reached m (length (now t)) (now at) ⌝ }
+    ensures { λ r. ⌜ take m r ≡ xorOffsets m (now (t .entry)) (now (at .entry)) ⌝ }
+{
+    let mut block = no_block();
+    add_all(&mut block[..m], t, at);
+    block
+}
+
+// The 64 bytes of dst from b on = those of the XOR of the parts. The 64 is a literal at the call, so that the compiler keeps the block in registers.
+fn put_block(dst: &mut [u8], t: &[u8], at: &[usize], b: usize)
+    requires { ⌜ (b + 64 ≤ length (now dst)) × (b ≤ length (now t)) × Reached (length (now dst)) (length (now t)) (now at) ⌝ }
+    ensures { λ _. ⌜ now (dst .exit) ≡ withPart 64 b (xorOffsets 64 (drop b (now (t .entry))) (now (at .entry))) (now (dst .entry)) ⌝ }
+{
+    let e = b + 64;
+    let block = block_of(&t[b..], at);
+    copy(&mut dst[b..e], &block[..64]);
+}
+
+// The bytes of dst from b on, at most 64, = those of the XOR of the parts.
+fn put_rest(dst: &mut [u8], t: &[u8], at: &[usize], b: usize)
+    requires { ⌜ (b ≤ length (now dst)) × (length (now dst) ≤ b + 64) × (b ≤ length (now t)) × Reached (length (now dst)) (length (now t)) (now at) ⌝ }
+    ensures { λ _. ⌜ now (dst .exit) ≡ withPart (length (now (dst .entry)) - b) b (xorOffsets (length (now (dst .entry)) - b) (drop b (now (t .entry))) (now (at .entry))) (now (dst .entry)) ⌝ }
+{
     let n = dst.len();
-    let mut i = 0;
-    while i < n {
-        let mut x = t[a + i];
-        if first > 1 {
-            x = x ^ t[b + i];
-        }
-        if first > 2 {
-            x = x ^ t[c + i];
-        }
-        if first > 3 {
-            x = x ^ t[e + i];
-        }
-        dst[i] = x;
-        i += 1;
-    }
+    let m = n - b;
+    let block = rest_of(&t[b..], at, m);
+    copy(&mut dst[b..n], &block[..m]);
 }
 
-// The other passes: dst ^= the sources after the first ones, which are a multiple of four.
-fn add_rest(dst: &mut [u8], t: &[u8], src: Sources, first: usize)
-    requires { ⌜ Inside (length (now dst)) (length (now t)) src ⌝ }
-    requires { ⌜ (first ≤ src .count) × ((src .count - first) % 4 ≡ 0) ⌝ }
-    ensures { λ _. ⌜ now (dst .exit) ≡ xorL (now (dst .entry)) (xorOffsets (length (now (dst .entry))) (now (t .entry)) (drop first (offsets src))) ⌝ }
+// dst = the XOR of the parts of t at the offsets.
+pub fn gather(dst: &mut [u8], t: &[u8], at: &[usize])
+    requires { ⌜ (length (now dst) ≤ length (now t)) × Reached (length (now dst)) (length (now t)) (now at) ⌝ }
+    ensures { λ _. ⌜ now (dst .exit) ≡ xorOffsets (length (now (dst .entry))) (now (t .entry)) (now (at .entry)) ⌝ }
 {
-    let at = src.at;
-    let count = src.count;
-    let mut i = first;
-    while i < count {
-        add_four(dst, t, at[i], at[i + 1], at[i + 2], at[i + 3]);
-        i += 4;
+    let n = dst.len();
+    let mut b = 0;
+    while 64 <= n - b {
+        put_block(dst, t, at, b);
+        b += 64;
     }
+    put_rest(dst, t, at, b);
 }
 
-// dst = the XOR of the parts of t at the sources.
-pub fn gather(dst: &mut [u8], t: &[u8], src: Sources)
-    requires { ⌜ Inside (length (now dst)) (length (now t)) src ⌝ }
-    ensures { λ _. ⌜ now (dst .exit) ≡ xorOffsets (length (now (dst .entry))) (now (t .entry)) (offsets src) ⌝ }
+// Is the XOR of the parts of 64 bytes zero?
+fn block_is_zero(t: &[u8], at: &[usize]) -> bool
+    requires { ⌜ Reached 64 (length (now t)) (now at) ⌝ }
+    ensures { λ r. ⌜ r ≡ same (xorOffsets 64 (now (t .entry)) (now (at .entry))) (replicate 64 0) ⌝ }
 {
-    if src.count == 0 {
-        clear(dst);
-    } else {
-        let first = (src.count - 1) % 4 + 1;
-        set_first(dst, t, src, first);
-        add_rest(dst, t, src, first);
+    let block = block_of(t, at);
+    all_zero(&block[..64])
+}
+
+// Is the XOR of the parts of m bytes, at most 64, zero?
+fn rest_is_zero(t: &[u8], at: &[usize], m: usize) -> bool
+    requires { ⌜ (m ≤ 64) × Reached m (length (now t)) (now at) ⌝ }
+    ensures { λ r. ⌜ r ≡ same (xorOffsets m (now (t .entry)) (now (at .entry))) (replicate m 0) ⌝ }
+{
+    let block = rest_of(t, at, m);
+    all_zero(&block[..m])
+}
+
+// Is the XOR of the parts of n bytes zero?
+pub fn is_zero(t: &[u8], n: usize, at: &[usize]) -> bool
+    requires { ⌜ (n ≤ length (now t)) × Reached n (length (now t)) (now at) ⌝ }
+    ensures { λ r. ⌜ r ≡ same (xorOffsets n (now (t .entry)) (now (at .entry))) (replicate n 0) ⌝ }
+{
+    let mut b = 0;
+    while 64 <= n - b {
+        if !block_is_zero(&t[b..], at) {
+            return false;
+        }
+        b += 64;
     }
+    rest_is_zero(&t[b..], at, n - b)
 }

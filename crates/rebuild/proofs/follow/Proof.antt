@@ -6,7 +6,7 @@ use native.Mathlib.Omega.{arith}
 use lib.ListN.{getD}
 use borrow.Author.Needs.{needs}
 use Rattle.liberation.specs.Plans.{planOf}
-use Rattle.liberation.proofs.Widths.{width-most}
+use Rattle.liberation.proofs.Widths.{width-odd, width-most}
 use Rattle.liberation.proofs.RecordLaws.{StepAt, step-at, plan-length, plan-number}
 use Rattle.xor.proofs.SourceLaws.{bytes-all}
 use Rattle.rebuild.proofs.FollowLaws.{Stepping, stepping-start, stepping-turn, stepping-end, plan-passed}
@@ -69,6 +69,7 @@ rebuild-cell-requires c κs =
     let passed = plan-passed (a .width) (a .disk) (t .before .loop .i) w d (this t) (t .loop-test .taken) in
     record {
       within = record { widest = small t; disks = omega arith; numbered = omega (arith, number t, plan-number (a .width) (a .disk) (t .before .loop .i) w d (this t) (t .loop-test .taken)) };
+      odd = width-odd (a .width) w;
       rows = omega (arith, row t, passed .0);
       own = rw (row t, kind t, number t) (passed .1);
       disk = d;

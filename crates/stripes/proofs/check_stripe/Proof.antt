@@ -3,7 +3,7 @@ use mathlib.Core.Path.{_≡_, sym, _∙_}
 use borrow.Author.Needs.{needs}
 use Rattle.stripes.specs.Cells.{Sized}
 use Rattle.stripes.specs.Says.{stripeFault}
-use Rattle.stripes.proofs.FaultLaws.{fault-none, check-refused, check-rows, check-both}
+use Rattle.stripes.proofs.FaultLaws.{fault-none, fault-some, check-refused, check-rows, check-both}
 use Rattle.stripes.proofs.check_stripe.Statement.{statement}
 use Rattle.stripes.proofs.check_stripe.Tie as tie
 
@@ -22,23 +22,23 @@ returns c =
     let a = c .before .before .before .args in
     check-refused (a .width) (a .size) (c .before .stripe-fault .result) (a .stripe .now) (c .before .stripe-fault .ensures) (c .if1 .taken)
 
-kind-is-clean-requires : tie.Need-kind-is-clean-requires
-kind-is-clean-requires c κs = sized c
+rows-are-clean-requires : tie.Need-rows-are-clean-requires
+rows-are-clean-requires c κs = let a = c .before .before .before .args in (sized c, fault-some (a .width) (a .size) (a .stripe .now) (passed c))
 
-kind-is-clean-requires-2 : tie.Need-kind-is-clean-requires-2
-kind-is-clean-requires-2 c κs = sized (c .before .before)
+diagonals-are-clean-requires : tie.Need-diagonals-are-clean-requires
+diagonals-are-clean-requires c κs = sized (c .before .before)
 
 returns-2 : tie.Need-returns-2
 returns-2 c =
     let k = c .before .before in
     let a = k .before .before .before .before .args in
-    check-both (a .width) (a .size) (a .stripe .now) (k .kind-is-clean .result) (c .kind-is-clean2 .result) (passed (k .before)) (k .kind-is-clean .ensures) (c .before .if2 .taken) (c .kind-is-clean2 .ensures)
+    check-both (a .width) (a .size) (a .stripe .now) (k .rows-are-clean .result) (c .diagonals-are-clean .result) (passed (k .before)) (k .rows-are-clean .ensures) (c .before .if2 .taken) (c .diagonals-are-clean .ensures)
 
 returns-3 : tie.Need-returns-3
 returns-3 c =
     let k = c .before in
     let a = k .before .before .before .before .args in
-    check-rows (a .width) (a .size) (a .stripe .now) (k .kind-is-clean .result) (passed (k .before)) (k .kind-is-clean .ensures) (c .if2 .left)
+    check-rows (a .width) (a .size) (a .stripe .now) (k .rows-are-clean .result) (passed (k .before)) (k .rows-are-clean .ensures) (c .if2 .left)
 
 pub check-stripe-spec : {M : Type 1} → statement M
 check-stripe-spec =
@@ -46,7 +46,7 @@ check-stripe-spec =
     (tie.spec
     stripe-fault-requires
     returns
-    kind-is-clean-requires
-    kind-is-clean-requires-2
+    rows-are-clean-requires
+    diagonals-are-clean-requires
     returns-2
     returns-3)

@@ -8,7 +8,7 @@ use Rattle.laws.specs.Xor.{allBytes}
 use Rattle.xor.proofs.SourceLaws.{bytes-all}
 use Rattle.stripes.specs.Cells.{Sized}
 use Rattle.stripes.specs.Says.{stripeFault}
-use Rattle.stripes.proofs.FaultLaws.{fault-none, encode-refused, encode-done}
+use Rattle.stripes.proofs.FaultLaws.{fault-none, fault-some, encode-refused, encode-done}
 use Rattle.stripes.proofs.encode_stripe.Statement.{statement}
 use Rattle.stripes.proofs.encode_stripe.Tie as tie
 
@@ -36,18 +36,21 @@ returns c =
     let a = q .before .before .before .args in
     encode-refused (a .width) (a .size) (f .result) (a .stripe .now) (c .answered .result) (f .ensures) (q .if1 .taken) (c .answered .ensures) (bytes (q .before .before))
 
-encode-kind-requires : tie.Need-encode-kind-requires
-encode-kind-requires c κs = (sized (c .before), omega arith)
+solve-rows-requires : tie.Need-solve-rows-requires
+solve-rows-requires c κs =
+    let e = c .before in
+    let a = e .before .before .before .args in
+    (sized e, fault-some (a .width) (a .size) (a .stripe .now) (passed e), omega arith)
 
 -- the stripe is as long once P is written
-long : (c : tie.After-encode-kind) → length (c .encode-kind .last .1 .1 .1 .0) ≡ length (c .before .before .before .before .before .args .stripe .now)
+long : (c : tie.After-solve-rows) → length (c .solve-rows .last .1 .1 .1 .1 .0) ≡ length (c .before .before .before .before .before .args .stripe .now)
 long c = search needs
 
-encode-kind-requires-2 : tie.Need-encode-kind-requires-2
-encode-kind-requires-2 c κs =
+solve-diagonals-requires : tie.Need-solve-diagonals-requires
+solve-diagonals-requires c κs =
     let k = c .before .before .before in
     let q = sized (k .before .before) in
-    (record { widest = q .widest; disks = q .disks; small = q .small; long = long k ∙ q .long }, omega arith)
+    record { widest = q .widest; disks = q .disks; small = q .small; long = long k ∙ q .long }
 
 answered-requires-2 : tie.Need-answered-requires-2
 answered-requires-2 c κs = search needs
@@ -61,7 +64,7 @@ returns-2 c =
     let k = d .before .before .before .before in
     let e = k .before .before in
     let a = e .before .before .before .args in
-    encode-done (a .width) (a .size) (a .stripe .now) (k .encode-kind .last .1 .1 .1 .0) (d .encode-kind2 .last .1 .1 .1 .0) (c .answered2 .result) (passed e) (k .encode-kind .ensures) (d .encode-kind2 .ensures) (c .answered2 .ensures) (bytes (e .before .before))
+    encode-done (a .width) (a .size) (a .stripe .now) (k .solve-rows .last .1 .1 .1 .1 .0) (d .solve-diagonals .last .1 .1 .1 .0) (c .answered2 .result) (passed e) (k .solve-rows .ensures) (d .solve-diagonals .ensures) (c .answered2 .ensures) (bytes (e .before .before))
 
 pub encode-stripe-spec : {M : Type 1} → statement M
 encode-stripe-spec =
@@ -70,8 +73,8 @@ encode-stripe-spec =
     stripe-fault-requires
     answered-requires
     returns
-    encode-kind-requires
-    encode-kind-requires-2
+    solve-rows-requires
+    solve-diagonals-requires
     answered-requires-2
     same-length
     returns-2)

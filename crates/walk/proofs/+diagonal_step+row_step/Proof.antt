@@ -1,4 +1,5 @@
 -- `diagonal_step` and `row_step` call each other, and the number of missing cells falls by one at each call. Each step is the next clause of the walk.
+use mathlib.Core.Path.{refl}
 use Prim.Native.Nat.{ℕ, _+_, _-_, _<_}
 use native.Mathlib.Omega.{arith}
 use native.Mathlib.Nat.{mod-lt}
@@ -6,10 +7,10 @@ use borrow.Author.Needs.{needs}
 use borrow.Fn.Kinds.{In}
 use borrow.Fn.PlainCycle.{Measures, is, falls, and}
 use Rattle.liberation.specs.Plans.{diagonalOf}
-use Rattle.liberation.proofs.SetLaws.{place-below}
 use Rattle.pairs.specs.Pairs.{nextRow}
+use Rattle.stripes.proofs.SetLists.{row-own, diagonal-own}
 use Rattle.stripes.proofs.solve.Reads as solve-reads
-use Rattle.walk.proofs.StepLaws.{sized-kept, first-most, diagonal-none, diagonal-more, row-none, row-more}
+use Rattle.walk.proofs.StepLaws.{sized-kept, diagonal-none, diagonal-more, row-none, row-more}
 use Rattle.walk.proofs.diagonal_step.Reads as diagonal-step
 use Rattle.walk.proofs.diagonal_step.Kinds as diagonal-step-kinds
 use Rattle.walk.proofs.+diagonal_step+row_step.Lts-diagonal_step as diagonal-step-lts
@@ -98,29 +99,6 @@ diagonal-step-rem-next : (t : ℕ) → diagonal-step-lts.Need-rem-next (
 ) (diagonal-step-at t) diagonal-step.Post
 diagonal-step-rem-next t c = search needs
 
-diagonal-step-mul-solve : (t : ℕ) → diagonal-step-lts.Need-mul-solve (
-  solve-reads.Asked,
-  solve-reads.Learnt,
-  row-step-below t,
-  row-step.Post,
-) (diagonal-step-at t) diagonal-step.Post
-diagonal-step-mul-solve t c =
-    let z = c .before .before in
-    let a = z .args in
-    omega (arith, first-most (a .width) (a .y) (z .pre .1 .0 .widest) (omega arith))
-
-diagonal-step-add-solve : (t : ℕ) → diagonal-step-lts.Need-add-solve (
-  solve-reads.Asked,
-  solve-reads.Learnt,
-  row-step-below t,
-  row-step.Post,
-) (diagonal-step-at t) diagonal-step.Post
-diagonal-step-add-solve t c =
-    let z = c .before .before in
-    let a = z .args in
-    let h : 0 < a .width = omega arith in
-    omega (arith, first-most (a .width) (a .y) (z .pre .1 .0 .widest) (omega arith), z .pre .1 .0 .widest, mod-lt (diagonalOf (a .width) (a .x) (a .row) + a .y) h)
-
 diagonal-step-solve-requires : (t : ℕ) → diagonal-step-lts.Need-solve-requires (
   solve-reads.Asked,
   solve-reads.Learnt,
@@ -130,8 +108,8 @@ diagonal-step-solve-requires : (t : ℕ) → diagonal-step-lts.Need-solve-requir
 diagonal-step-solve-requires t c κs =
     let z = c .before .before .before in
     let a = z .args in
-    let next = nextRow (a .width) (a .x) (a .y) (a .row) in
-    (z .pre .1 .0, (mod-lt (a .row + a .width - a .x) (omega arith), place-below (a .width) (a .width + 2) next (a .y) (mod-lt (diagonalOf (a .width) (a .x) (a .row) + a .y) (omega arith)) (omega arith)))
+    let number = diagonalOf (a .width) (a .x) (a .row) in
+    (z .pre .1 .0, diagonal-own (a .width) (a .width) number (a .y) (nextRow (a .width) (a .x) (a .y) (a .row)) (mod-lt (a .row + a .width - a .x) (omega arith)) (mod-lt (number + a .y) (omega arith)) (omega arith) refl)
 
 diagonal-step-sub-row-step : (t : ℕ) → diagonal-step-lts.Need-sub-row-step (
   solve-reads.Asked,
@@ -151,7 +129,7 @@ diagonal-step-row-step-requires t c κs =
     let v = c .before .before .before in
     let z = v .before .before .before .before in
     let a = z .args in
-    (omega arith, (sized-kept (a .width) (a .size) (a .stripe .now) (v .solve .last .1 .1 .1 .1 .1 .1 .0) (z .pre .1 .0) (v .solve .kept .1 .1 .1 .1 .1 .1 .0), (omega arith, omega arith, mod-lt (diagonalOf (a .width) (a .x) (a .row) + a .y) (omega arith))))
+    (omega arith, (sized-kept (a .width) (a .size) (a .stripe .now) (v .solve .last .1 .1 .1 .1 .1 .1 .1 .0) (z .pre .1 .0) (v .solve .kept .1 .1 .1 .1 .1 .1 .1 .0), (omega arith, omega arith, mod-lt (diagonalOf (a .width) (a .x) (a .row) + a .y) (omega arith))))
 
 diagonal-step-same-length : (t : ℕ) → diagonal-step-lts.Need-same-length (
   solve-reads.Asked,
@@ -172,7 +150,7 @@ diagonal-step-returns-2 t c =
     let v = w .before .before .before .before in
     let z = v .before .before .before .before in
     let a = z .args in
-    diagonal-more (a .width) (a .size) (a .x) (a .y) (a .left) (a .row) (a .stripe .now) (v .solve .last .1 .1 .1 .1 .1 .1 .0) (w .row-step .last .1 .1 .1 .1 .1 .1 .0) (v .before .before .if1 .left) (v .solve .ensures) (w .row-step .ensures)
+    diagonal-more (a .width) (a .size) (a .x) (a .y) (a .left) (a .row) (a .stripe .now) (v .solve .last .1 .1 .1 .1 .1 .1 .1 .0) (w .row-step .last .1 .1 .1 .1 .1 .1 .0) (v .before .before .if1 .left) (v .solve .ensures) (w .row-step .ensures)
 
 row-step-returns : (t : ℕ) → row-step-lts.Need-returns (
   solve-reads.Asked,
@@ -184,28 +162,6 @@ row-step-returns t c =
     let a = c .before .before .args in
     row-none (a .width) (a .size) (a .x) (a .y) (a .left) (a .row) (a .stripe .now) (c .if1 .taken)
 
-row-step-mul-solve : (t : ℕ) → row-step-lts.Need-mul-solve (
-  solve-reads.Asked,
-  solve-reads.Learnt,
-  diagonal-step-below t,
-  diagonal-step.Post,
-) (row-step-at t) row-step.Post
-row-step-mul-solve t c =
-    let z = c .before .before in
-    let a = z .args in
-    omega (arith, first-most (a .width) (a .x) (z .pre .1 .0 .widest) (omega arith))
-
-row-step-add-solve : (t : ℕ) → row-step-lts.Need-add-solve (
-  solve-reads.Asked,
-  solve-reads.Learnt,
-  diagonal-step-below t,
-  diagonal-step.Post,
-) (row-step-at t) row-step.Post
-row-step-add-solve t c =
-    let z = c .before .before in
-    let a = z .args in
-    omega (arith, first-most (a .width) (a .x) (z .pre .1 .0 .widest) (omega arith), z .pre .1 .0 .widest)
-
 row-step-solve-requires : (t : ℕ) → row-step-lts.Need-solve-requires (
   solve-reads.Asked,
   solve-reads.Learnt,
@@ -215,7 +171,7 @@ row-step-solve-requires : (t : ℕ) → row-step-lts.Need-solve-requires (
 row-step-solve-requires t c κs =
     let z = c .before .before .before in
     let a = z .args in
-    (z .pre .1 .0, (omega arith, place-below (a .width) (a .width + 2) (a .row) (a .x) (omega arith) (omega arith)))
+    (z .pre .1 .0, row-own (a .width) (a .width) (a .row) (a .x) (omega arith) (omega arith))
 
 row-step-sub-diagonal-step : (t : ℕ) → row-step-lts.Need-sub-diagonal-step (
   solve-reads.Asked,
@@ -252,7 +208,7 @@ row-step-returns-2 t c =
     let v = w .before .before .before .before in
     let z = v .before .before .before .before in
     let a = z .args in
-    row-more (a .width) (a .size) (a .x) (a .y) (a .left) (a .row) (a .stripe .now) (v .solve .last .1 .1 .1 .1 .1 .1 .0) (w .diagonal-step .last .1 .1 .1 .1 .1 .1 .0) (v .before .before .if1 .left) (v .solve .ensures) (w .diagonal-step .ensures)
+    row-more (a .width) (a .size) (a .x) (a .y) (a .left) (a .row) (a .stripe .now) (v .solve .last .1 .1 .1 .1 .1 .1 .1 .0) (w .diagonal-step .last .1 .1 .1 .1 .1 .1 .0) (v .before .before .if1 .left) (v .solve .ensures) (w .diagonal-step .ensures)
 
 pub +diagonal-step+row-step-spec : {M : Type 1} → statement M
 +diagonal-step+row-step-spec = close μ-diagonal-step μ-row-step (λ t. diagonal-step-lts.spec (
@@ -269,8 +225,6 @@ pub +diagonal-step+row-step-spec : {M : Type 1} → statement M
     (diagonal-step-rem-number t)
     (diagonal-step-add-next t)
     (diagonal-step-rem-next t)
-    (diagonal-step-mul-solve t)
-    (diagonal-step-add-solve t)
     (diagonal-step-solve-requires t)
     (diagonal-step-sub-row-step t)
     (diagonal-step-row-step-requires t)
@@ -281,8 +235,6 @@ pub +diagonal-step+row-step-spec : {M : Type 1} → statement M
     (row-step-at t)
     row-step.Post
     (row-step-returns t)
-    (row-step-mul-solve t)
-    (row-step-add-solve t)
     (row-step-solve-requires t)
     (row-step-sub-diagonal-step t)
     (row-step-diagonal-step-requires t)

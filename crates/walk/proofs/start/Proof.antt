@@ -1,20 +1,20 @@
--- `start`: the first cell is a cell of the stripe on a lost disk, so the surviving cells lie apart from it. It is cleared, and they are added.
-use Prim.Native.Nat.{_+_, _*_, _≤_}
+-- `start`: the first cell is a cell of the stripe on a lost disk, so it is none of the surviving cells. Their marks are toggled from no mark at all, and the odd ones are gathered.
+use mathlib.Core.Path.{_≡_, sym, ap, _∙_}
+use mathlib.Core.List.{List, [], _++_}
+use Prim.Native.Nat.{ℕ, _+_, _*_, _≤_}
+use native.Mathlib.Nat.{mul-le-mul}
 use native.Mathlib.Omega.{arith}
-use lib.ListN.{length}
+use lib.ListN.{length, take, drop, replicate, length-replicate, length-append}
+use lib.Seq.{take-at, length-take-le}
 use borrow.Author.Needs.{needs}
-use Rattle.walk.specs.Adding.{Lost}
-use Rattle.walk.proofs.StepLaws.{sized-kept, first-most}
-use Rattle.walk.proofs.AddLaws.{lies-in, cleared-bytes}
-use Rattle.walk.proofs.DiskLaws.{first-range, start-lost, start-done}
+use Rattle.pairs.specs.Pairs.{startSets}
+use Rattle.liberation.proofs.MarkLists.{take-marks, no-cells, cells-most}
+use Rattle.odd.specs.Toggled.{toggledAll}
+use Rattle.odd.specs.Listed.{Marked}
+use Rattle.stripes.specs.Cells.{survivors}
+use Rattle.walk.proofs.DiskLaws.{first-range, start-marked, start-done}
 use Rattle.walk.proofs.start.Statement.{statement}
 use Rattle.walk.proofs.start.Tie as tie
-
-first-disk-requires : tie.Need-first-disk-requires
-first-disk-requires c κs = search needs
-
-extra-row-requires : tie.Need-extra-row-requires
-extra-row-requires c κs = search needs
 
 extra-row-requires-2 : tie.Need-extra-row-requires-2
 extra-row-requires-2 c κs =
@@ -23,76 +23,129 @@ extra-row-requires-2 c κs =
     let g = first-range (a .width) (a .x) (a .y) (z .pre .1) (c .before .first-disk .result) (c .before .first-disk .ensures) in
     (z .pre .0 .widest, z .pre .1 .odd, g .0, g .1)
 
-start-count-requires : tie.Need-start-count-requires
-start-count-requires c κs = search needs
+-- the stripe has few cells
+few : (c : tie.After-start-count) → let a = c .before .before .before .before .before .args in a .width * (a .width + 2) ≤ 1023
+few c = let z = c .before .before .before .before .before in cells-most (z .args .width) (z .pre .0 .widest)
 
--- the first cell, and its disk's first place
-lost : (c : tie.After-start-count) → let a = c .before .before .before .before .before .args in Lost (a .width) (a .x) (a .y) (c .before .before .before .first-disk .result * a .width + c .before .before .extra-row .result)
-lost c =
-    let z = c .before .before .before .before .before in
-    let a = z .args in
-    let f = c .before .before .before .first-disk in
-    let r = c .before .before .extra-row in
-    start-lost (a .width) (a .x) (a .y) (z .pre .1) (f .result) (r .result) (f .ensures) (r .ensures .0)
+mul-cells : tie.Need-mul-cells
+mul-cells c = omega (arith, few c)
 
-low : (c : tie.After-start-count) → c .before .before .before .first-disk .result * c .before .before .before .before .before .args .width ≤ 992
-low c =
-    let z = c .before .before .before .before .before in
-    let a = z .args in
-    let f = c .before .before .before .first-disk in
-    first-most (a .width) (f .result) (z .pre .0 .widest) (omega (arith, first-range (a .width) (a .x) (a .y) (z .pre .1) (f .result) (f .ensures)))
+-- none of them is marked
+none : (c : tie.After-no-marks) → let a = c .before .before .before .before .before .before .args in take (a .width * (a .width + 2)) (c .no-marks .result) ≡ replicate (a .width * (a .width + 2)) 0
+none c =
+    let a = c .before .before .before .before .before .before .args in
+    let n = a .width * (a .width + 2) in
+    ap (take n) (c .no-marks .ensures) ∙ take-marks n 1023 0 [] (few (c .before)) ∙ sym (no-cells n 0)
 
--- the cell lies in the stripe
-fits : (c : tie.After-start-count) → let a = c .before .before .before .before .before .args in (c .before .before .before .first-disk .result * a .width + c .before .before .extra-row .result) * a .size + a .size ≤ length (a .stripe .now)
-fits c =
-    let z = c .before .before .before .before .before in
-    let a = z .args in
-    lies-in (a .width) (a .size) (c .before .before .before .first-disk .result * a .width + c .before .before .extra-row .result) (a .stripe .now) (lost c .below) (z .pre .0 .long)
+marks-long : (c : tie.After-no-marks) → let a = c .before .before .before .before .before .before .args in length (take (a .width * (a .width + 2)) (c .no-marks .result)) ≡ a .width * (a .width + 2)
+marks-long c = let a = c .before .before .before .before .before .before .args in ap length (none c) ∙ length-replicate {A = ℕ} (a .width * (a .width + 2)) 0
 
-mul-to : tie.Need-mul-to
-mul-to c = omega (arith, low c)
+array-borrow-prefix-marks : tie.Need-array-borrow-prefix-marks
+array-borrow-prefix-marks c =
+    let l : length (c .before .no-marks .result) ≡ 1023 = search needs in
+    omega (arith, few (c .before .before))
 
-add-to : tie.Need-add-to
-add-to c = omega (arith, low c, c .before .before .extra-row .ensures .1, c .before .before .before .before .before .pre .0 .widest)
+slice-aggregate-toggle-sets : tie.Need-slice-aggregate-toggle-sets
+slice-aggregate-toggle-sets c = sym (marks-long (c .before .before))
 
-clear-cell-requires : tie.Need-clear-cell-requires
-clear-cell-requires c κs = fits (c .before)
+toggle-sets-requires : tie.Need-toggle-sets-requires
+toggle-sets-requires c κs =
+    let k = c .before .before .before .before in
+    let o = k .before .before .before .before .before in
+    (record { widest = o .pre .0 .widest; one = o .pre .1 .high; other = o .pre .1 .other; marks = marks-long (c .before .before .before); room = search needs }, k .before .extra-row2 .ensures .1)
 
-add-sets-requires : tie.Need-add-sets-requires
-add-sets-requires c κs =
-    let v = c .before .before .before in
-    let k = v .before .before in
-    let z = k .before .before .before .before .before in
-    let a = z .args in
-    (sized-kept (a .width) (a .size) (a .stripe .now) (v .clear-cell .last .1 .1 .0) (z .pre .0) (v .clear-cell .kept .1 .1 .0), ((z .pre .1 .high, z .pre .1 .other, k .before .extra-row2 .ensures .1), (lost k, cleared-bytes (a .size) (k .before .before .before .first-disk .result * a .width + k .before .before .extra-row .result) (a .stripe .now) (v .clear-cell .last .1 .1 .0) (fits k) (v .clear-cell .ensures))))
+-- the marks of all cells of the stripe, after the start's sets
+abbrev marks : (v : tie.After-toggle-sets) → List ℕ
+marks v =
+    let m = v .before .before .before .before in
+    let a = m .before .before .before .before .before .before .args in
+    let n = a .width * (a .width + 2) in
+    take n (v .toggle-sets .last .1 .1 .1 .1 .1 .0 ++ drop n (m .no-marks .result))
 
-same-length : tie.Need-same-length
-same-length c = search needs
+toggled-long : (v : tie.After-toggle-sets) → let a = v .before .before .before .before .before .before .before .before .before .before .args in length (v .toggle-sets .last .1 .1 .1 .1 .1 .0) ≡ a .width * (a .width + 2)
+toggled-long v = v .toggle-sets .kept .1 .1 .1 .1 .1 .0 ∙ marks-long (v .before .before .before .before)
 
-returns : tie.Need-returns
-returns c =
-    let w = c .before .before in
-    let v = w .before .before .before .before in
-    let k = v .before .before in
-    let z = k .before .before .before .before .before in
-    let a = z .args in
+made : (v : tie.After-toggle-sets) → let k = v .before .before .before .before .before in let a = k .before .before .before .before .before .args in marks v ≡ toggledAll (survivors (a .width) (a .x) (a .y) (startSets (k .start-count .result) (a .width) (a .width) (a .x) (a .y) (k .before .extra-row2 .result))) (replicate (a .width * (a .width + 2)) 0)
+made v =
+    let m = v .before .before .before .before in
+    let k = m .before in
+    let a = k .before .before .before .before .before .args in
+    let n = a .width * (a .width + 2) in
+    take-at (v .toggle-sets .last .1 .1 .1 .1 .1 .0) (drop n (m .no-marks .result)) n (toggled-long v)
+    ∙ v .toggle-sets .ensures
+    ∙ ap (toggledAll (survivors (a .width) (a .x) (a .y) (startSets (k .start-count .result) (a .width) (a .width) (a .x) (a .y) (k .before .extra-row2 .result)))) (none m)
+
+ready : (v : tie.After-toggle-sets) → let k = v .before .before .before .before .before in let a = k .before .before .before .before .before .args in Marked (a .size) (k .before .before .before .first-disk .result * a .width + k .before .before .extra-row .result) (marks v) (a .stripe .now)
+ready v =
+    let k = v .before .before .before .before .before in
     let f = k .before .before .before .first-disk in
     let r = k .before .before .extra-row in
     let q = k .before .extra-row2 in
     let n = k .start-count in
-    start-done (a .width) (a .x) (a .y) (z .pre .1) (a .size) (f .result) (r .result) (q .result) (n .result) (a .stripe .now) (v .clear-cell .last .1 .1 .0) (w .add-sets .last .1 .1 .1 .1 .1 .1 .1 .0) (z .pre .0) (f .ensures) (r .ensures .0) (q .ensures .0) (n .ensures) (v .clear-cell .ensures) (w .add-sets .ensures)
+    let o = k .before .before .before .before .before in
+    let a = o .args in
+    start-marked (a .width) (a .x) (a .y) (o .pre .1) (a .size) (f .result) (r .result) (q .result) (n .result) (marks v) (a .stripe .now) (o .pre .0) (f .ensures) (r .ensures .0) (q .ensures .0) (n .ensures) (made v) (few k)
+
+-- the first cell's place is a small number
+low : (k : tie.After-start-count) → k .before .before .before .first-disk .result * k .before .before .before .before .before .args .width ≤ 31 * 31
+low k =
+    let o = k .before .before .before .before .before in
+    let a = o .args in
+    let f = k .before .before .before .first-disk in
+    let h : f .result ≤ 31 = omega (arith, first-range (a .width) (a .x) (a .y) (o .pre .1) (f .result) (f .ensures), o .pre .0 .widest) in
+    mul-le-mul h (o .pre .0 .widest)
+
+mul-gather-odd : tie.Need-mul-gather-odd
+mul-gather-odd c = omega (arith, low (c .before .before .before .before .before .before .before .before))
+
+add-gather-odd : tie.Need-add-gather-odd
+add-gather-odd c =
+    let k = c .before .before .before .before .before .before .before .before in
+    omega (arith, low k, k .before .before .extra-row .ensures .1, k .before .before .before .before .before .pre .0 .widest)
+
+array-share-prefix-marks : tie.Need-array-share-prefix-marks
+array-share-prefix-marks c = simp length-append (omega (arith, toggled-long (c .before .before .before)))
+
+slice-aggregate-gather-odd : tie.Need-slice-aggregate-gather-odd
+slice-aggregate-gather-odd c = sym (length-take-le _ _ (simp length-append (omega (arith, toggled-long (c .before .before .before .before)))))
+
+gather-odd-requires : tie.Need-gather-odd-requires
+gather-odd-requires c κs = (ready (c .before .before .before .before .before), search needs, search needs)
+
+returns : tie.Need-returns
+returns c =
+    let g = c .before .before .before .gather-odd in
+    let v = c .before .before .before .before .before .before .before .before .before in
+    let k = v .before .before .before .before .before in
+    let f = k .before .before .before .first-disk in
+    let r = k .before .before .extra-row in
+    let q = k .before .extra-row2 in
+    let n = k .start-count in
+    let o = k .before .before .before .before .before in
+    let a = o .args in
+    start-done (a .width) (a .x) (a .y) (o .pre .1) (a .size) (f .result) (r .result) (q .result) (n .result) (marks v) (a .stripe .now) (o .pre .0) (f .ensures) (r .ensures .0) (q .ensures .0) (n .ensures) (made v) (g .last .0) (g .ensures)
 
 pub start-spec : {M : Type 1} → statement M
 start-spec =
     tie.close
     (tie.spec
-    first-disk-requires
-    extra-row-requires
+    (λ c κs. search needs)
+    (λ c κs. search needs)
     extra-row-requires-2
-    start-count-requires
-    mul-to
-    add-to
-    clear-cell-requires
-    add-sets-requires
-    same-length
+    (λ c κs. search needs)
+    (λ c. search needs)
+    mul-cells
+    (λ c κs. search needs)
+    (λ c κs. search needs)
+    array-borrow-prefix-marks
+    slice-aggregate-toggle-sets
+    (λ c. search needs)
+    toggle-sets-requires
+    mul-gather-odd
+    add-gather-odd
+    array-share-prefix-marks
+    slice-aggregate-gather-odd
+    (λ c. search needs)
+    gather-odd-requires
+    (λ c. search needs)
     returns)

@@ -1,30 +1,24 @@
 -- `up_diagonals`: each turn does the next step. The invariant: the steps still to come, done to the stripe as it is, give what all steps give to the stripe as it was.
 use mathlib.Core.Path.{_≡_, refl, sym, _∙_}
-use Prim.Native.Nat.{_+_, _-_, _*_, _≤_}
+use Prim.Native.Nat.{_+_, _-_, _≤_}
 use native.Mathlib.Nat.{mod-lt}
 use native.Mathlib.Omega.{arith}
 use lib.ListN.{length}
 use borrow.Author.Needs.{needs}
-use Rattle.liberation.proofs.SetLaws.{place-below}
+use Rattle.liberation.specs.Plans.{diagonalOf}
 use Rattle.parity.specs.Stripes.{followed}
 use Rattle.pairs.specs.Pairs.{upDiagonals}
-use Rattle.walk.proofs.StepLaws.{sized-kept, first-most, upRest, up-first, up-turn, up-last}
+use Rattle.stripes.proofs.SetLists.{diagonal-own}
+use Rattle.walk.proofs.StepLaws.{sized-kept, up-row, upRest, up-first, up-turn, up-last}
 use Rattle.walk.proofs.up_diagonals.Statement.{statement}
 use Rattle.walk.proofs.up_diagonals.Tie as tie
 
 abbrev Inv-loop : tie.InvT-loop
-Inv-loop width size disk stripe₀ first i₀ stripe i =
+Inv-loop width size disk stripe₀ i₀ stripe i =
     (i ≤ width) × (length stripe ≡ length stripe₀) × (upRest width size disk i stripe ≡ followed width width size disk (upDiagonals width width disk 0) stripe₀)
 
 abbrev μ-loop : tie.MeasureT-loop
-μ-loop width size disk stripe₀ first i₀ stripe i = width - i
-
--- the first place is small enough to count with
-low : (c : tie.After-slice-known Inv-loop μ-loop) → c .before .args .disk * c .before .args .width ≤ 992
-low c = first-most (c .before .args .width) (c .before .args .disk) (c .before .pre .0 .widest) (omega arith)
-
-mul-first : tie.Need-mul-first Inv-loop μ-loop
-mul-first c = omega (arith, low c)
+μ-loop width size disk stripe₀ i₀ stripe i = width - i
 
 loop-holds : tie.Need-loop-holds Inv-loop μ-loop
 loop-holds c = let a = c .before .args in (omega arith, refl, up-first (a .width) (a .size) (a .disk) (a .stripe .now))
@@ -38,15 +32,13 @@ sub-number c = search needs
 rem-number : tie.Need-rem-number Inv-loop μ-loop
 rem-number c = search needs
 
-add-solve : tie.Need-add-solve Inv-loop μ-loop
-add-solve c = omega (arith, low (c .before .before))
-
 solve-requires : tie.Need-solve-requires Inv-loop μ-loop
 solve-requires c κs =
     let z = c .before .before .before .before in
     let a = z .args in
     let l = c .before .before .loop in
-    (sized-kept (a .width) (a .size) (a .stripe .now) (l .stripe) (z .pre .0) (l .inv .1), (mod-lt (l .i + a .width - a .disk) (omega arith), place-below (a .width) (a .width + 2) (l .i) (a .disk) (omega arith) (omega arith)))
+    let b = mod-lt (l .i + a .width - a .disk) {m = a .width} (omega arith) in
+    (sized-kept (a .width) (a .size) (a .stripe .now) (l .stripe) (z .pre .0) (l .inv .1), diagonal-own (a .width) (a .width) (diagonalOf (a .width) (a .disk) (l .i)) (a .disk) (l .i) b (omega arith) (omega arith) (up-row (a .width) (a .disk) (l .i) (omega arith) (omega arith)))
 
 add-i : tie.Need-add-i Inv-loop μ-loop
 add-i c = search needs
@@ -59,7 +51,7 @@ loop-again c =
     let v = c .before .before .solve in
     let l = c .before .before .before .before .before .loop in
     let a = c .before .before .before .before .before .before .before .args in
-    (omega arith, omega (arith, l .inv .1), up-turn (a .width) (a .size) (a .disk) (l .i) (l .stripe) (v .last .1 .1 .1 .1 .1 .1 .0) (omega arith) (v .ensures) ∙ l .inv .2)
+    (omega arith, omega (arith, l .inv .1), up-turn (a .width) (a .size) (a .disk) (l .i) (l .stripe) (v .last .1 .1 .1 .1 .1 .1 .1 .0) (omega arith) (v .ensures) ∙ l .inv .2)
 
 same-length : tie.Need-same-length Inv-loop μ-loop
 same-length c = c .before .loop .inv .1
@@ -76,12 +68,10 @@ up-diagonals-spec =
     (tie.spec
     Inv-loop
     μ-loop
-    mul-first
     loop-holds
     add-number
     sub-number
     rem-number
-    add-solve
     solve-requires
     add-i
     loop-less

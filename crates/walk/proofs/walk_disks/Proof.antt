@@ -1,9 +1,9 @@
 -- `walk_disks`: the first cell, its row's other cell, then the walk, each on the stripe that the one before left.
-use Prim.Native.Nat.{_+_, _*_, _≤_, _<_}
+use Prim.Native.Nat.{_<_}
 use native.Mathlib.Omega.{arith}
 use borrow.Author.Needs.{needs}
-use Rattle.liberation.proofs.SetLaws.{place-below}
-use Rattle.walk.proofs.StepLaws.{sized-kept, first-most}
+use Rattle.stripes.proofs.SetLists.{row-own}
+use Rattle.walk.proofs.StepLaws.{sized-kept}
 use Rattle.walk.proofs.DiskLaws.{other-range, walk-done}
 use Rattle.walk.proofs.walk_disks.Statement.{statement}
 use Rattle.walk.proofs.walk_disks.Tie as tie
@@ -24,17 +24,6 @@ below c =
     let a = z .args in
     other-range (a .width) (a .x) (a .y) (z .pre .1) (c .other-disk .result) (c .other-disk .ensures)
 
-low : (c : tie.After-other-disk) → c .other-disk .result * c .before .before .before .before .before .before .before .args .width ≤ 992
-low c =
-    let z = c .before .before .before .before .before .before .before in
-    first-most (z .args .width) (c .other-disk .result) (z .pre .0 .widest) (omega (arith, below c))
-
-mul-solve : tie.Need-mul-solve
-mul-solve c = omega (arith, low c)
-
-add-solve : tie.Need-add-solve
-add-solve c = omega (arith, low c, c .before .extra-row .ensures .1, c .before .before .before .before .before .before .before .pre .0 .widest)
-
 solve-requires : tie.Need-solve-requires
 solve-requires c κs =
     let k = c .before in
@@ -42,7 +31,7 @@ solve-requires c κs =
     let z = v .before .before .before in
     let a = z .args in
     let r = k .before .extra-row in
-    (sized-kept (a .width) (a .size) (a .stripe .now) (v .start .last .1 .1 .1 .1 .0) (z .pre .0) (v .start .kept .1 .1 .1 .1 .0), (r .ensures .1, place-below (a .width) (a .width + 2) (r .result) (k .other-disk .result) (r .ensures .1) (omega (arith, below k))))
+    (sized-kept (a .width) (a .size) (a .stripe .now) (v .start .last .1 .1 .1 .1 .0) (z .pre .0) (v .start .kept .1 .1 .1 .1 .0), row-own (a .width) (a .width) (r .result) (k .other-disk .result) (r .ensures .1) (omega (arith, below k)))
 
 sub-diagonal-step : tie.Need-sub-diagonal-step
 sub-diagonal-step c = search needs
@@ -65,7 +54,7 @@ returns c =
     let z = v .before .before .before in
     let a = z .args in
     let r = k .before .extra-row in
-    walk-done (a .width) (a .x) (a .y) (z .pre .1) (a .size) (r .result) (k .other-disk .result) (a .stripe .now) (v .start .last .1 .1 .1 .1 .0) (u .solve .last .1 .1 .1 .1 .1 .1 .0) (w .diagonal-step .last .1 .1 .1 .1 .1 .1 .0) (r .ensures .0) (k .other-disk .ensures) (v .start .ensures) (u .solve .ensures) (w .diagonal-step .ensures)
+    walk-done (a .width) (a .x) (a .y) (z .pre .1) (a .size) (r .result) (k .other-disk .result) (a .stripe .now) (v .start .last .1 .1 .1 .1 .0) (u .solve .last .1 .1 .1 .1 .1 .1 .1 .0) (w .diagonal-step .last .1 .1 .1 .1 .1 .1 .0) (r .ensures .0) (k .other-disk .ensures) (v .start .ensures) (u .solve .ensures) (w .diagonal-step .ensures)
 
 pub walk-disks-spec : {M : Type 1} → statement M
 walk-disks-spec =
@@ -74,8 +63,6 @@ walk-disks-spec =
     start-requires
     extra-row-requires
     other-disk-requires
-    mul-solve
-    add-solve
     solve-requires
     sub-diagonal-step
     mul-diagonal-step

@@ -1,0 +1,334 @@
+-- The cells of a set as they are pushed: those on data disks, the parity cell, the extra cell. A set has one ordinary cell on a disk, and the extra cell is none of them, so the set without an ordinary cell is the set without that disk, but for the extra cell.
+use mathlib.Core.Path.{_≡_, refl, sym, subst, ap, ap₂, _∙_}
+use mathlib.Core.Bool.{Bool, true, false, _&&_, _||_, not, and-false, or-comm}
+use mathlib.Core.Logic.{_⊎_, inl, inr, ⊎-elim}
+use mathlib.Core.List.{List, [], _∷_, _++_, append-nil}
+use Prim.Native.Nat.{ℕ, suc, _+_, _-_, _*_, _%_, _≤_, _<_}
+use native.Mathlib.Nat.{mod-lt, zero-add, mul-le-mul-right}
+use native.Mathlib.Omega.{arith}
+use lib.Dec.{eqb, ltb, leb}
+use lib.ListN.{length, getD, set, take, replicate, length-take, length-append}
+use borrow.Author.Tests.{eq-eqb, ne-eqb, eqb-true, eqb-false, ltb-true, lt-ltb, le-ltb, le-leb, lt-leb}
+use Rattle.laws.specs.Choice.{pick}
+use Rattle.laws.specs.Lists.{isIn, allBelow, same}
+use Rattle.laws.proofs.Flags.{and-l, and-r, and-i, or-cases, or-l, or-r, clash, same-flag}
+use Rattle.laws.proofs.ListLaws.{isIn-append}
+use Rattle.laws.proofs.MemberLaws.{in-below}
+use Rattle.laws.proofs.Modulo.{lt-or-le}
+use Rattle.liberation.specs.Sets.{place, diskAt, rowAt, rowFrom, diagonalFrom, rowSet, diagonalSet, ordinary, hasExtra, extraDisk, extraRow, extraOf, setOf, survivingIn}
+use Rattle.liberation.proofs.SetLaws.{disk-place, place-of, in-row, in-ordinary, in-ordinary-data, place-below, set-below}
+use Rattle.liberation.proofs.DistinctLaws.{extra-apart}
+use Rattle.liberation.proofs.PlaceLaws.{disk-below}
+use Rattle.parity.specs.Stripes.{without, solved, setClean, stripeLong}
+use Rattle.parity.proofs.CellLaws.{cell-fits}
+use Rattle.parity.proofs.OverLaws.{in-without}
+use Rattle.xor.specs.Parts.{withPart, xorOffsets}
+use Rattle.xor.specs.Reach.{Reached}
+use Rattle.xor_within.specs.Beside.{Beside}
+use Rattle.offsets.specs.Offsets.{scaled, cellsFrom, Pushed}
+use Rattle.offsets.proofs.OffsetLaws.{over-offsets, length-scaled, scaled-append, each-offset, cells-reached}
+use Rattle.offsets.proofs.PushLaws.{walk-last, walk-long, pushed-none, pushed-one, pushed-then}
+use Rattle.offsets.proofs.KeptLaws.{Keeps, surviving-keeps, without-keeps, both-keep, kept-append, kept-below, kept-short, kept-same, kept-all, surviving-twice, rowIn, row-in-below, cell-walk, surviving-two}
+use Rattle.stripes.specs.Cells.{survivors, ordinaryOf, parityDisk, extraIn, Ordinary}
+
+survivors-keep : (p x y : ℕ) → Keeps (λ c. eqb (diskAt p c) y || eqb (diskAt p c) x) (survivors p x y)
+survivors-keep p x y = both-keep (surviving-keeps p x) (surviving-keeps p y)
+
+pub survivors-none : (p x y : ℕ) → survivors p x y [] ≡ []
+survivors-none p x y = survivors-keep p x y .none
+
+pub survivors-append : (p x y : ℕ) (xs ys : List ℕ) → survivors p x y (xs ++ ys) ≡ survivors p x y xs ++ survivors p x y ys
+survivors-append p x y = kept-append (survivors-keep p x y)
+
+-- in either order
+pub survivors-swap : (p x y : ℕ) (xs : List ℕ) → survivors p x y xs ≡ survivors p y x xs
+survivors-swap p x y xs = kept-same (survivors-keep p x y) (survivors-keep p y x) xs (λ c h. or-comm (eqb (diskAt p c) y) (eqb (diskAt p c) x))
+
+-- one cell: on disk y, on disk x, or on neither
+module _ (p x y r c : ℕ) (row : r < p) where
+  one : (f : ℕ) (b : Bool) → eqb c f ≡ b → survivingIn p f (place p r c ∷ []) ≡ pick b [] (place p r c ∷ [])
+  one f b e =
+      surviving-keeps p f .next (place p r c) []
+      ∙ ap (λ (l : List ℕ). pick (eqb (diskAt p (place p r c)) f) l (place p r c ∷ l)) (surviving-keeps p f .none)
+      ∙ ap (λ (t : Bool). pick t [] (place p r c ∷ [])) (ap (λ (d : ℕ). eqb d f) (disk-place p r c row) ∙ e)
+
+  pub one-lost-y : c ≡ y → survivors p x y (place p r c ∷ []) ≡ []
+  one-lost-y e = ap (survivingIn p x) (one y true (eq-eqb c y e)) ∙ surviving-keeps p x .none
+
+  pub one-lost-x : c ≡ x → survivors p x y (place p r c ∷ []) ≡ []
+  one-lost-x e = go (eqb c y) refl
+    where
+      go : (b : Bool) → eqb c y ≡ b → survivors p x y (place p r c ∷ []) ≡ []
+      go true q = one-lost-y (eqb-true c y q)
+      go false q = ap (survivingIn p x) (one y false q) ∙ one x true (eq-eqb c x e)
+
+  pub one-kept : (c ≡ x → ⊥) → (c ≡ y → ⊥) → survivors p x y (place p r c ∷ []) ≡ place p r c ∷ []
+  one-kept n m = ap (survivingIn p x) (one y false (ne-eqb c y m)) ∙ one x false (ne-eqb c x n)
+
+-- one disk, named twice; the cells of a stripe, without a disk that it lacks
+pub survivors-one : (p f : ℕ) (xs : List ℕ) → survivors p f f xs ≡ survivingIn p f xs
+survivors-one p f xs = surviving-twice p f xs
+
+pub surviving-past : (p f : ℕ) (xs : List ℕ) → allBelow (p * f) xs ≡ true → survivingIn p f xs ≡ xs
+surviving-past p f xs h = kept-all (surviving-keeps p f) xs (λ x i. ne-eqb (diskAt p x) f (λ e. omega (arith, disk-below p f x (in-below (p * f) x xs h i))))
+
+pub survivors-past : (p f : ℕ) (xs : List ℕ) → allBelow (p * f) xs ≡ true → survivors p f f xs ≡ xs
+survivors-past p f xs h = survivors-one p f xs ∙ surviving-past p f xs h
+
+module _ (p k kind i : ℕ) where
+  -- the cells on data disks, and the parity cell
+  pub ordinary-split : ordinaryOf p k kind i ≡ cellsFrom kind k p i 0 ++ (place p i (parityDisk k kind) ∷ [])
+  unfolding rowSet ordinary
+  ordinary-split = go (eqb kind 0)
+    where
+      go : (b : Bool) → pick b (rowSet p k i) (ordinary p k i) ≡ pick b (rowFrom k p i 0) (diagonalFrom k p i 0) ++ (place p i (pick b k (suc k)) ∷ [])
+      go true = walk-last (cell-walk 0 p i) k 0 ∙ ap (λ (c : ℕ). rowFrom k p i 0 ++ (place p i c ∷ [])) (zero-add k)
+      go false = refl
+
+  pub parity-most : parityDisk k kind ≤ k + 1
+  parity-most = go (eqb kind 0)
+    where
+      go : (b : Bool) → pick b k (suc k) ≤ k + 1
+      go true = omega arith
+      go false = omega arith
+
+  -- the ordinary cells, and the extra cell
+  pub set-split : setOf p k kind i ≡ ordinaryOf p k kind i ++ extraIn p k kind i
+  unfolding diagonalSet
+  set-split = go (eqb kind 0)
+    where
+      go : (b : Bool) → pick b (rowSet p k i) (diagonalSet p k i) ≡ pick b (rowSet p k i) (ordinary p k i) ++ pick b [] (pick (hasExtra p k i) (extraOf p i ∷ []) [])
+      go true = sym (append-nil (rowSet p k i))
+      go false = refl
+
+  -- there is no extra cell, or there is one
+  no-extra : hasExtra p k i ≡ false → extraIn p k kind i ≡ []
+  no-extra h = ap (λ (b : Bool). pick (eqb kind 0) [] (pick b (extraOf p i ∷ []) [])) h ∙ go (eqb kind 0)
+    where
+      go : (b : Bool) → _≡_ {A = List ℕ} (pick b [] []) []
+      go true = refl
+      go false = refl
+
+  pub extra-row : kind ≡ 0 → extraIn p k kind i ≡ []
+  extra-row e = ap (λ (b : Bool). pick b [] (pick (hasExtra p k i) (extraOf p i ∷ []) [])) (eq-eqb kind 0 e)
+
+  pub extra-first : i ≡ 0 → extraIn p k kind i ≡ []
+  extra-first e = no-extra (ap (λ (b : Bool). b && ltb (extraDisk p i) k) (lt-leb 1 i (omega arith)))
+
+  pub extra-absent : (i ≡ 0 → ⊥) → k ≤ extraDisk p i → extraIn p k kind i ≡ []
+  extra-absent n h = no-extra (ap (λ (b : Bool). b && ltb (extraDisk p i) k) (le-leb 1 i (omega arith)) ∙ le-ltb (extraDisk p i) k h)
+
+  pub extra-some : (kind ≡ 0 → ⊥) → (i ≡ 0 → ⊥) → extraDisk p i < k → extraIn p k kind i ≡ extraOf p i ∷ []
+  extra-some n m h = ap₂ (λ (a b : Bool). pick a [] (pick b (extraOf p i ∷ []) [])) (ne-eqb kind 0 n) (and-i (leb 1 i) (ltb (extraDisk p i) k) (le-leb 1 i (omega arith)) (lt-ltb (extraDisk p i) k h))
+
+  module _ (numbered : i < p) where
+    -- what each extra cell has, if there is one: its disk is a data disk, and it is no ordinary cell
+    extra-kept : {gone : ℕ → Bool} {kept : List ℕ → List ℕ} → Keeps gone kept → ((kind ≡ 0 → ⊥) → hasExtra p k i ≡ true → gone (extraOf p i) ≡ false) → kept (extraIn p k kind i) ≡ extraIn p k kind i
+    extra-kept {gone} {kept} w f = go (eqb kind 0) (hasExtra p k i) refl refl
+      where
+        go : (a b : Bool) → eqb kind 0 ≡ a → hasExtra p k i ≡ b → kept (pick a [] (pick b (extraOf p i ∷ []) [])) ≡ pick a [] (pick b (extraOf p i ∷ []) [])
+        go true b e h = w .none
+        go false false e h = w .none
+        go false true e h = w .next (extraOf p i) [] ∙ ap₂ (λ (t : Bool) (l : List ℕ). pick t l (extraOf p i ∷ l)) (f (eqb-false kind 0 e) h) (w .none)
+
+    extra-past : (f : ℕ) → k ≤ f → survivingIn p f (extraIn p k kind i) ≡ extraIn p k kind i
+    extra-past f h =
+        extra-kept (surviving-keeps p f)
+        (λ n e. let d : extraDisk p i < k = ltb-true (extraDisk p i) k (and-r (leb 1 i) (ltb (extraDisk p i) k) e) in
+        let r : extraRow p i < p = omega arith in
+        ne-eqb (diskAt p (extraOf p i)) f (λ q. omega (arith, disk-place p (extraRow p i) (extraDisk p i) r)))
+
+    pub extra-survives : (f : ℕ) → k ≤ f → survivors p f f (extraIn p k kind i) ≡ extraIn p k kind i
+    extra-survives f h = ap (survivingIn p f) (extra-past f h) ∙ extra-past f h
+
+    -- the row of the ordinary cell on disk c
+    pub own-row : (r c : ℕ) → r < p → isIn (place p r c) (ordinaryOf p k kind i) ≡ true → r ≡ pick (eqb kind 0) i (pick (ltb c k) ((i + c) % p) i)
+    own-row r c h = go (eqb kind 0)
+      where
+        on-data : ((ltb c k && eqb r ((i + c) % p)) ≡ true) → r ≡ pick (ltb c k) ((i + c) % p) i
+        on-data e = eqb-true r ((i + c) % p) (and-r (ltb c k) (eqb r ((i + c) % p)) e) ∙ sym (ap (λ (b : Bool). pick b ((i + c) % p) i) (and-l (ltb c k) (eqb r ((i + c) % p)) e))
+
+        on-parity : ((eqb c (suc k) && eqb r i) ≡ true) → r ≡ pick (ltb c k) ((i + c) % p) i
+        on-parity e =
+            let q : c ≡ suc k = eqb-true c (suc k) (and-l (eqb c (suc k)) (eqb r i) e) in
+            eqb-true r i (and-r (eqb c (suc k)) (eqb r i) e) ∙ sym (ap (λ (b : Bool). pick b ((i + c) % p) i) (le-ltb c k (omega arith)))
+
+        go : (b : Bool) → isIn (place p r c) (pick b (rowSet p k i) (ordinary p k i)) ≡ true → r ≡ pick b i (pick (ltb c k) ((i + c) % p) i)
+        go true e = eqb-true r i (and-l (eqb r i) (leb c k) (sym (in-row p k i r c h numbered) ∙ e))
+        go false e = ⊎-elim on-data on-parity (or-cases (ltb c k && eqb r ((i + c) % p)) (eqb c (suc k) && eqb r i) (sym (in-ordinary p k i r c h numbered) ∙ e))
+
+  -- the set without its ordinary cell on disk c
+  module _ (c r : ℕ) (o : Ordinary p k kind i c r) where
+    abbrev cell : ℕ
+    cell = place p r c
+
+    -- the cells of the set on disk c are that cell
+    same-disk : (y : ℕ) → isIn y (ordinaryOf p k kind i) ≡ true → diskAt p y ≡ c → cell ≡ y
+    same-disk y h e =
+        let q : place p (rowAt p y) c ≡ y = ap (place p (rowAt p y)) (sym e) ∙ place-of p y in
+        let b : rowAt p y < p = mod-lt y (omega (arith, o .row)) in
+        let s : rowAt p y ≡ r = own-row (o .numbered) (rowAt p y) c b (ap (λ (x : ℕ). isIn x (ordinaryOf p k kind i)) q ∙ h) ∙ sym (own-row (o .numbered) r c (o .row) (o .own)) in
+        ap (λ (x : ℕ). place p x c) (sym s) ∙ q
+
+    pub others-are : without (place p r c) (setOf p k kind i) ≡ survivors p c c (ordinaryOf p k kind i) ++ extraIn p k kind i
+    others-are =
+        ap (without cell) set-split
+        ∙ kept-append (without-keeps cell) (ordinaryOf p k kind i) (extraIn p k kind i)
+        ∙ ap₂ _++_ (kept-same (without-keeps cell) (surviving-keeps p c) (ordinaryOf p k kind i) flags ∙ sym (survivors-one p c (ordinaryOf p k kind i))) (extra-kept (o .numbered) (without-keeps cell) none)
+      where
+        flags : (y : ℕ) → isIn y (ordinaryOf p k kind i) ≡ true → eqb cell y ≡ eqb (diskAt p y) c
+        flags y h =
+            same-flag (eqb cell y) (eqb (diskAt p y) c)
+            (λ e. eq-eqb (diskAt p y) c (ap (diskAt p) (sym (eqb-true cell y e)) ∙ disk-place p r c (o .row)))
+            (λ e. eq-eqb cell y (same-disk y h (eqb-true (diskAt p y) c e)))
+
+        none : (kind ≡ 0 → ⊥) → hasExtra p k i ≡ true → eqb cell (extraOf p i) ≡ false
+        none n h =
+            ne-eqb cell (extraOf p i)
+            (λ e. clash (isIn (extraOf p i) (ordinary p k i))
+            (ap (λ (x : ℕ). isIn x (ordinary p k i)) (sym e) ∙ sym (ap (λ (b : Bool). isIn cell (pick b (rowSet p k i) (ordinary p k i))) (ne-eqb kind 0 n)) ∙ o .own)
+            (extra-apart p k i (o .numbered) h))
+
+-- what is pushed when a list of cells is empty, or one cell
+pub none-pushed : {xs : List ℕ} (s n : ℕ) (l : List ℕ) → xs ≡ [] → Pushed l l n n (scaled s xs)
+unfolding scaled
+none-pushed s n l e = subst (λ (ys : List ℕ). Pushed l l n n (scaled s ys)) (sym e) (pushed-none l n)
+
+pub one-pushed : {xs : List ℕ} (s n x : ℕ) (l : List ℕ) → xs ≡ x ∷ [] → n < length l → Pushed l (set l n (x * s)) n (n + 1) (scaled s xs)
+unfolding scaled
+one-pushed s n x l e h = subst (λ (ys : List ℕ). Pushed l (set l n (x * s)) n (n + 1) (scaled s ys)) (sym e) (pushed-one l n (x * s) h)
+
+-- pushes of cells one after another
+pub both-pushed : {a b c : List ℕ} {n m r : ℕ} {zs : List ℕ} (s : ℕ) (xs ys : List ℕ) → zs ≡ xs ++ ys → Pushed a b n m (scaled s xs) → Pushed b c m r (scaled s ys) → Pushed a c n r (scaled s zs)
+both-pushed {a} {b} {c} {n} {m} {r} {zs} s xs ys e u v = subst (Pushed a c n r) (sym (ap (scaled s) e ∙ scaled-append s xs ys)) (pushed-then u v)
+
+-- the list has room for the cells after y; hx and hy are the smaller ones of x and k, and of y and k
+at-most : (k x h : ℕ) → h ≡ k - (k - x) → (h ≤ x) × (h ≤ k)
+at-most k x h e = (omega arith, omega arith)
+
+after-fits : (k x y hx hy n m : ℕ) → (hx ≤ x) × (hx ≤ k) → (hy ≤ y) × (hy ≤ k) → x ≤ y → n ≡ 0 + (hx - 0) → m ≡ n + (hy - (x + 1)) → m + (k - (y + 1)) ≤ k
+after-fits k x y hx hy n m u v l e w = omega arith
+
+pub room-after : (k x y hx hy n m : ℕ) → hx ≡ k - (k - x) → hy ≡ k - (k - y) → x ≤ y → n ≡ 0 + (hx - 0) → m ≡ n + (hy - (x + 1)) → m + (k - (y + 1)) ≤ k
+room-after k x y hx hy n m e q = after-fits k x y hx hy n m (at-most k x hx e) (at-most k y hy q)
+
+module _ (p k s kind i : ℕ) where
+  pub data-count : {a b : List ℕ} {m r : ℕ} (n c : ℕ) → Pushed a b m r (scaled s (cellsFrom kind n p i c)) → r ≡ m + n
+  data-count n c u = omega (arith, u .count, length-scaled s (cellsFrom kind n p i c), walk-long (cell-walk kind p i) n c)
+
+  -- the cells before x, between x and y, and after y
+  pub data-pushed : {a b c d : List ℕ} {n m r : ℕ} (x y hx hy : ℕ) → i < p → x ≤ y → hx ≡ k - (k - x) → hy ≡ k - (k - y) → Pushed a b 0 n (scaled s (cellsFrom kind (hx - 0) p i 0)) → Pushed b c n m (scaled s (cellsFrom kind (hy - (x + 1)) p i (x + 1)))
+      → Pushed c d m r (scaled s (cellsFrom kind (k - (y + 1)) p i (y + 1))) → Pushed a d 0 r (scaled s (survivors p x y (cellsFrom kind k p i 0)))
+  data-pushed x y hx hy h o e q u v w =
+      both-pushed s (cellsFrom kind (hx - 0) p i 0 ++ cellsFrom kind (hy - (x + 1)) p i (x + 1)) (cellsFrom kind (k - (y + 1)) p i (y + 1))
+      (surviving-two p (rowIn kind p i) (λ c. row-in-below kind p i c h) (cell-walk kind p i) x y k o
+      ∙ ap₂ (λ (g j : ℕ). (cellsFrom kind (g - 0) p i 0 ++ cellsFrom kind (j - (x + 1)) p i (x + 1)) ++ cellsFrom kind (k - (y + 1)) p i (y + 1)) (sym e) (sym q))
+      (both-pushed s (cellsFrom kind (hx - 0) p i 0) (cellsFrom kind (hy - (x + 1)) p i (x + 1)) refl u v)
+      w
+
+  -- so many at most
+  pub data-most : {a b : List ℕ} {r : ℕ} (x y : ℕ) → Pushed a b 0 r (scaled s (survivors p x y (cellsFrom kind k p i 0))) → r ≤ k
+  data-most x y u = omega (arith, u .count, length-scaled s (survivors p x y (cellsFrom kind k p i 0)), kept-short (survivors-keep p x y) (cellsFrom kind k p i 0), walk-long (cell-walk kind p i) k 0)
+
+  pub ordinary-most : {a b : List ℕ} {r : ℕ} (x y : ℕ) → Pushed a b 0 r (scaled s (survivors p x y (ordinaryOf p k kind i))) → r ≤ k + 1
+  ordinary-most x y u =
+      let e : length (ordinaryOf p k kind i) ≡ k + 1 = ap length (ordinary-split p k kind i) ∙ length-append (cellsFrom kind k p i 0) (place p i (parityDisk k kind) ∷ []) ∙ ap (λ (n : ℕ). n + 1) (walk-long (cell-walk kind p i) k 0) in
+      omega (arith, u .count, length-scaled s (survivors p x y (ordinaryOf p k kind i)), kept-short (survivors-keep p x y) (ordinaryOf p k kind i))
+
+  -- the ordinary cells from those on data disks and the parity cell, the set from them and the extra cell
+  pub ordinary-pushed : {a b c : List ℕ} {n r : ℕ} (x y q : ℕ) → q ≡ parityDisk k kind → Pushed a b 0 n (scaled s (survivors p x y (cellsFrom kind k p i 0))) → Pushed b c n r (scaled s (survivors p x y (place p i q ∷ []))) → Pushed a c 0 r (scaled s (survivors p x y (ordinaryOf p k kind i)))
+  ordinary-pushed x y q e u v =
+      both-pushed s (survivors p x y (cellsFrom kind k p i 0)) (survivors p x y (place p i q ∷ []))
+      (ap (survivors p x y) (ordinary-split p k kind i ∙ ap (λ (d : ℕ). cellsFrom kind k p i 0 ++ (place p i d ∷ [])) (sym e)) ∙ survivors-append p x y (cellsFrom kind k p i 0) (place p i q ∷ []))
+      u
+      v
+
+  pub set-pushed : {a b c : List ℕ} {n r : ℕ} (x y : ℕ) → Pushed a b 0 n (scaled s (survivors p x y (ordinaryOf p k kind i))) → Pushed b c n r (scaled s (survivors p x y (extraIn p k kind i))) → Pushed a c 0 r (scaled s (survivors p x y (setOf p k kind i)))
+  set-pushed x y u v = both-pushed s (survivors p x y (ordinaryOf p k kind i)) (survivors p x y (extraIn p k kind i)) (ap (survivors p x y) (set-split p k kind i) ∙ survivors-append p x y (ordinaryOf p k kind i) (extraIn p k kind i)) u v
+
+-- offsets of the cells xs, in a list of 33 numbers
+module _ (s r n : ℕ) (old at xs t : List ℕ) (room : length at ≡ 33) (pushed : Pushed old at 0 r (scaled s xs)) (below : allBelow n xs ≡ true) (long : length t ≡ n * s) where
+  pub counted : (r ≡ length xs) × (r ≤ 33)
+  counted = let e : r ≡ length xs = omega (arith, pushed .count, length-scaled s xs) in (e, omega (arith, ap length (pushed .list), length-scaled s xs, length-take r at))
+
+  pub reached : Reached s (length t) (take r at)
+  reached = subst (Reached s (length t)) (sym (pushed .list)) (cells-reached s n (length t) xs below (omega arith) (omega (arith, counted)))
+
+  -- they lie beside a cell that is none of them
+  pub beside : (x : ℕ) → x < n → isIn x xs ≡ false → Beside (x * s) s (length t) (take r at)
+  beside x h none =
+      record {
+        sources = reached;
+        fits = omega (arith, cell-fits n s x h);
+        apart = subst (λ (l : List ℕ). (i : ℕ) → i < length l → (getD l i 0 + s ≤ x * s) ⊎ (x * s ≤ getD l i 0)) (sym (pushed .list)) (each-offset (λ a. (a + s ≤ x * s) ⊎ (x * s ≤ a)) s xs apart);
+      }
+    where
+      apart : (i : ℕ) → i < length xs → (getD xs i 0 * s + s ≤ x * s) ⊎ (x * s ≤ getD xs i 0 * s)
+      apart i l = ⊎-elim (λ q. inl (cell-fits x s (getD xs i 0) q)) (λ q. inr (mul-le-mul-right s q)) (lt-or-le (getD xs i 0) x)
+
+-- an ordinary cell of a set is a cell of the stripe
+module _ (p k kind i c r : ℕ) (o : Ordinary p k kind i c r) where
+  pub own-below : place p r c < p * (k + 2)
+  own-below =
+      in-below (p * (k + 2)) (place p r c) (setOf p k kind i) (set-below p k kind i (o .numbered))
+      (ap (isIn (place p r c)) (set-split p k kind i) ∙ isIn-append (place p r c) (ordinaryOf p k kind i) (extraIn p k kind i) ∙ or-l (isIn (place p r c) (ordinaryOf p k kind i)) (isIn (place p r c) (extraIn p k kind i)) (o .own))
+
+  pub own-disk : c < k + 2
+  own-disk = omega (arith, disk-below p (k + 2) (place p r c) own-below, disk-place p r c (o .row))
+
+  -- the offsets of the others lie beside it, and their XOR put there is the set's step
+  module _ (s n : ℕ) (old at t : List ℕ) (room : length at ≡ 33) (long : length t ≡ stripeLong p k s) (pushed : Pushed old at 0 n (scaled s (survivors p c c (ordinaryOf p k kind i) ++ extraIn p k kind i))) where
+    list : Pushed old at 0 n (scaled s (without (place p r c) (setOf p k kind i)))
+    list = subst (λ (xs : List ℕ). Pushed old at 0 n (scaled s xs)) (sym (others-are p k kind i c r o)) pushed
+
+    in-stripe : allBelow (p * (k + 2)) (without (place p r c) (setOf p k kind i)) ≡ true
+    in-stripe = kept-below (without-keeps (place p r c)) (p * (k + 2)) (setOf p k kind i) (set-below p k kind i (o .numbered))
+
+    pub others-few : n ≤ 33
+    others-few = counted s n (p * (k + 2)) old at (without (place p r c) (setOf p k kind i)) t room list in-stripe (long ∙ omega arith) .1
+
+    pub others-beside : Beside (place p r c * s) s (length t) (take n at)
+    others-beside = beside s n (p * (k + 2)) old at (without (place p r c) (setOf p k kind i)) t room list in-stripe (long ∙ omega arith) (place p r c) own-below none
+      where
+        none : isIn (place p r c) (without (place p r c) (setOf p k kind i)) ≡ false
+        none = in-without (place p r c) (place p r c) (setOf p k kind i) ∙ ap (λ (b : Bool). isIn (place p r c) (setOf p k kind i) && not b) (eq-eqb (place p r c) (place p r c) refl) ∙ and-false (isIn (place p r c) (setOf p k kind i))
+
+    pub others-solve : (u : List ℕ) → u ≡ withPart s (place p r c * s) (xorOffsets s t (take n at)) t → u ≡ solved s (place p r c) (setOf p k kind i) t
+    others-solve u e = e ∙ ap (λ (l : List ℕ). withPart s (place p r c * s) l t) (ap (xorOffsets s t) (list .list) ∙ over-offsets s t (without (place p r c) (setOf p k kind i)))
+
+-- the survivors of a set: few, in the stripe, and all of it where no disk is lost
+module _ (p k s kind i x y n : ℕ) (old at t : List ℕ) (numbered : i < p) (room : length at ≡ 33) (long : length t ≡ stripeLong p k s) (pushed : Pushed old at 0 n (scaled s (survivors p x y (setOf p k kind i)))) where
+  pub survivors-below : allBelow (p * (k + 2)) (survivors p x y (setOf p k kind i)) ≡ true
+  survivors-below = kept-below (survivors-keep p x y) (p * (k + 2)) (setOf p k kind i) (set-below p k kind i numbered)
+
+  -- the stripe has a cell
+  pub size-fits : s ≤ length t
+  size-fits = let l : 0 < k + 2 = omega arith in omega (arith, cell-fits (p * (k + 2)) s (place p i 0) (place-below p (k + 2) i 0 numbered l))
+
+  pub survivors-few : (n ≡ length (survivors p x y (setOf p k kind i))) × (n ≤ 33)
+  survivors-few = counted s n (p * (k + 2)) old at (survivors p x y (setOf p k kind i)) t room pushed survivors-below (long ∙ omega arith)
+
+  pub survivors-reached : Reached s (length t) (take n at)
+  survivors-reached = reached s n (p * (k + 2)) old at (survivors p x y (setOf p k kind i)) t room pushed survivors-below (long ∙ omega arith)
+
+  pub none-lost : (r : Bool) → x ≡ k + 2 → y ≡ k + 2 → r ≡ same (xorOffsets s t (take n at)) (replicate s 0) → r ≡ setClean p k s t kind i
+  none-lost r e q h =
+      h
+      ∙ ap (λ (l : List ℕ). same l (replicate s 0))
+      (ap (xorOffsets s t) (pushed .list ∙ ap (scaled s) (ap₂ (λ (a b : ℕ). survivors p a b (setOf p k kind i)) e q ∙ survivors-past p (k + 2) (setOf p k kind i) (set-below p k kind i numbered)))
+      ∙ over-offsets s t (setOf p k kind i))
+
+-- ordinary cells: of a row set on each data disk and P, of a diagonal set on each data disk and Q
+pub row-own : (p k i c : ℕ) → i < p → c ≤ k → Ordinary p k 0 i c i
+row-own p k i c h l = record { numbered = h; row = h; own = in-row p k i i c h h ∙ and-i (eqb i i) (leb c k) (eq-eqb i i refl) (le-leb c k l) }
+
+pub diagonal-own : (p k i c r : ℕ) → i < p → r < p → c < k → r ≡ (i + c) % p → Ordinary p k 1 i c r
+diagonal-own p k i c r h b l e = record { numbered = h; row = b; own = in-ordinary-data p k i r c b h l ∙ eq-eqb r ((i + c) % p) e }
+
+pub parity-own : (p k i : ℕ) → i < p → Ordinary p k 1 i (k + 1) i
+parity-own p k i h =
+    record {
+      numbered = h;
+      row = h;
+      own = in-ordinary p k i i (k + 1) h h ∙ or-r (ltb (k + 1) k && eqb i ((i + (k + 1)) % p)) (eqb (k + 1) (suc k) && eqb i i) (and-i (eqb (k + 1) (suc k)) (eqb i i) (eq-eqb (k + 1) (suc k) (omega arith)) (eq-eqb i i refl));
+    }

@@ -1,2 +1,0 @@
--- The laws behind the passes within one slice.
-pub mod WithinLaws
