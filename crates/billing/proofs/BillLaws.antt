@@ -8,7 +8,10 @@ use lib.Dec.{eqb, leb, ltb}
 use borrow.Author.Tests.{leb-true, leb-false, ltb-false, ne-eqb}
 use Rattle.laws.specs.Choice.{pick, when, firstOf}
 use Rattle.laws.proofs.Flags.{or-false-l, or-false-r}
-use Rattle.laws.proofs.ChoiceLaws.{first-none, when-none}
+use Rattle.laws.proofs.ChoiceLaws.{first-none, when-none, pick-refused, pick-done}
+use Rattle.refusals.specs.declared.Answer.{Answer}
+use Rattle.refusals.specs.Answers.{Answers}
+use Rattle.refusals.proofs.AnswerLaws.{answers-as}
 use Rattle.billing.specs.declared.Bill.{Bill}
 use Rattle.billing.specs.Bills.{least, gib, inFirst, inSecond, inThird, charge, centsOf, rateFault, bytesFault, billFault, Refused, Says, BillSays}
 
@@ -64,26 +67,24 @@ fault-none b r s t low most e l m = subst₂ (λ (x y : ℕ). Fair b r s t x y) 
 
 pub bill-refused : (m b r s t n : ℕ) (x : Bill) → n ≡ m → (n ≡ 0 → ⊥) → Refused n x → Says m b r s t x
 bill-refused m b r s t n x e z k =
-    let f : eqb m 0 ≡ false = ne-eqb m 0 (λ q. z (e ∙ q)) in
     record {
-      number = k .number ∙ e;
-      place = k .place;
-      first = k .first ∙ sym (ap (λ (c : Bool). pick c (inFirst b) 0) f);
-      second = k .second ∙ sym (ap (λ (c : Bool). pick c (inSecond b) 0) f);
-      third = k .third ∙ sym (ap (λ (c : Bool). pick c (inThird b) 0) f);
-      cents = k .cents ∙ sym (ap (λ (c : Bool). pick c (centsOf b r s t) 0) f);
+      answer = answers-as n m (x .answer) e (k .answer);
+      first = k .first ∙ pick-refused n m (inFirst b) 0 e z;
+      second = k .second ∙ pick-refused n m (inSecond b) 0 e z;
+      third = k .third ∙ pick-refused n m (inThird b) 0 e z;
+      cents = k .cents ∙ pick-refused n m (centsOf b r s t) 0 e z;
     }
 
-pub bill-done : (b r s t low most : ℕ) → billFault b r s t ≡ 0 → low ≡ least b (2 ^ 36) → most ≡ least b (2 ^ 40)
-    → BillSays b r s t (record { number = 0; place = 0; first = low; second = most - low; third = b - most; cents = (low * r + (most - low) * s + (b - most) * t + (gib - 1)) / gib })
-bill-done b r s t low most z l m =
+pub bill-done : (b r s t low most : ℕ) (a : Answer) → billFault b r s t ≡ 0 → Answers 0 a → low ≡ least b (2 ^ 36) → most ≡ least b (2 ^ 40)
+    → BillSays b r s t (record { answer = a; first = low; second = most - low; third = b - most; cents = (low * r + (most - low) * s + (b - most) * t + (gib - 1)) / gib })
+bill-done b r s t low most a z k l m =
+    let n : ℕ = billFault b r s t in
     record {
-      number = sym z;
-      place = refl;
-      first = l ∙ sym (ap (λ (n : ℕ). pick (eqb n 0) (inFirst b) 0) z);
-      second = ap₂ (λ (x y : ℕ). y - x) l m ∙ sym (ap (λ (n : ℕ). pick (eqb n 0) (inSecond b) 0) z);
-      third = ap (λ (y : ℕ). b - y) m ∙ sym (ap (λ (n : ℕ). pick (eqb n 0) (inThird b) 0) z);
-      cents = ap₂ (λ (x y : ℕ). (x * r + (y - x) * s + (b - y) * t + (gib - 1)) / gib) l m ∙ sym (ap (λ (n : ℕ). pick (eqb n 0) (centsOf b r s t) 0) z);
+      answer = answers-as 0 n a (sym z) k;
+      first = l ∙ pick-done n (inFirst b) 0 z;
+      second = ap₂ (λ (x y : ℕ). y - x) l m ∙ pick-done n (inSecond b) 0 z;
+      third = ap (λ (y : ℕ). b - y) m ∙ pick-done n (inThird b) 0 z;
+      cents = ap₂ (λ (x y : ℕ). (x * r + (y - x) * s + (b - y) * t + (gib - 1)) / gib) l m ∙ pick-done n (centsOf b r s t) 0 z;
     }
 
 -- "bytes in each band, adding up to the whole"

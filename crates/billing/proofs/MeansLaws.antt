@@ -25,9 +25,9 @@ pub record BillMeans (b r s t : ℕ) (x : Bill) : Type 0 where
   -- and no fewer are
   pub fewest : (n : ℕ) → costs x r s t ≤ n * gib → x .cents ≤ n
 
-means : (m b r s t : ℕ) (x : Bill) → Says m b r s t x → x .number ≡ 0 → BillMeans b r s t x
+means : (m b r s t : ℕ) (x : Bill) → Says m b r s t x → x .answer .refusal ≡ 0 → BillMeans b r s t x
 means m b r s t x k z =
-    let e : m ≡ 0 = sym (k .number) ∙ z in
+    let e : m ≡ 0 = sym (k .answer .refusal) ∙ z in
     let got : (n : ℕ) → pick (eqb m 0) n 0 ≡ n = λ n. ap (λ (i : ℕ). pick (eqb i 0) n 0) e in
     let i : x .first ≡ inFirst b = k .first ∙ got (inFirst b) in
     let j : x .second ≡ inSecond b = k .second ∙ got (inSecond b) in
@@ -43,14 +43,14 @@ means m b r s t x k z =
     least-cents : (a c n : ℕ) → c * gib < a + gib → a ≤ n * gib → c ≤ n
     least-cents a c n h l = omega arith
 
-pub bill-means : (b r s t : ℕ) (x : Bill) → BillSays b r s t x → x .number ≡ 0 → BillMeans b r s t x
+pub bill-means : (b r s t : ℕ) (x : Bill) → BillSays b r s t x → x .answer .refusal ≡ 0 → BillMeans b r s t x
 bill-means b r s t x k z = means (billFault b r s t) b r s t x k z
 
-pub run-bill-means : (x : Run) (r s t : ℕ) (y : Bill) → RunBillSays x r s t y → y .number ≡ 0 → BillMeans (runBytes x) r s t y
+pub run-bill-means : (x : Run) (r s t : ℕ) (y : Bill) → RunBillSays x r s t y → y .answer .refusal ≡ 0 → BillMeans (runBytes x) r s t y
 run-bill-means x r s t y k z = means (runBillFault x r s t) (runBytes x) r s t y k z
 
 -- "The bill of a run takes cells read × s as its bytes": the cells that reading the record answers
-pub run-bill-read : (x : Run) (r s t : ℕ) (y : Bill) (g : Progress) → RunBillSays x r s t y → y .number ≡ 0 → ProgressSays x g → BillMeans (g .cells * x .size) r s t y
+pub run-bill-read : (x : Run) (r s t : ℕ) (y : Bill) (g : Progress) → RunBillSays x r s t y → y .answer .refusal ≡ 0 → ProgressSays x g → BillMeans (g .cells * x .size) r s t y
 run-bill-read x r s t y g k z q =
-    let e : runFault x ≡ 0 = first-none (runFault x) (billFault (runBytes x) r s t) (sym (k .number) ∙ z) .0 in
+    let e : runFault x ≡ 0 = first-none (runFault x) (billFault (runBytes x) r s t) (sym (k .answer .refusal) ∙ z) .0 in
     subst (λ (n : ℕ). BillMeans (n * x .size) r s t y) (sym (q .cells ∙ ap (λ (n : ℕ). pick (eqb n 0) (cellsSoFar x) 0) e)) (run-bill-means x r s t y k z)

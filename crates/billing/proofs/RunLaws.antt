@@ -15,14 +15,14 @@ use Rattle.billing.specs.Bills.{runBytes, runBillFault, billFault, Refus
 use Rattle.billing.proofs.BillLaws.{bill-refused}
 
 -- the record is refused
-pub run-refused : (x : Run) (r s t : ℕ) (g : Progress) (y : Bill) → ProgressSays x g → (g .number ≡ 0 → ⊥) → Refused (g .number) y → RunBillSays x r s t y
+pub run-refused : (x : Run) (r s t : ℕ) (g : Progress) (y : Bill) → ProgressSays x g → (g .answer .refusal ≡ 0 → ⊥) → Refused (g .answer .refusal) y → RunBillSays x r s t y
 run-refused x r s t g y k n d =
-    bill-refused (runBillFault x r s t) (runBytes x) r s t (g .number) y (first-kept (g .number) (runFault x) (billFault (runBytes x) r s t) (k .number) n) n d
+    bill-refused (runBillFault x r s t) (runBytes x) r s t (g .answer .refusal) y (first-kept (g .answer .refusal) (runFault x) (billFault (runBytes x) r s t) (k .answer .refusal) n) n d
 
 -- what was read of a record that is not refused
-module _ (x : Run) (g : Progress) (k : ProgressSays x g) (z : g .number ≡ 0) where
+module _ (x : Run) (g : Progress) (k : ProgressSays x g) (z : g .answer .refusal ≡ 0) where
   fine : runFault x ≡ 0
-  fine = sym (k .number) ∙ z
+  fine = sym (k .answer .refusal) ∙ z
 
   read : g .cells ≡ cellsSoFar x
   read = k .cells ∙ ap (λ (n : ℕ). pick (eqb n 0) (cellsSoFar x) 0) fine

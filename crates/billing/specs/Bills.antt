@@ -4,6 +4,7 @@ use mathlib.Core.Bool.{_||_}
 use Prim.Native.Nat.{ℕ, _+_, _-_, _*_, _/_, _^_}
 use lib.Dec.{eqb, leb, ltb}
 use Rattle.laws.specs.Choice.{pick, when, firstOf}
+use Rattle.refusals.specs.Answers.{Answers}
 use Rattle.runs.specs.declared.Run.{Run}
 use Rattle.runs.specs.Runs.{cellsSoFar, runFault}
 use Rattle.billing.specs.declared.Bill.{Bill}
@@ -45,8 +46,7 @@ billFault b r s t = firstOf (rateFault r s t) (bytesFault b)
 
 -- a bill of b bytes that is refused by n, or not where n is 0
 pub record Says (n b r s t : ℕ) (x : Bill) : Type 0 where
-  pub number : x .number ≡ n
-  pub place : x .place ≡ 0
+  pub answer : Answers n (x .answer)
   pub first : x .first ≡ pick (eqb n 0) (inFirst b) 0
   pub second : x .second ≡ pick (eqb n 0) (inSecond b) 0
   pub third : x .third ≡ pick (eqb n 0) (inThird b) 0
@@ -67,8 +67,7 @@ RunBillSays x r s t y = Says (runBillFault x r s t) (runBytes x) r s t y
 
 -- a refusal by number n
 pub record Refused (n : ℕ) (x : Bill) : Type 0 where
-  pub number : x .number ≡ n
-  pub place : x .place ≡ 0
+  pub answer : Answers n (x .answer)
   pub first : x .first ≡ 0
   pub second : x .second ≡ 0
   pub third : x .third ≡ 0

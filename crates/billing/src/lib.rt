@@ -1,13 +1,13 @@
 // Bills of hosted rebuilds (document 02, ask 6): bytes read in three bands, each with its rate in cents per GiB.
 ghost use mathlib.Core.Path.{_≡_};
 ghost use Rattle.billing.specs.Bills.{least, billFault, Refused, BillSays, RunBillSays};
+use refusals::Answer;
 use runs::Run;
 
-// A refusal number (0 for none) and its place, the bytes in each of the three bands, and the cents.
+// The answer, the bytes in each of the three bands, and the cents.
 #[repr(C)]
 pub struct Bill {
-    pub number: u8,
-    pub place: u32,
+    pub answer: Answer,
     pub first: u64,
     pub second: u64,
     pub third: u64,
@@ -15,12 +15,11 @@ pub struct Bill {
 }
 
 // A refusal: every other field is zero.
-fn refused_bill(number: u8) -> Bill
-    ensures { λ r. ⌜ Refused number r ⌝ }
+fn refused_bill(refusal: u8) -> Bill
+    ensures { λ r. ⌜ Refused refusal r ⌝ }
 {
     Bill {
-        number: number,
-        place: 0,
+        answer: refusals::answered(refusal),
         first: 0,
         second: 0,
         third: 0,
@@ -68,8 +67,7 @@ pub fn bill_bytes(bytes: u64, first: u64, second: u64, third: u64) -> Bill
     let rest = bytes - most;
     let charge = low * first + middle * second + rest * third;
     Bill {
-        number: 0,
-        place: 0,
+        answer: refusals::answered(0),
         first: low,
         second: middle,
         third: rest,
@@ -82,8 +80,9 @@ pub fn bill_run(run: Run, first: u64, second: u64, third: u64) -> Bill
     ensures { λ r. ⌜ RunBillSays run first second third r ⌝ }
 {
     let progress = runs::progress_of(run);
-    if progress.number != 0 {
-        return refused_bill(progress.number);
+    let answer = progress.answer;
+    if answer.refusal != 0 {
+        return refused_bill(answer.refusal);
     }
     bill_bytes(progress.cells * run.size as u64, first, second, third)
 }

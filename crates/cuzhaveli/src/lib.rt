@@ -11,10 +11,10 @@ ghost use Rattle.billing.specs.Bills.{BillSays, RunBillSays};
 use billing::Bill;
 use judge::Judged;
 use planner::Plan;
+use refusals::Answer;
 use runs::Progress;
 use runs::Run;
 use runs::RunAnswer;
-use sets::Answer;
 use space::Space;
 use stripes::Checked;
 

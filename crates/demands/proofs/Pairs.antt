@@ -10,7 +10,7 @@ use Rattle.liberation.specs.Sets.{diskAt}
 use Rattle.parity.specs.Stripes.{cellAt, isStripe, clean}
 use Rattle.pairs.specs.Pairs.{pairSolved}
 use Rattle.pairs.proofs.PairLaws.{pair-stripe, pair-off, pair-clean, pair-back}
-use Rattle.sets.specs.declared.Answer.{Answer}
+use Rattle.refusals.specs.declared.Answer.{Answer}
 use Rattle.repair.specs.Says.{twoFault, TwoSays}
 use Rattle.repair.proofs.RefusalLaws.{fault-none}
 use Rattle.demands.proofs.Stripes.{is-stripe}
@@ -25,9 +25,9 @@ pub record Restored (p s a b : ℕ) (t t′ : List ℕ) : Type 0 where
   -- no other clean stripe has the other disks' contents: survivors of a clean stripe u bring u back, whatever the lost columns held
   pub only : (u : List ℕ) → isStripe p p s u ≡ true → clean p p s u ≡ true → ((x : ℕ) → x < p * (p + 2) → (diskAt p x ≡ a → ⊥) → (diskAt p x ≡ b → ⊥) → cellAt s t x ≡ cellAt s u x) → t′ ≡ u
 
-pub restores : (p s a b : ℕ) (t t′ : List ℕ) (r : Answer) → TwoSays p s a b t t′ r → r .number ≡ 0 → Restored p s a b t t′
+pub restores : (p s a b : ℕ) (t t′ : List ℕ) (r : Answer) → TwoSays p s a b t t′ r → r .refusal ≡ 0 → Restored p s a b t t′
 restores p s a b t t′ r k z =
-    let e : twoFault p s a b t ≡ 0 = sym (k .number) ∙ z in
+    let e : twoFault p s a b t ≡ 0 = sym (k .answer .refusal) ∙ z in
     let c = fault-none p s a b t e in
     let m : p ≤ p = omega arith in
     let ha : a < p + 2 = omega (arith, c .first) in

@@ -30,15 +30,15 @@ pub record Compared (p f : ℕ) (bs : List ℕ) (r : Plan) (j : Judged) : Type 0
   pub equally : eqb (j .reads) (r .reads) ≡ isBest p p f (stepsIn p bs)
 
 -- the planner's count is the read count of our plan
-pub our-reads : (p f : ℕ) (r : Plan) → PlanSays p f r → r .number ≡ 0 → r .reads ≡ readCount p p f (planOf p p f)
+pub our-reads : (p f : ℕ) (r : Plan) → PlanSays p f r → r .answer .refusal ≡ 0 → r .reads ≡ readCount p p f (planOf p p f)
 our-reads p f r k z = let m = plan-means p f r k z in m .count ∙ ap (readCount p p f) (m .steps)
 
-pub compared : (p f : ℕ) (bs : List ℕ) (r : Plan) (j : Judged) → f < p → PlanSays p f r → JudgeSays p f bs j → j .number ≡ 0 → Compared p f bs r j
+pub compared : (p f : ℕ) (bs : List ℕ) (r : Plan) (j : Judged) → f < p → PlanSays p f r → JudgeSays p f bs j → j .answer .refusal ≡ 0 → Compared p f bs r j
 compared p f bs r j l k d z =
     let a = zero-accepts p f bs j d z in
     let best = plans-best p f (a .width) l in
     let ss = stepsIn p bs in
-    let ours : r .reads ≡ readCount p p f (planOf p p f) = our-reads p f r k (k .number ∙ plan-none p p f (a .width) (a .disk)) in
+    let ours : r .reads ≡ readCount p p f (planOf p p f) = our-reads p f r k (k .answer .refusal ∙ plan-none p p f (a .width) (a .disk)) in
     let theirs : j .reads ≡ readCount p p f ss = zero-counts p f bs j d z in
     record {
       least = omega (arith, ours, theirs, best .least ss (a .accepts));
@@ -51,7 +51,7 @@ pub record Priced (p f : ℕ) (bs : List ℕ) (j : Judged) : Type 0 where
   pub few : diagonalsUsed p (stepsIn p bs) ≤ p
   pub price : j .reads + diagonalsUsed p (stepsIn p bs) * (p - diagonalsUsed p (stepsIn p bs)) ≡ p * p + (loneExtras p p f (stepsIn p bs) + when (byExtra p p f (stepsIn p bs)) 1)
 
-pub priced : (p f : ℕ) (bs : List ℕ) (j : Judged) → f < p → JudgeSays p f bs j → j .number ≡ 0 → Priced p f bs j
+pub priced : (p f : ℕ) (bs : List ℕ) (j : Judged) → f < p → JudgeSays p f bs j → j .answer .refusal ≡ 0 → Priced p f bs j
 priced p f bs j l d z =
     let a = zero-accepts p f bs j d z in
     let ss = stepsIn p bs in
@@ -63,7 +63,7 @@ pub record Unchanged (p f : ℕ) (bs cs : List ℕ) (j q : Judged) : Type 0 wher
   pub count : j .reads ≡ q .reads
   pub bytes : (s : ℕ) (t : List ℕ) → isStripe p p s t ≡ true → followed p p s f (stepsIn p bs) t ≡ followed p p s f (stepsIn p cs) t
 
-pub rearranged : (p f : ℕ) (bs cs : List ℕ) (j q : Judged) → JudgeSays p f bs j → j .number ≡ 0 → JudgeSays p f cs q → q .number ≡ 0 → Rearranged (stepsIn p bs) (stepsIn p cs) → Unchanged p f bs cs j q
+pub rearranged : (p f : ℕ) (bs cs : List ℕ) (j q : Judged) → JudgeSays p f bs j → j .answer .refusal ≡ 0 → JudgeSays p f cs q → q .answer .refusal ≡ 0 → Rearranged (stepsIn p bs) (stepsIn p cs) → Unchanged p f bs cs j q
 rearranged p f bs cs j q d z e y r =
     let a = zero-accepts p f bs j d z .accepts in
     let b = zero-accepts p f cs q e y .accepts in
@@ -74,18 +74,18 @@ rearranged p f bs cs j q d z e y r =
 
 -- The judge accepts the record of the planner's accepted answer put into its form, with the planner's count.
 pub record OwnAccepted (r : Plan) (j : Judged) : Type 0 where
-  pub number : j .number ≡ 0
+  pub refusal : j .answer .refusal ≡ 0
   pub reads : j .reads ≡ r .reads
 
-pub own-accepted : (p f : ℕ) (r : Plan) (j : Judged) → PlanSays p f r → r .number ≡ 0 → JudgeSays p f (formOf p r) j → OwnAccepted r j
+pub own-accepted : (p f : ℕ) (r : Plan) (j : Judged) → PlanSays p f r → r .answer .refusal ≡ 0 → JudgeSays p f (formOf p r) j → OwnAccepted r j
 own-accepted p f r j k z d =
     let m = plan-means p f r k z in
     let bs : List ℕ = formOf p r in
     let e : stepsIn p bs ≡ planOf p p f = plan-form p f r k z in
     let a : Acceptable p f bs = record { width = m .width; disk = m .disk; long = length-of p r; accepts = ap (accepted p p f) e ∙ plan-accepted p f (m .width) (m .disk) } in
-    let y : j .number ≡ 0 = accepts-zero p f bs j d a in
-    record { number = y; reads = zero-counts p f bs j d y ∙ ap (λ (ss : List Step). readCount p p f ss) e ∙ sym (our-reads p f r k z) }
+    let y : j .answer .refusal ≡ 0 = accepts-zero p f bs j d a in
+    record { refusal = y; reads = zero-counts p f bs j d y ∙ ap (λ (ss : List Step). readCount p p f ss) e ∙ sym (our-reads p f r k z) }
 
 -- "Ours is (3p² + 1)/4."
-pub own-count : (p f : ℕ) (r : Plan) → f < p → PlanSays p f r → r .number ≡ 0 → 4 * r .reads ≡ 3 * (p * p) + 1
+pub own-count : (p f : ℕ) (r : Plan) → f < p → PlanSays p f r → r .answer .refusal ≡ 0 → 4 * r .reads ≡ 3 * (p * p) + 1
 own-count p f r l k z = ap (λ (n : ℕ). 4 * n) (our-reads p f r k z) ∙ plans-best p f (plan-means p f r k z .width) l .ours-count

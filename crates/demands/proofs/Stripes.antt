@@ -17,7 +17,7 @@ use Rattle.liberation.proofs.Demand3.{plan-accepted}
 use Rattle.parity.specs.Stripes.{cellAt, columnOf, stripeLong, isStripe, clean, encoded, rebuilt}
 use Rattle.parity.proofs.Encoding.{encoded-stripe, encoded-data, encoded-clean, encoded-only}
 use Rattle.parity.proofs.Rebuilding.{one-back, lost-unused, only-read}
-use Rattle.sets.specs.declared.Answer.{Answer}
+use Rattle.refusals.specs.declared.Answer.{Answer}
 use Rattle.planner.specs.Says.{ListSays}
 use Rattle.stripes.specs.declared.Checked.{Checked}
 use Rattle.stripes.specs.Says.{stripeFault, EncodeSays, CheckSays}
@@ -38,9 +38,9 @@ pub record Encodes (p s : ℕ) (t t′ : List ℕ) : Type 0 where
   -- no other clean stripe has those data
   pub only : (u : List ℕ) → isStripe p p s u ≡ true → clean p p s u ≡ true → ((x : ℕ) → x < p * p → cellAt s u x ≡ cellAt s t x) → u ≡ t′
 
-pub encodes : (p s : ℕ) (t t′ : List ℕ) (r : Answer) → EncodeSays p s t t′ r → r .number ≡ 0 → Encodes p s t t′
+pub encodes : (p s : ℕ) (t t′ : List ℕ) (r : Answer) → EncodeSays p s t t′ r → r .refusal ≡ 0 → Encodes p s t t′
 encodes p s t t′ r k z =
-    let e : stripeFault p s t ≡ 0 = sym (k .number) ∙ z in
+    let e : stripeFault p s t ≡ 0 = sym (k .answer .refusal) ∙ z in
     let done : t′ ≡ encoded p p s t = k .stripe ∙ ap (λ (n : ℕ). pick (eqb n 0) (encoded p p s t) t) e in
     let ok : isStripe p p s t ≡ true = is-stripe p s t (within-limits p s t e .long) (k .bytes) in
     record {
@@ -51,22 +51,22 @@ encodes p s t t′ r k z =
     }
 
 -- "The check says yes exactly for clean stripes."
-pub checks : (p s : ℕ) (t : List ℕ) (r : Checked) → CheckSays p s t r → r .number ≡ 0 → r .clean ≡ clean p p s t
-checks p s t r k z = k .clean ∙ ap (λ (n : ℕ). eqb n 0 && clean p p s t) (sym (k .number) ∙ z)
+pub checks : (p s : ℕ) (t : List ℕ) (r : Checked) → CheckSays p s t r → r .answer .refusal ≡ 0 → r .clean ≡ clean p p s t
+checks p s t r k z = k .clean ∙ ap (λ (n : ℕ). eqb n 0 && clean p p s t) (sym (k .answer .refusal) ∙ z)
 
 -- what an accepted rebuild shows of its arguments
-taken : (p s f : ℕ) (t o o′ : List ℕ) (r : Answer) → OneSays p s f t o o′ r → r .number ≡ 0 → Fit p s f (length t) (length o)
-taken p s f t o o′ r k z = fault-none p s f (length t) (length o) (sym (k .number) ∙ z)
+taken : (p s f : ℕ) (t o o′ : List ℕ) (r : Answer) → OneSays p s f t o o′ r → r .refusal ≡ 0 → Fit p s f (length t) (length o)
+taken p s f t o o′ r k z = fault-none p s f (length t) (length o) (sym (k .answer .refusal) ∙ z)
 
-stripe-is : (p s f : ℕ) (t o o′ : List ℕ) (r : Answer) → OneSays p s f t o o′ r → r .number ≡ 0 → isStripe p p s t ≡ true
+stripe-is : (p s f : ℕ) (t o o′ : List ℕ) (r : Answer) → OneSays p s f t o o′ r → r .refusal ≡ 0 → isStripe p p s t ≡ true
 stripe-is p s f t o o′ r k z = is-stripe p s t (taken p s f t o o′ r k z .stripe) (k .bytes)
 
-column-is : (p s f : ℕ) (t o o′ : List ℕ) (r : Answer) → OneSays p s f t o o′ r → r .number ≡ 0 → o′ ≡ rebuilt p p s f t
-column-is p s f t o o′ r k z = k .column ∙ ap (λ (n : ℕ). pick (eqb n 0) (rebuilt p p s f t) o) (sym (k .number) ∙ z)
+column-is : (p s f : ℕ) (t o o′ : List ℕ) (r : Answer) → OneSays p s f t o o′ r → r .refusal ≡ 0 → o′ ≡ rebuilt p p s f t
+column-is p s f t o o′ r k z = k .column ∙ ap (λ (n : ℕ). pick (eqb n 0) (rebuilt p p s f t) o) (sym (k .answer .refusal) ∙ z)
 
 -- Demand 2 for one lost disk: survivors of a clean stripe u bring the disk back as it was in u, whatever stood in the lost column.
 pub brings-back :
-    (p s f : ℕ) (t u o o′ : List ℕ) (r : Answer) → isStripe p p s u ≡ true → clean p p s u ≡ true → OneSays p s f t o o′ r → r .number ≡ 0
+    (p s f : ℕ) (t u o o′ : List ℕ) (r : Answer) → isStripe p p s u ≡ true → clean p p s u ≡ true → OneSays p s f t o o′ r → r .refusal ≡ 0
     → ((x : ℕ) → x < p * (p + 2) → (diskAt p x ≡ f → ⊥) → cellAt s t x ≡ cellAt s u x) → o′ ≡ columnOf p s f u
 brings-back p s f t u o o′ r v c k z h =
     let a = taken p s f t o o′ r k z in
@@ -74,7 +74,7 @@ brings-back p s f t u o o′ r v c k z h =
 
 -- "What the stripe holds for the lost disk is never used": two accepted calls on stripes alike off that disk write one column, on dirty stripes too.
 pub never-used :
-    (p s f : ℕ) (t u o o′ n n′ : List ℕ) (r q : Answer) → OneSays p s f t o o′ r → r .number ≡ 0 → OneSays p s f u n n′ q → q .number ≡ 0
+    (p s f : ℕ) (t u o o′ n n′ : List ℕ) (r q : Answer) → OneSays p s f t o o′ r → r .refusal ≡ 0 → OneSays p s f u n n′ q → q .refusal ≡ 0
     → ((x : ℕ) → x < p * (p + 2) → (diskAt p x ≡ f → ⊥) → cellAt s t x ≡ cellAt s u x) → o′ ≡ n′
 never-used p s f t u o o′ n n′ r q k z m y h =
     let a = taken p s f t o o′ r k z in
@@ -85,11 +85,11 @@ never-used p s f t u o o′ n n′ r q k z m y h =
 -- The last sentence of demand 3: stripes alike in every cell marked 1 in the list that `read_list` writes give one rebuilt disk, dirty stripes too.
 pub one-column :
     (p s f : ℕ) (t u o o′ n n′ l l′ : List ℕ) (r q a : Answer)
-    → OneSays p s f t o o′ r → r .number ≡ 0 → OneSays p s f u n n′ q → q .number ≡ 0 → ListSays p f l l′ a → a .number ≡ 0
+    → OneSays p s f t o o′ r → r .refusal ≡ 0 → OneSays p s f u n n′ q → q .refusal ≡ 0 → ListSays p f l l′ a → a .refusal ≡ 0
     → ((x : ℕ) → getD l′ x 0 ≡ 1 → cellAt s t x ≡ cellAt s u x) → o′ ≡ n′
 one-column p s f t u o o′ n n′ l l′ r q a k z m y w e h =
     let i = taken p s f t o o′ r k z in
-    let list : l′ ≡ readList p p f = w .list ∙ ap (λ (x : ℕ). pick (eqb x 0) (readList p p f) l) (sym (w .number) ∙ e) in
+    let list : l′ ≡ readList p p f = w .list ∙ ap (λ (x : ℕ). pick (eqb x 0) (readList p p f) l) (sym (w .answer .refusal) ∙ e) in
     column-is p s f t o o′ r k z
     ∙ only-read p p s f (plan-accepted p f (i .width) (i .disk)) (omega (arith, i .disk)) t u (stripe-is p s f t o o′ r k z) (stripe-is p s f u n n′ q m y) (λ x g. h x (ap (λ (v : List ℕ). getD v x 0) list ∙ g))
     ∙ sym (column-is p s f u n n′ q m y)

@@ -29,7 +29,7 @@ unfolding stepsIn
 steps-long zero bs = refl
 steps-long (suc n) bs = ap suc (steps-long n (drop 3 bs))
 
-pub zero-accepts : (p f : ℕ) (bs : List ℕ) (r : Judged) → JudgeSays p f bs r → r .number ≡ 0 → Acceptable p f bs
+pub zero-accepts : (p f : ℕ) (bs : List ℕ) (r : Judged) → JudgeSays p f bs r → r .answer .refusal ≡ 0 → Acceptable p f bs
 unfolding accepted
 zero-accepts p f bs r s e =
     record {
@@ -40,14 +40,14 @@ zero-accepts p f bs r s e =
     }
   where
     all : (formFault p f bs ≡ 0) × (judge p p f (stepsIn p bs) .number ≡ 0)
-    all = first-none (formFault p f bs) (judge p p f (stepsIn p bs) .number) (sym (s .number) ∙ e)
+    all = first-none (formFault p f bs) (judge p p f (stepsIn p bs) .number) (sym (s .refusal) ∙ e)
 
     form : (planFault p p f ≡ 0) × (longFault (3 * p) bs ≡ 0)
     form = first-none (planFault p p f) (longFault (3 * p) bs) (all .0)
 
-pub accepts-zero : (p f : ℕ) (bs : List ℕ) (r : Judged) → JudgeSays p f bs r → Acceptable p f bs → r .number ≡ 0
+pub accepts-zero : (p f : ℕ) (bs : List ℕ) (r : Judged) → JudgeSays p f bs r → Acceptable p f bs → r .answer .refusal ≡ 0
 unfolding accepted
-accepts-zero p f bs r s a = s .number ∙ ap₂ firstOf form steps
+accepts-zero p f bs r s a = s .refusal ∙ ap₂ firstOf form steps
   where
     form : formFault p f bs ≡ 0
     form = ap₂ firstOf (plan-none p p f (a .width) (a .disk)) (long-accepted (3 * p) bs (a .long))
@@ -56,5 +56,5 @@ accepts-zero p f bs r s a = s .number ∙ ap₂ firstOf form steps
     steps = eqb-true (judge p p f (stepsIn p bs) .number) 0 (and-r (eqb (length (stepsIn p bs)) p) (eqb (judge p p f (stepsIn p bs) .number) 0) (a .accepts))
 
 -- the count is that of the definition
-pub zero-counts : (p f : ℕ) (bs : List ℕ) (r : Judged) → JudgeSays p f bs r → r .number ≡ 0 → r .reads ≡ readCount p p f (stepsIn p bs)
-zero-counts p f bs r s e = s .reads ∙ ap (λ (k : ℕ). pick (eqb k 0) (readCount p p f (stepsIn p bs)) 0) (sym (s .number) ∙ e)
+pub zero-counts : (p f : ℕ) (bs : List ℕ) (r : Judged) → JudgeSays p f bs r → r .answer .refusal ≡ 0 → r .reads ≡ readCount p p f (stepsIn p bs)
+zero-counts p f bs r s e = s .reads ∙ ap (λ (k : ℕ). pick (eqb k 0) (readCount p p f (stepsIn p bs)) 0) (sym (s .refusal) ∙ e)

@@ -21,6 +21,8 @@ use Rattle.sets.specs.Marks.{Marked, markAll, freshIn}
 use Rattle.sets.proofs.MarkLaws.{marks-added, fresh-added, fresh-le}
 use Rattle.liberation.proofs.MarkLists.{length-marks, mark-set}
 use Rattle.liberation.proofs.SetSizes.{size-most}
+use Rattle.refusals.specs.declared.Answer.{Answer}
+use Rattle.refusals.specs.Answers.{Answers}
 use Rattle.judge.specs.Says.{StepsSay}
 use Rattle.judge.proofs.StepLaws.{outOfForm, fault-is}
 
@@ -174,10 +176,10 @@ halfway-turn p f bs d m m′ s reads i fault fresh w h b q z k r =
     next = steps-next p i s bs h b
 
 -- a step that is refused
-pub halfway-refused : (p f : ℕ) (bs d m : List ℕ) (s : Step) (reads i fault : ℕ) → i < p → BytesOf bs i s → FaultIs p f d s fault → (fault ≡ 0 → ⊥) → Halfway p f bs d m reads i → StepsSay p f bs (record { number = fault; place = i; reads = 0 })
+pub halfway-refused : (p f : ℕ) (bs d m : List ℕ) (s : Step) (reads i fault : ℕ) → i < p → BytesOf bs i s → FaultIs p f d s fault → (fault ≡ 0 → ⊥) → Halfway p f bs d m reads i → StepsSay p f bs (record { answer = record { refusal = fault; place = i }; reads = 0 })
 halfway-refused p f bs d m s reads i fault h b q z k =
     record {
-      number = sym (ap (λ (j : Judged). j .number) stop);
+      refusal = sym (ap (λ (j : Judged). j .number) stop);
       place = sym (ap (λ (j : Judged). j .place) stop);
       reads = sym (ap (λ (j : Judged). pick (eqb (j .number) 0) (readCount p p f (stepsIn p bs)) 0) stop ∙ ap (λ (t : Bool). pick t (readCount p p f (stepsIn p bs)) 0) (ne-eqb fault 0 z));
     }
@@ -193,12 +195,12 @@ halfway-refused p f bs d m s reads i fault h b q z k =
         ∙ ap (λ (n : ℕ). judged n i) (sym same)
 
 -- no step is refused
-pub halfway-end : (p f : ℕ) (bs d m : List ℕ) (reads i : ℕ) → p ≤ i → Halfway p f bs d m reads i → StepsSay p f bs (record { number = 0; place = 0; reads = reads })
+pub halfway-end : (p f : ℕ) (bs d m : List ℕ) (reads i : ℕ) → p ≤ i → Halfway p f bs d m reads i → (a : Answer) → Answers 0 a → StepsSay p f bs (record { answer = a; reads = reads })
 unfolding stepsIn judgeFrom readFrom
-halfway-end p f bs d m reads i h k =
+halfway-end p f bs d m reads i h k a n =
     record {
-      number = sym (ap (λ (j : Judged). j .number) over);
-      place = sym (ap (λ (j : Judged). j .place) over);
+      refusal = n .refusal ∙ sym (ap (λ (j : Judged). j .number) over);
+      place = n .place ∙ sym (ap (λ (j : Judged). j .place) over);
       reads = k .count ∙ ap length read ∙ sym (ap (λ (j : Judged). pick (eqb (j .number) 0) (readCount p p f (stepsIn p bs)) 0) over);
     }
   where

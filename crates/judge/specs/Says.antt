@@ -18,12 +18,12 @@ abbrev pub judgeFault : ℕ → ℕ → List ℕ → ℕ
 judgeFault p f bs = firstOf (formFault p f bs) (judge p p f (stepsIn p bs) .number)
 
 pub record JudgeSays (p f : ℕ) (bs : List ℕ) (r : Judged) : Type 0 where
-  pub number : r .number ≡ judgeFault p f bs
-  pub place : r .place ≡ pick (eqb (formFault p f bs) 0) (judge p p f (stepsIn p bs) .place) 0
+  pub refusal : r .answer .refusal ≡ judgeFault p f bs
+  pub place : r .answer .place ≡ pick (eqb (formFault p f bs) 0) (judge p p f (stepsIn p bs) .place) 0
   pub reads : r .reads ≡ pick (eqb (judgeFault p f bs) 0) (readCount p p f (stepsIn p bs)) 0
 
 -- the same for a plan of the right form: refusals 6 to 9, or the read count
 pub record StepsSay (p f : ℕ) (bs : List ℕ) (r : Judged) : Type 0 where
-  pub number : r .number ≡ judge p p f (stepsIn p bs) .number
-  pub place : r .place ≡ judge p p f (stepsIn p bs) .place
+  pub refusal : r .answer .refusal ≡ judge p p f (stepsIn p bs) .number
+  pub place : r .answer .place ≡ judge p p f (stepsIn p bs) .place
   pub reads : r .reads ≡ pick (eqb (judge p p f (stepsIn p bs) .number) 0) (readCount p p f (stepsIn p bs)) 0

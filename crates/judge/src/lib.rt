@@ -12,12 +12,12 @@ ghost use Rattle.liberation.specs.Plans.{step, marksFrom};
 ghost use Rattle.liberation.specs.Judging.{othersThere, stepFault};
 ghost use Rattle.judge.specs.Limits.{InArray};
 ghost use Rattle.judge.specs.Says.{JudgeSays, StepsSay};
+use refusals::Answer;
 
-// A refusal number (0 for none) and its place, or the read count.
+// The answer, and the read count.
 #[repr(C)]
 pub struct Judged {
-    pub number: u8,
-    pub place: u32,
+    pub answer: Answer,
     pub reads: u32,
 }
 
@@ -138,8 +138,10 @@ fn judge_steps(width: usize, disk: usize, plan: &[u8], marks: &mut [u8]) -> Judg
         if fault != 0 {
             let place = i as u32;
             return Judged {
-                number: fault,
-                place,
+                answer: Answer {
+                    refusal: fault,
+                    place,
+                },
                 reads: 0,
             };
         }
@@ -149,8 +151,7 @@ fn judge_steps(width: usize, disk: usize, plan: &[u8], marks: &mut [u8]) -> Judg
         i += 1;
     }
     Judged {
-        number: 0,
-        place: 0,
+        answer: refusals::answered(0),
         reads,
     }
 }
@@ -159,7 +160,7 @@ fn judge_steps(width: usize, disk: usize, plan: &[u8], marks: &mut [u8]) -> Judg
 fn form_fault(width: usize, disk: usize, long: usize) -> u8
     ensures { λ r. ⌜ r ≡ firstOf (planFault width width disk) (when (not (eqb long (3 * width))) 5) ⌝ }
 {
-    let fault = sets::plan_fault(width, disk);
+    let fault = refusals::plan_fault(width, width, disk);
     if fault != 0 {
         return fault;
     }
@@ -176,8 +177,7 @@ pub fn judge_plan(width: usize, disk: usize, plan: &[u8]) -> Judged
     let fault = form_fault(width, disk, plan.len());
     if fault != 0 {
         return Judged {
-            number: fault,
-            place: 0,
+            answer: refusals::answered(fault),
             reads: 0,
         };
     }

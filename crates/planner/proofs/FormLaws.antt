@@ -16,6 +16,7 @@ use Rattle.liberation.proofs.UsedLaws.{named-numbers}
 use Rattle.liberation.proofs.AcceptedLaws.{accepted-named}
 use Rattle.liberation.proofs.Demand3.{plan-accepted}
 use Rattle.liberation.proofs.RecordLaws.{length-form, form-steps, recorded-from, plan-length}
+use Rattle.refusals.proofs.AnswerLaws.{answers-none}
 use Rattle.planner.specs.declared.Plan.{Plan}
 use Rattle.planner.specs.Says.{PlanSays, plannedSteps}
 use Rattle.planner.proofs.PlanLaws.{held-as, planned-is}
@@ -31,15 +32,15 @@ pub length-of : (p : ℕ) (r : Plan) → length (formOf p r) ≡ 3 * p
 length-of p r = length-form p 0 (r .steps .rows) (r .steps .kinds) (r .steps .numbers)
 
 -- an accepted answer's record holds our plan
-pub plan-held : (p f : ℕ) (r : Plan) → PlanSays p f r → r .number ≡ 0 → stepsHeld p r ≡ planOf p p f
+pub plan-held : (p f : ℕ) (r : Plan) → PlanSays p f r → r .answer .refusal ≡ 0 → stepsHeld p r ≡ planOf p p f
 plan-held p f r k z =
-    let n : planFault p p f ≡ 0 = sym (k .number) ∙ z in
+    let n : planFault p p f ≡ 0 = answers-none (planFault p p f) (r .answer) (k .answer) z in
     let w = plan-of p p f n in
     let h = held-as (plannedSteps p f) (planOf p p f) (r .steps) (planned-is p f n) (k .steps) in
     (λ j. recorded p 0 (h .rows j) (h .kinds j) (h .numbers j)) ∙ recorded-from p 0 (planOf p p f) (omega (arith, plan-length p f (w .0) (w .1)))
 
 -- "ours for the p steps of the planner's record, put in that form"
-pub plan-form : (p f : ℕ) (r : Plan) → PlanSays p f r → r .number ≡ 0 → stepsIn p (formOf p r) ≡ planOf p p f
+pub plan-form : (p f : ℕ) (r : Plan) → PlanSays p f r → r .answer .refusal ≡ 0 → stepsIn p (formOf p r) ≡ planOf p p f
 plan-form p f r k z = form-steps p 0 (r .steps .rows) (r .steps .kinds) (r .steps .numbers) ∙ plan-held p f r k z
 
 -- "so the ones are as many as the count says"

@@ -18,7 +18,8 @@ use Rattle.liberation.specs.Claims.{diagonalsUsed}
 use Rattle.liberation.proofs.Widths.{width-least, width-odd}
 use Rattle.liberation.proofs.FaultLaws.{plan-of}
 use Rattle.liberation.proofs.ParityReads.{row-parity-reads, diagonal-parity-reads, data-ones, row-parity-ones, diagonal-parity-ones}
-use Rattle.sets.specs.declared.Answer.{Answer}
+use Rattle.refusals.specs.declared.Answer.{Answer}
+use Rattle.refusals.proofs.AnswerLaws.{answers-none}
 use Rattle.planner.specs.declared.Plan.{Plan}
 use Rattle.planner.specs.Says.{PlanSays, listFault, ListSays}
 use Rattle.planner.proofs.FormLaws.{stepsHeld, plan-held, list-ones}
@@ -47,9 +48,9 @@ pub record PlanMeans (p f : ℕ) (r : Plan) : Type 0 where
   -- a lost P or Q: "Both read p² cells."
   pub parity : p ≤ f → r .reads ≡ p * p
 
-pub plan-means : (p f : ℕ) (r : Plan) → PlanSays p f r → r .number ≡ 0 → PlanMeans p f r
+pub plan-means : (p f : ℕ) (r : Plan) → PlanSays p f r → r .answer .refusal ≡ 0 → PlanMeans p f r
 plan-means p f r k z =
-    let n : planFault p p f ≡ 0 = sym (k .number) ∙ z in
+    let n : planFault p p f ≡ 0 = answers-none (planFault p p f) (r .answer) (k .answer) z in
     let w = plan-of p p f n in
     let e : stepsHeld p r ≡ planOf p p f = plan-held p f r k z in
     let c : r .reads ≡ readCount p p f (planOf p p f) = k .reads ∙ ap (λ (x : ℕ). pick (eqb x 0) (readCount p p f (planOf p p f)) 0) n in
@@ -74,9 +75,9 @@ marks-ones (suc n) x ys = ap (λ (i : ℕ). when (eqb (when (isIn x ys) 1) 1) 1 
     mark false = refl
 
 -- "so the ones are as many as the count says": those of the list o′ that `read_list` wrote, and the reads of the plan for the same disk
-pub list-means : (p f : ℕ) (o o′ : List ℕ) (a : Answer) (r : Plan) → ListSays p f o o′ a → a .number ≡ 0 → PlanSays p f r → onesIn o′ ≡ r .reads
+pub list-means : (p f : ℕ) (o o′ : List ℕ) (a : Answer) (r : Plan) → ListSays p f o o′ a → a .refusal ≡ 0 → PlanSays p f r → onesIn o′ ≡ r .reads
 list-means p f o o′ a r l z k =
-    let n : listFault p f o ≡ 0 = sym (l .number) ∙ z in
+    let n : listFault p f o ≡ 0 = answers-none (listFault p f o) a (l .answer) z in
     let m : planFault p p f ≡ 0 = first-none (planFault p p f) (longFault (p * (p + 2)) o) n .0 in
     let w = plan-of p p f m in
     ap onesIn (l .list ∙ ap (λ (x : ℕ). pick (eqb x 0) (readList p p f) o) n)

@@ -5,6 +5,7 @@ use Prim.Native.Nat.{ℕ}
 use lib.ListN.{length, take}
 use Rattle.liberation.specs.Plans.{Step, wordFrom, planOf, routeWord}
 use Rattle.liberation.specs.Records.{rowsOf, kindsOf, numbersOf, padded}
+use Rattle.refusals.specs.Answers.{Answers}
 use Rattle.planner.specs.declared.Steps.{Steps}
 use Rattle.planner.specs.declared.Planned.{Planned}
 
@@ -29,7 +30,6 @@ pub record RoutesAre (p : ℕ) (rs R : List ℕ) (w : ℕ) : Type 0 where
 
 -- our plan for disk f, not refused
 pub record OurPlan (p f : ℕ) (r : Planned) : Type 0 where
-  pub number : r .number ≡ 0
-  pub place : r .place ≡ 0
+  pub answer : Answers 0 (r .answer)
   pub steps : Holds (planOf p p f) (r .steps)
   pub routes : r .routes ≡ routeWord p p f

@@ -7,9 +7,10 @@ ghost use lib.ListN.{length, getD, take, replicate};
 ghost use lib.Bits.{bitOr};
 ghost use Rattle.liberation.specs.Sets.{isWidth};
 ghost use Rattle.liberation.specs.Plans.{firstRoutes, decided, turned, routes, wordFrom, rowSteps, diagonalSteps, allOf, planOf, readCount, readList, marksFrom};
+ghost use Rattle.refusals.specs.Answers.{Answers};
 ghost use Rattle.planner.specs.Records.{Holds, Counts, RoutesAre, OurPlan};
 ghost use Rattle.planner.specs.Says.{PlannedSays, PlanSays, Refused, ListSays};
-use sets::Answer;
+use refusals::Answer;
 
 // The steps of a plan, each with its row, its kind and its set number, in 31 places; zeros after the last.
 #[repr(C)]
@@ -19,11 +20,10 @@ pub struct Steps {
     pub numbers: [u8; 31],
 }
 
-// A plan: a refusal number (0 for none) and its place, the steps, a bit for each row that takes a diagonal, the read count.
+// A plan: the answer, the steps, a bit for each row that takes a diagonal, the read count.
 #[repr(C)]
 pub struct Plan {
-    pub number: u8,
-    pub place: u32,
+    pub answer: Answer,
     pub steps: Steps,
     pub routes: u32,
     pub reads: u32,
@@ -32,8 +32,7 @@ pub struct Plan {
 // A plan whose reads are not counted: a rebuild needs no count.
 #[repr(C)]
 pub struct Planned {
-    pub number: u8,
-    pub place: u32,
+    pub answer: Answer,
     pub steps: Steps,
     pub routes: u32,
 }
@@ -227,11 +226,10 @@ fn data_steps(width: usize, disk: usize, routes: [u8; 31]) -> Steps
 
 // A plan that is not refused.
 fn accepted_plan(steps: Steps, routes: u32) -> Planned
-    ensures { λ r. ⌜ (r .number ≡ 0) × (r .place ≡ 0) × (r .steps ≡ steps) × (r .routes ≡ routes) ⌝ }
+    ensures { λ r. ⌜ Answers 0 (r .answer) × (r .steps ≡ steps) × (r .routes ≡ routes) ⌝ }
 {
     Planned {
-        number: 0,
-        place: 0,
+        answer: refusals::answered(0),
         steps: steps,
         routes: routes,
     }
@@ -291,9 +289,9 @@ fn finished(width: usize, disk: usize, p: Planned) -> Plan
     let n = width * (width + 2);
     let mut marks = sets::no_marks();
     let reads = mark_steps(width, disk, s, &mut marks[..n]);
+    let answer = p.answer;
     Plan {
-        number: p.number,
-        place: p.place,
+        answer: answer,
         steps: s,
         routes: p.routes,
         reads: reads,
@@ -312,13 +310,12 @@ fn no_steps() -> Steps
 }
 
 // A refusal of the planner: every other field is zero.
-fn refused_plan(number: u8) -> Planned
-    ensures { λ r. ⌜ Refused number r ⌝ }
+fn refused_plan(refusal: u8) -> Planned
+    ensures { λ r. ⌜ Refused refusal r ⌝ }
 {
     let steps = no_steps();
     Planned {
-        number: number,
-        place: 0,
+        answer: refusals::answered(refusal),
         steps: steps,
         routes: 0,
     }
@@ -328,7 +325,7 @@ fn refused_plan(number: u8) -> Planned
 pub fn plan_steps(width: usize, disk: usize) -> Planned
     ensures { λ r. ⌜ PlannedSays width disk r ⌝ }
 {
-    let fault = sets::plan_fault(width, disk);
+    let fault = refusals::plan_fault(width, width, disk);
     if fault != 0 {
         return refused_plan(fault);
     }
@@ -339,12 +336,11 @@ pub fn plan_steps(width: usize, disk: usize) -> Planned
 pub fn plan_disk(width: usize, disk: usize) -> Plan
     ensures { λ r. ⌜ PlanSays width disk r ⌝ }
 {
-    let fault = sets::plan_fault(width, disk);
+    let fault = refusals::plan_fault(width, width, disk);
     if fault != 0 {
         let steps = no_steps();
         return Plan {
-            number: fault,
-            place: 0,
+            answer: refusals::answered(fault),
             steps: steps,
             routes: 0,
             reads: 0,
@@ -358,16 +354,16 @@ pub fn plan_disk(width: usize, disk: usize) -> Plan
 pub fn read_list(width: usize, disk: usize, list: &mut [u8]) -> Answer
     ensures { λ r. ⌜ ListSays width disk (now (list .entry)) (now (list .exit)) r ⌝ }
 {
-    let fault = sets::plan_fault(width, disk);
+    let fault = refusals::plan_fault(width, width, disk);
     if fault != 0 {
-        return sets::answered(fault);
+        return refusals::answered(fault);
     }
     if list.len() != width * (width + 2) {
-        return sets::answered(5);
+        return refusals::answered(5);
     }
     clear(list);
     let p = our_plan(width, disk);
     let s = p.steps;
     mark_steps(width, disk, s, list);
-    sets::answered(0)
+    refusals::answered(0)
 }

@@ -256,8 +256,9 @@ pub fn plan_text(input: &[u8]) -> Text
         return refusal_text(12);
     }
     let plan = planner::plan_disk(width, disk);
-    if plan.number != 0 {
-        return refusal_text(plan.number as usize);
+    let answer = plan.answer;
+    if answer.refusal != 0 {
+        return refusal_text(answer.refusal as usize);
     }
     let steps = plan.steps;
     steps_text(width, disk, steps)

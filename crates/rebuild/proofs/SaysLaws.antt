@@ -4,14 +4,16 @@ use mathlib.Core.Bool.{Bool, true, not}
 use mathlib.Core.List.{List}
 use Prim.Native.Nat.{ℕ, _+_, _*_, _≤_, _<_}
 use lib.Dec.{eqb}
-use borrow.Author.Tests.{ne-eqb, eqb-true, not-false}
-use Rattle.laws.specs.Choice.{pick, firstOf, when}
+use borrow.Author.Tests.{eqb-true, not-false}
+use Rattle.laws.specs.Choice.{firstOf, when}
 use Rattle.laws.specs.Xor.{allBytes}
-use Rattle.laws.proofs.ChoiceLaws.{first-none, when-none}
+use Rattle.laws.proofs.ChoiceLaws.{first-none, when-none, pick-refused, pick-done}
 use Rattle.liberation.specs.Sets.{isWidth, numbersFault}
 use Rattle.liberation.proofs.FaultLaws.{numbers-of}
 use Rattle.parity.specs.Stripes.{stripeLong, rebuilt}
-use Rattle.sets.specs.declared.Answer.{Answer}
+use Rattle.refusals.specs.declared.Answer.{Answer}
+use Rattle.refusals.specs.Answers.{Answers}
+use Rattle.refusals.proofs.AnswerLaws.{answers-as}
 use Rattle.rebuild.specs.Says.{lengthsFault, oneFault, OneSays}
 
 -- the refusal from the tests of the lengths, where numbers and disk are accepted
@@ -45,11 +47,11 @@ fault-none p s f n m e =
     }
 
 -- a refusal
-pub refused : (p s f n : ℕ) (t o : List ℕ) (r : Answer) → n ≡ oneFault p s f t o → (n ≡ 0 → ⊥) → (r .number ≡ n) × (r .place ≡ 0) → allBytes t ≡ true → OneSays p s f t o o r
+pub refused : (p s f n : ℕ) (t o : List ℕ) (r : Answer) → n ≡ oneFault p s f t o → (n ≡ 0 → ⊥) → Answers n r → allBytes t ≡ true → OneSays p s f t o o r
 refused p s f n t o r e z a b =
-    record { number = a .0 ∙ e; place = a .1; column = sym (ap (λ (b : Bool). pick b (rebuilt p p s f t) o) (ne-eqb (oneFault p s f t o) 0 (λ q. z (e ∙ q)))); bytes = b }
+    record { answer = answers-as n (oneFault p s f t o) r e a; column = pick-refused n (oneFault p s f t o) (rebuilt p p s f t) o e z; bytes = b }
 
 -- the accepted call
-pub accepted : (p s f : ℕ) (t o o′ : List ℕ) (r : Answer) → oneFault p s f t o ≡ 0 → o′ ≡ rebuilt p p s f t → (r .number ≡ 0) × (r .place ≡ 0) → allBytes t ≡ true → OneSays p s f t o o′ r
+pub accepted : (p s f : ℕ) (t o o′ : List ℕ) (r : Answer) → oneFault p s f t o ≡ 0 → o′ ≡ rebuilt p p s f t → Answers 0 r → allBytes t ≡ true → OneSays p s f t o o′ r
 accepted p s f t o o′ r z e a b =
-    record { number = a .0 ∙ sym z; place = a .1; column = e ∙ sym (ap (λ (x : ℕ). pick (eqb x 0) (rebuilt p p s f t) o) z); bytes = b }
+    record { answer = answers-as 0 (oneFault p s f t o) r (sym z) a; column = e ∙ pick-done (oneFault p s f t o) (rebuilt p p s f t) o z; bytes = b }

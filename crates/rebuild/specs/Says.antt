@@ -9,7 +9,8 @@ use Rattle.laws.specs.Choice.{pick, when, firstOf}
 use Rattle.laws.specs.Xor.{allBytes}
 use Rattle.liberation.specs.Sets.{numbersFault}
 use Rattle.parity.specs.Stripes.{stripeLong, rebuilt}
-use Rattle.sets.specs.declared.Answer.{Answer}
+use Rattle.refusals.specs.declared.Answer.{Answer}
+use Rattle.refusals.specs.Answers.{Answers}
 
 -- the rebuild refuses by 1, 2, 3 and 5: n and m are the bytes of the stripe and of the column
 abbrev pub lengthsFault : ℕ → ℕ → ℕ → ℕ → ℕ → ℕ
@@ -21,8 +22,7 @@ oneFault p s f t o = lengthsFault p s f (length t) (length o)
 
 -- the column o becomes o′
 pub record OneSays (p s f : ℕ) (t o o′ : List ℕ) (r : Answer) : Type 0 where
-  pub number : r .number ≡ oneFault p s f t o
-  pub place : r .place ≡ 0
+  pub answer : Answers (oneFault p s f t o) r
   pub column : o′ ≡ pick (eqb (oneFault p s f t o) 0) (rebuilt p p s f t) o
   -- what was lent are bytes
   pub bytes : allBytes t ≡ true

@@ -1,6 +1,6 @@
 // The rebuild of one lost disk: our plan's steps, one after another, from a lent stripe into a lent column. Each cell goes to its own stretch of the column.
 use planner::Steps;
-use sets::Answer;
+use refusals::Answer;
 ghost use mathlib.Core.Path.{_≡_};
 ghost use mathlib.Core.Bool.{true};
 ghost use mathlib.Core.List.{[], _∷_};
@@ -86,7 +86,7 @@ fn follow(width: usize, size: usize, disk: usize, steps: Steps, stripe: &[u8], c
 pub fn one_fault(width: usize, size: usize, disk: usize, stripe: usize, column: usize) -> u8
     ensures { λ r. ⌜ r ≡ lengthsFault width size disk stripe column ⌝ }
 {
-    let fault = sets::numbers_fault(width, size, disk);
+    let fault = refusals::numbers_fault(width, width, size, disk);
     if fault != 0 {
         return fault;
     }
@@ -111,10 +111,10 @@ pub fn rebuild_one(
 {
     let refusal = one_fault(width, size, disk, stripe.len(), column.len());
     if refusal != 0 {
-        return sets::answered(refusal);
+        return refusals::answered(refusal);
     }
     let plan = planner::plan_steps(width, disk);
     let steps = plan.steps;
     follow(width, size, disk, steps, stripe, column);
-    sets::answered(0)
+    refusals::answered(0)
 }

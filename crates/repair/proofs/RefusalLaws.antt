@@ -5,15 +5,16 @@ use mathlib.Core.List.{List}
 use Prim.Native.Nat.{ℕ, _+_, _%_, _≤_}
 use native.Mathlib.Omega.{arith}
 use lib.Dec.{eqb, ltb}
-use lib.ListN.{length}
-use borrow.Author.Tests.{ne-eqb, eq-eqb, ltb-false, eqb-true, eqb-false, not-false}
-use Rattle.laws.specs.Choice.{pick, when, firstOf}
+use borrow.Author.Tests.{ltb-false, eqb-false}
+use Rattle.laws.specs.Choice.{when, firstOf}
 use Rattle.laws.specs.Xor.{allBytes}
-use Rattle.laws.proofs.ChoiceLaws.{first-none, when-none}
+use Rattle.laws.proofs.ChoiceLaws.{first-none, when-none, pick-refused, pick-done}
 use Rattle.liberation.specs.Sets.{isWidth, numbersFault, diskFault, longFault}
 use Rattle.liberation.proofs.Widths.{width-most, width-odd}
-use Rattle.liberation.proofs.FaultLaws.{numbers-of}
-use Rattle.sets.specs.declared.Answer.{Answer}
+use Rattle.liberation.proofs.FaultLaws.{numbers-of, long-of}
+use Rattle.refusals.specs.declared.Answer.{Answer}
+use Rattle.refusals.specs.Answers.{Answers}
+use Rattle.refusals.proofs.AnswerLaws.{answers-as}
 use Rattle.parity.specs.Stripes.{stripeLong}
 use Rattle.pairs.specs.Pairs.{pairSolved}
 use Rattle.stripes.specs.Cells.{Sized}
@@ -51,7 +52,7 @@ fault-none p s a b t e =
         widest = width-most p (q .0);
         disks = omega arith;
         small = q .2;
-        long = eqb-true (length t) (stripeLong p p s) (not-false (eqb (length t) (stripeLong p p s)) (when-none (not (eqb (length t) (stripeLong p p s))) 4 (h .1)));
+        long = long-of (stripeLong p p s) t (h .1);
       };
       odd = width-odd p (q .0);
       first = q .3;
@@ -59,20 +60,18 @@ fault-none p s a b t e =
       apart = eqb-false a b (when-none (eqb a b) 3 (h .0));
     }
 
-pub two-refused : (p s a b n : ℕ) (t : List ℕ) (r : Answer) → n ≡ twoFault p s a b t → (n ≡ 0 → ⊥) → (r .number ≡ n) × (r .place ≡ 0) → allBytes t ≡ true → TwoSays p s a b t t r
+pub two-refused : (p s a b n : ℕ) (t : List ℕ) (r : Answer) → n ≡ twoFault p s a b t → (n ≡ 0 → ⊥) → Answers n r → allBytes t ≡ true → TwoSays p s a b t t r
 two-refused p s a b n t r e z q y =
     record {
-      number = q .0 ∙ e;
-      place = q .1;
-      stripe = sym (ap (λ (c : Bool). pick c (pairSolved p p s a b t) t) (ne-eqb (twoFault p s a b t) 0 (λ h. z (e ∙ h))));
+      answer = answers-as n (twoFault p s a b t) r e q;
+      stripe = pick-refused n (twoFault p s a b t) (pairSolved p p s a b t) t e z;
       bytes = y;
     }
 
-pub two-done : (p s a b : ℕ) (t u : List ℕ) (r : Answer) → twoFault p s a b t ≡ 0 → u ≡ pairSolved p p s a b t → (r .number ≡ 0) × (r .place ≡ 0) → allBytes t ≡ true → TwoSays p s a b t u r
+pub two-done : (p s a b : ℕ) (t u : List ℕ) (r : Answer) → twoFault p s a b t ≡ 0 → u ≡ pairSolved p p s a b t → Answers 0 r → allBytes t ≡ true → TwoSays p s a b t u r
 two-done p s a b t u r z e q y =
     record {
-      number = q .0 ∙ sym z;
-      place = q .1;
-      stripe = e ∙ sym (ap (λ (c : Bool). pick c (pairSolved p p s a b t) t) (eq-eqb (twoFault p s a b t) 0 z));
+      answer = answers-as 0 (twoFault p s a b t) r (sym z) q;
+      stripe = e ∙ pick-done (twoFault p s a b t) (pairSolved p p s a b t) t z;
       bytes = y;
     }

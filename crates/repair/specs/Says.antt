@@ -9,7 +9,8 @@ use Rattle.laws.specs.Xor.{allBytes}
 use Rattle.liberation.specs.Sets.{numbersFault, diskFault, longFault}
 use Rattle.parity.specs.Stripes.{stripeLong}
 use Rattle.pairs.specs.Pairs.{pairSolved}
-use Rattle.sets.specs.declared.Answer.{Answer}
+use Rattle.refusals.specs.declared.Answer.{Answer}
+use Rattle.refusals.specs.Answers.{Answers}
 
 -- the rebuild refuses by 1, 2, 3, 4 and 5: a and b are the lost disks, t is the stripe
 abbrev pub twoFault : ℕ → ℕ → ℕ → ℕ → List ℕ → ℕ
@@ -17,8 +18,7 @@ twoFault p s a b t = firstOf (numbersFault p p s a) (firstOf (diskFault p b) (fi
 
 -- the stripe t becomes t′: both disks rebuilt, or as it was on a refusal
 pub record TwoSays (p s a b : ℕ) (t t′ : List ℕ) (r : Answer) : Type 0 where
-  pub number : r .number ≡ twoFault p s a b t
-  pub place : r .place ≡ 0
+  pub answer : Answers (twoFault p s a b t) r
   pub stripe : t′ ≡ pick (eqb (twoFault p s a b t) 0) (pairSolved p p s a b t) t
   -- what was lent are bytes
   pub bytes : allBytes t ≡ true

@@ -6,13 +6,13 @@ ghost use Rattle.laws.specs.Choice.{when, firstOf};
 ghost use Rattle.liberation.specs.Sets.{numbersFault, diskFault};
 ghost use Rattle.parity.specs.Stripes.{stripeLong};
 ghost use Rattle.repair.specs.Says.{TwoSays};
-use sets::Answer;
+use refusals::Answer;
 
 // The refusal of a call on a stripe of `long` bytes, 0 for none.
 fn two_fault(width: usize, size: usize, first: usize, second: usize, long: usize) -> u8
     ensures { λ r. ⌜ r ≡ firstOf (numbersFault width width size first) (firstOf (diskFault width second) (firstOf (when (eqb first second) 4) (when (not (eqb long (stripeLong width width size))) 5))) ⌝ }
 {
-    let fault = sets::numbers_fault(width, size, first);
+    let fault = refusals::numbers_fault(width, width, size, first);
     if fault != 0 {
         return fault;
     }
@@ -40,8 +40,8 @@ pub fn rebuild_two(
 {
     let refusal = two_fault(width, size, first, second, stripe.len());
     if refusal != 0 {
-        return sets::answered(refusal);
+        return refusals::answered(refusal);
     }
     walk::solve_pair(width, size, first, second, stripe);
-    sets::answered(0)
+    refusals::answered(0)
 }

@@ -27,7 +27,7 @@ made-columns : (x : Run) (cs : List Call) (ls : List Left) → Made x cs ls → 
 unfolding columnsOf written
 made-columns x [] [] (none-made _) = refl
 made-columns x (c ∷ cs) (l ∷ ls) (step-made _ _ _ _ _ k m) =
-    ap (λ (n : ℕ). pick (eqb n 0) (l .column ∷ columnsOf ls) (columnsOf ls)) (k .number)
+    ap (λ (n : ℕ). pick (eqb n 0) (l .column ∷ columnsOf ls) (columnsOf ls)) (k .answer .refusal)
     ∙ go (isAccepted x c) (k .run) (k .column) (made-columns (l .run) cs ls m)
   where
     go : (b : Bool) → l .run ≡ pick b (moved x) x → l .column ≡ pick b (runColumn x (c .stripe)) (c .column) → columnsOf ls ≡ written (l .run) cs → pick b (l .column ∷ columnsOf ls) (columnsOf ls) ≡ pick b (runColumn x (c .stripe) ∷ written (moved x) cs) (written x cs)
@@ -40,9 +40,9 @@ each-long p s f [] = refl
 each-long p s f (c ∷ cs) = ap (λ (n : ℕ). suc n) (each-long p s f cs)
 
 -- calls on an opened run
-module _ (p s f n : ℕ) (r : RunAnswer) (cs : List Call) (ls : List Left) (o : OpenSays p s f n r) (z : r .answer .number ≡ 0) (m : Made (r .run) cs ls) where
+module _ (p s f n : ℕ) (r : RunAnswer) (cs : List Call) (ls : List Left) (o : OpenSays p s f n r) (z : r .answer .refusal ≡ 0) (m : Made (r .run) cs ls) where
   fine : numbersFault p p s f ≡ 0
-  fine = sym (o .number) ∙ z
+  fine = sym (o .answer .refusal) ∙ z
 
   start : r .run ≡ opened p s f n
   start = o .run ∙ ap (λ (i : ℕ). pick (eqb i 0) (opened p s f n) noRun) fine
@@ -75,7 +75,7 @@ module _ (p s f n : ℕ) (r : RunAnswer) (cs : List Call) (ls : List Left) (o : 
   read g k =
       let x : Run = lastRun (r .run) ls in
       record {
-        number = k .number ∙ readable;
+        refusal = k .answer .refusal ∙ readable;
         over = k .over ∙ ap (λ (i : ℕ). eqb i 0 && isOver x) readable ∙ made .over;
         cells = k .cells ∙ ap (λ (i : ℕ). pick (eqb i 0) (cellsSoFar x) 0) readable ∙ made .cells;
       }

@@ -7,11 +7,11 @@ use Prim.Native.Nat.{ℕ, suc, _+_, _*_, _≤_, _<_, _^_}
 use native.Mathlib.Nat.{mul-le-mul}
 use native.Mathlib.Omega.{arith}
 use lib.Dec.{eqb, leb}
-use borrow.Author.Tests.{eq-eqb, ne-eqb, leb-false}
+use borrow.Author.Tests.{leb-false}
 use Rattle.laws.specs.Choice.{pick, when, firstOf}
 use Rattle.laws.specs.Xor.{allBytes}
 use Rattle.laws.proofs.Flags.{or-false-l}
-use Rattle.laws.proofs.ChoiceLaws.{first-none, when-none}
+use Rattle.laws.proofs.ChoiceLaws.{first-none, when-none, pick-refused, pick-done, and-refused, and-done}
 use Rattle.laws.proofs.Modulo.{lt-or-le}
 use Rattle.liberation.specs.Sets.{isWidth, numbersFault}
 use Rattle.liberation.proofs.Widths.{width-most, width-odd}
@@ -19,27 +19,27 @@ use Rattle.liberation.proofs.FaultLaws.{numbers-of, plan-none}
 use Rattle.liberation.proofs.Demand3.{plans-best}
 use Rattle.liberation.proofs.ParityReads.{row-parity-reads, diagonal-parity-reads}
 use Rattle.liberation.specs.Plans.{planOf, readCount}
-use Rattle.sets.specs.declared.Answer.{Answer}
+use Rattle.refusals.specs.declared.Answer.{Answer}
+use Rattle.refusals.specs.Answers.{Answers}
+use Rattle.refusals.proofs.AnswerLaws.{answers-as, answers-none}
 use Rattle.planner.specs.declared.Plan.{Plan}
 use Rattle.planner.specs.Says.{PlanSays}
 use Rattle.rebuild.specs.Says.{lengthsFault, oneFault, OneSays}
 use Rattle.runs.specs.declared.Run.{Run}
 use Rattle.runs.specs.Runs.{opened, noRun, isOver, cellsSoFar, runFault, nextFault, stepLengthsFault, stepFault, stepOk, moved, runColumn, OpenSays, StepSays, ProgressSays}
 
-pub open-refused : (p s f n m : ℕ) (a : Answer) → m ≡ numbersFault p p s f → (m ≡ 0 → ⊥) → (a .number ≡ m) × (a .place ≡ 0) → OpenSays p s f n (record { answer = a; run = noRun })
+pub open-refused : (p s f n m : ℕ) (a : Answer) → m ≡ numbersFault p p s f → (m ≡ 0 → ⊥) → Answers m a → OpenSays p s f n (record { answer = a; run = noRun })
 open-refused p s f n m a e z k =
     record {
-      number = k .0 ∙ e;
-      place = k .1;
-      run = sym (ap (λ (b : Bool). pick b (opened p s f n) noRun) (ne-eqb (numbersFault p p s f) 0 (λ q. z (e ∙ q))));
+      answer = answers-as m (numbersFault p p s f) a e k;
+      run = pick-refused m (numbersFault p p s f) (opened p s f n) noRun e z;
     }
 
-pub open-done : (p s f n : ℕ) (a : Answer) → numbersFault p p s f ≡ 0 → (a .number ≡ 0) × (a .place ≡ 0) → OpenSays p s f n (record { answer = a; run = opened p s f n })
+pub open-done : (p s f n : ℕ) (a : Answer) → numbersFault p p s f ≡ 0 → Answers 0 a → OpenSays p s f n (record { answer = a; run = opened p s f n })
 open-done p s f n a z k =
     record {
-      number = k .0 ∙ sym z;
-      place = k .1;
-      run = sym (ap (λ (m : ℕ). pick (eqb m 0) (opened p s f n) noRun) z);
+      answer = answers-as 0 (numbersFault p p s f) a (sym z) k;
+      run = pick-done (numbersFault p p s f) (opened p s f n) noRun z;
     }
 
 -- the refusal of a step from its tests, where the rebuild's own are passed
@@ -53,14 +53,12 @@ not-over x i n m e =
     let b : Bool = not (eqb i (x .next)) in
     leb-false (x .stripes) (x .next) (or-false-l a b (when-none (a || b) 9 (first-none (lengthsFault (x .width) (x .size) (x .disk) n m) (when (a || b) 10) e .1)))
 
-pub step-refused : (x : Run) (i n : ℕ) (t o : List ℕ) (a : Answer) → n ≡ stepFault x i t o → (n ≡ 0 → ⊥) → (a .number ≡ n) × (a .place ≡ 0) → allBytes t ≡ true → StepSays x x i t o o a
+pub step-refused : (x : Run) (i n : ℕ) (t o : List ℕ) (a : Answer) → n ≡ stepFault x i t o → (n ≡ 0 → ⊥) → Answers n a → allBytes t ≡ true → StepSays x x i t o o a
 step-refused x i n t o a e z k b =
-    let f : stepOk x i t o ≡ false = ne-eqb (stepFault x i t o) 0 (λ q. z (e ∙ q)) in
     record {
-      number = k .0 ∙ e;
-      place = k .1;
-      run = sym (ap (λ (b : Bool). pick b (moved x) x) f);
-      column = sym (ap (λ (b : Bool). pick b (runColumn x t) o) f);
+      answer = answers-as n (stepFault x i t o) a e k;
+      run = pick-refused n (stepFault x i t o) (moved x) x e z;
+      column = pick-refused n (stepFault x i t o) (runColumn x t) o e z;
       bytes = b;
     }
 
@@ -69,35 +67,26 @@ pub step-done : (x : Run) (i : ℕ) (t o o′ : List ℕ) (a : Answer) → stepF
 step-done x i t o o′ a z k =
     let one : oneFault (x .width) (x .size) (x .disk) t o ≡ 0 = first-none (oneFault (x .width) (x .size) (x .disk) t o) (nextFault x i) z .0 in
     record {
-      number = k .number ∙ one ∙ sym z;
-      place = k .place;
-      run = sym (ap (λ (n : ℕ). pick (eqb n 0) (moved x) x) z);
+      answer = answers-as (oneFault (x .width) (x .size) (x .disk) t o) (stepFault x i t o) a (one ∙ sym z) (k .answer);
+      run = pick-done (stepFault x i t o) (moved x) x z;
       column = k .column ∙ ap (λ (n : ℕ). pick (eqb n 0) (runColumn x t) o) (one ∙ sym z);
       bytes = k .bytes;
     }
 
 -- "and rebuilds that stripe": an accepted step is an accepted rebuild of the record's disk, so all that holds of rebuilds holds of steps
-pub step-rebuilds : (x x′ : Run) (i : ℕ) (t o o′ : List ℕ) (a : Answer) → StepSays x x′ i t o o′ a → a .number ≡ 0 → OneSays (x .width) (x .size) (x .disk) t o o′ a
+pub step-rebuilds : (x x′ : Run) (i : ℕ) (t o o′ : List ℕ) (a : Answer) → StepSays x x′ i t o o′ a → a .refusal ≡ 0 → OneSays (x .width) (x .size) (x .disk) t o o′ a
 step-rebuilds x x′ i t o o′ a k z =
-    let e : stepFault x i t o ≡ 0 = sym (k .number) ∙ z in
+    let e : stepFault x i t o ≡ 0 = answers-none (stepFault x i t o) a (k .answer) z in
     let one : oneFault (x .width) (x .size) (x .disk) t o ≡ 0 = first-none (oneFault (x .width) (x .size) (x .disk) t o) (nextFault x i) e .0 in
     record {
-      number = z ∙ sym one;
-      place = k .place;
+      answer = answers-as (stepFault x i t o) (oneFault (x .width) (x .size) (x .disk) t o) a (e ∙ sym one) (k .answer);
       column = k .column ∙ ap (λ (n : ℕ). pick (eqb n 0) (runColumn x t) o) (e ∙ sym one);
       bytes = k .bytes;
     }
 
-pub progress-refused : (x : Run) (n : ℕ) → n ≡ runFault x → (n ≡ 0 → ⊥) → ProgressSays x (record { number = n; place = 0; over = false; cells = 0 })
-progress-refused x n e z =
-    let f : eqb (runFault x) 0 ≡ false = ne-eqb (runFault x) 0 (λ q. z (e ∙ q)) in
-    record {
-      number = e;
-      place = refl;
-      over = sym (ap (λ (b : Bool). b && isOver x) f);
-      cells = sym (ap (λ (b : Bool). pick b (cellsSoFar x) 0) f);
-      few = omega arith;
-    }
+pub progress-refused : (x : Run) (n : ℕ) (a : Answer) → n ≡ runFault x → (n ≡ 0 → ⊥) → Answers n a → ProgressSays x (record { answer = a; over = false; cells = 0 })
+progress-refused x n a e z k =
+    record { answer = answers-as n (runFault x) a e k; over = and-refused n (runFault x) (isOver x) e z; cells = pick-refused n (runFault x) (cellsSoFar x) 0 e z; few = omega arith }
 
 -- our plan's count, where width, size and disk are accepted
 pub reads-are : (x : Run) (r : Plan) → runFault x ≡ 0 → PlanSays (x .width) (x .disk) r → r .reads ≡ readCount (x .width) (x .width) (x .disk) (planOf (x .width) (x .width) (x .disk))
@@ -125,14 +114,12 @@ cells-most x z n =
     let m : x .next ≤ 4294967295 = omega arith in
     mul-le-mul m c
 
-pub progress-done : (x : Run) (b : Bool) (n : ℕ) → runFault x ≡ 0 → x .next < 2 ^ 32 → b ≡ isOver x → n ≡ cellsSoFar x → ProgressSays x (record { number = 0; place = 0; over = b; cells = n })
-progress-done x b n z l e q =
-    let f : eqb (runFault x) 0 ≡ true = eq-eqb (runFault x) 0 z in
+pub progress-done : (x : Run) (a : Answer) (b : Bool) (n : ℕ) → runFault x ≡ 0 → Answers 0 a → x .next < 2 ^ 32 → b ≡ isOver x → n ≡ cellsSoFar x → ProgressSays x (record { answer = a; over = b; cells = n })
+progress-done x a b n z k l e q =
     record {
-      number = sym z;
-      place = refl;
-      over = e ∙ sym (ap (λ (b : Bool). b && isOver x) f);
-      cells = q ∙ sym (ap (λ (b : Bool). pick b (cellsSoFar x) 0) f);
+      answer = answers-as 0 (runFault x) a (sym z) k;
+      over = e ∙ and-done (runFault x) (isOver x) z;
+      cells = q ∙ pick-done (runFault x) (cellsSoFar x) 0 z;
       few = omega (arith, q, cells-most x z l);
     }
 

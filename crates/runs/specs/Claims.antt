@@ -9,7 +9,7 @@ use Rattle.laws.specs.Choice.{pick}
 use Rattle.liberation.specs.Sets.{numbersFault}
 use Rattle.liberation.specs.Plans.{planOf, readCount}
 use Rattle.parity.specs.Stripes.{stripeLong, rebuilt}
-use Rattle.sets.specs.declared.Answer.{Answer}
+use Rattle.refusals.specs.declared.Answer.{Answer}
 use Rattle.runs.specs.declared.Run.{Run}
 use Rattle.runs.specs.declared.RunAnswer.{RunAnswer}
 use Rattle.runs.specs.declared.Progress.{Progress}
@@ -88,7 +88,7 @@ lastRun x (l ∷ ls) = lastRun (l .run) ls
 -- the columns that calls with answer 0 leave
 unfoldable pub columnsOf : List Left → List (List ℕ)
 columnsOf [] = []
-columnsOf (l ∷ ls) = pick (eqb (l .answer .number) 0) (l .column ∷ columnsOf ls) (columnsOf ls)
+columnsOf (l ∷ ls) = pick (eqb (l .answer .refusal) 0) (l .column ∷ columnsOf ls) (columnsOf ls)
 
 -- Calls on a record that was opened over n stripes: no more than n of them are accepted, and the run is over exactly when n were, not before; cells read are as many times the read count; each column is the rebuilt disk of the stripe given with it.
 pub record RunMade (p s f n : ℕ) (x : Run) (cs : List Call) (ls : List Left) : Type 0 where
@@ -99,17 +99,17 @@ pub record RunMade (p s f n : ℕ) (x : Run) (cs : List Call) (ls : List Left) :
   pub order : inOrder 0 (acceptedIn x cs) ≡ true
 
 abbrev pub Calls-right : Type 0
-Calls-right = (p s f n : ℕ) (r : RunAnswer) (cs : List Call) (ls : List Left) → OpenSays p s f n r → r .answer .number ≡ 0 → Made (r .run) cs ls → RunMade p s f n (r .run) cs ls
+Calls-right = (p s f n : ℕ) (r : RunAnswer) (cs : List Call) (ls : List Left) → OpenSays p s f n r → r .answer .refusal ≡ 0 → Made (r .run) cs ls → RunMade p s f n (r .run) cs ls
 
 -- what reading the record answers then: no refusal, over exactly when n steps were accepted, and as many times the read count
 pub record RunRead (p f n : ℕ) (ls : List Left) (g : Progress) : Type 0 where
-  pub number : g .number ≡ 0
+  pub refusal : g .answer .refusal ≡ 0
   pub over : g .over ≡ eqb (length (columnsOf ls)) n
   pub cells : g .cells ≡ length (columnsOf ls) * readCount p p f (planOf p p f)
 
 abbrev pub Progress-right : Type 0
-Progress-right = (p s f n : ℕ) (r : RunAnswer) (cs : List Call) (ls : List Left) (g : Progress) → OpenSays p s f n r → r .answer .number ≡ 0 → Made (r .run) cs ls → ProgressSays (lastRun (r .run) ls) g → RunRead p f n ls g
+Progress-right = (p s f n : ℕ) (r : RunAnswer) (cs : List Call) (ls : List Left) (g : Progress) → OpenSays p s f n r → r .answer .refusal ≡ 0 → Made (r .run) cs ls → ProgressSays (lastRun (r .run) ls) g → RunRead p f n ls g
 
 -- Steps in order on slices of the lengths required, no more than n of them, are all accepted.
 abbrev pub Calls-go : Type 0
-Calls-go = (p s f n : ℕ) (r : RunAnswer) (cs : List Call) (ls : List Left) → OpenSays p s f n r → r .answer .number ≡ 0 → Made (r .run) cs ls → inOrder 0 cs ≡ true → allLong p s cs ≡ true → length cs ≤ n → length (columnsOf ls) ≡ length cs
+Calls-go = (p s f n : ℕ) (r : RunAnswer) (cs : List Call) (ls : List Left) → OpenSays p s f n r → r .answer .refusal ≡ 0 → Made (r .run) cs ls → inOrder 0 cs ≡ true → allLong p s cs ≡ true → length cs ≤ n → length (columnsOf ls) ≡ length cs

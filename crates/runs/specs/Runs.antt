@@ -10,7 +10,8 @@ use Rattle.laws.specs.Xor.{allBytes}
 use Rattle.liberation.specs.Sets.{numbersFault}
 use Rattle.liberation.specs.Plans.{planOf, readCount}
 use Rattle.parity.specs.Stripes.{rebuilt}
-use Rattle.sets.specs.declared.Answer.{Answer}
+use Rattle.refusals.specs.declared.Answer.{Answer}
+use Rattle.refusals.specs.Answers.{Answers}
 use Rattle.rebuild.specs.Says.{lengthsFault}
 use Rattle.runs.specs.declared.Run.{Run}
 use Rattle.runs.specs.declared.RunAnswer.{RunAnswer}
@@ -61,14 +62,12 @@ runColumn x t = rebuilt (x .width) (x .width) (x .size) (x .disk) t
 
 -- opening a run
 pub record OpenSays (p s f n : ℕ) (r : RunAnswer) : Type 0 where
-  pub number : r .answer .number ≡ numbersFault p p s f
-  pub place : r .answer .place ≡ 0
+  pub answer : Answers (numbersFault p p s f) (r .answer)
   pub run : r .run ≡ pick (eqb (numbersFault p p s f) 0) (opened p s f n) noRun
 
 -- a step for stripe i: x, o before it and x′, o′ after it
 pub record StepSays (x x′ : Run) (i : ℕ) (t o o′ : List ℕ) (r : Answer) : Type 0 where
-  pub number : r .number ≡ stepFault x i t o
-  pub place : r .place ≡ 0
+  pub answer : Answers (stepFault x i t o) r
   pub run : x′ ≡ pick (stepOk x i t o) (moved x) x
   pub column : o′ ≡ pick (stepOk x i t o) (runColumn x t) o
   -- what was lent are bytes
@@ -76,8 +75,7 @@ pub record StepSays (x x′ : Run) (i : ℕ) (t o o′ : List ℕ) (r : Answer) 
 
 -- reading a record
 pub record ProgressSays (x : Run) (r : Progress) : Type 0 where
-  pub number : r .number ≡ runFault x
-  pub place : r .place ≡ 0
+  pub answer : Answers (runFault x) (r .answer)
   pub over : r .over ≡ (eqb (runFault x) 0 && isOver x)
   pub cells : r .cells ≡ pick (eqb (runFault x) 0) (cellsSoFar x) 0
   -- at most 2^32 - 1 stripes, each with at most 31² cells read: few enough to be multiplied by s

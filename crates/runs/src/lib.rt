@@ -1,7 +1,7 @@
 // Rebuild runs over many stripes (document 01, "Run and space"): the record is opened, stepped and read. Numbers that another program put into a record are tested like any others.
 ghost use mathlib.Core.Path.{_≡_};
 ghost use Rattle.runs.specs.Runs.{stepLengthsFault, OpenSays, StepSays, ProgressSays};
-use sets::Answer;
+use refusals::Answer;
 
 // A run: the width, the bytes of a cell, the lost disk, how many stripes there are, and which of them is next.
 #[repr(C)]
@@ -20,11 +20,10 @@ pub struct RunAnswer {
     pub run: Run,
 }
 
-// How far a run is: a refusal number (0 for none) and its place, whether it is over, and the cells read so far.
+// How far a run is: the answer, whether it is over, and the cells read so far.
 #[repr(C)]
 pub struct Progress {
-    pub number: u8,
-    pub place: u32,
+    pub answer: Answer,
     pub over: bool,
     pub cells: u64,
 }
@@ -33,10 +32,10 @@ pub struct Progress {
 pub fn open_run(width: usize, size: usize, disk: usize, stripes: u32) -> RunAnswer
     ensures { λ r. ⌜ OpenSays width size disk stripes r ⌝ }
 {
-    let number = sets::numbers_fault(width, size, disk);
-    if number != 0 {
+    let refusal = refusals::numbers_fault(width, width, size, disk);
+    if refusal != 0 {
         return RunAnswer {
-            answer: sets::answered(number),
+            answer: refusals::answered(refusal),
             run: Run {
                 width: 0,
                 size: 0,
@@ -47,7 +46,7 @@ pub fn open_run(width: usize, size: usize, disk: usize, stripes: u32) -> RunAnsw
         };
     }
     RunAnswer {
-        answer: sets::answered(0),
+        answer: refusals::answered(0),
         run: Run {
             width: width,
             size: size,
@@ -79,10 +78,10 @@ fn step_fault(run: Run, which: u64, stripe: usize, column: usize) -> u8
 pub fn stepped(run: Run, which: u64, stripe: &[u8], column: &mut [u8]) -> RunAnswer
     ensures { λ r. ⌜ StepSays run (r .run) which (now (stripe .entry)) (now (column .entry)) (now (column .exit)) (r .answer) ⌝ }
 {
-    let refusal = step_fault(run, which, stripe.len(), column.len());
-    if refusal != 0 {
+    let number = step_fault(run, which, stripe.len(), column.len());
+    if number != 0 {
         return RunAnswer {
-            answer: sets::answered(refusal),
+            answer: refusals::answered(number),
             run: run,
         };
     }
@@ -99,19 +98,17 @@ pub fn stepped(run: Run, which: u64, stripe: &[u8], column: &mut [u8]) -> RunAns
 pub fn progress_of(run: Run) -> Progress
     ensures { λ r. ⌜ ProgressSays run r ⌝ }
 {
-    let number = sets::numbers_fault(run.width, run.size, run.disk);
-    if number != 0 {
+    let fault = refusals::numbers_fault(run.width, run.width, run.size, run.disk);
+    if fault != 0 {
         return Progress {
-            number: number,
-            place: 0,
+            answer: refusals::answered(fault),
             over: false,
             cells: 0,
         };
     }
     let plan = planner::plan_disk(run.width, run.disk);
     Progress {
-        number: 0,
-        place: 0,
+        answer: refusals::answered(0),
         over: run.next == run.stripes,
         cells: run.next as u64 * plan.reads as u64,
     }

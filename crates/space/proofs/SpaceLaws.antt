@@ -1,16 +1,19 @@
 -- The quotient rounded up is the least that holds the package, since the remainder is below the divisor. No product or sum of the space call wraps, by the bounds that its tests leave. Accepted and refused answers keep the promise.
-use mathlib.Core.Path.{_≡_, refl, sym, ap, _∙_}
-use mathlib.Core.Bool.{Bool, true, false, _&&_}
+use mathlib.Core.Path.{_≡_, sym, ap, _∙_}
+use mathlib.Core.Bool.{true}
 use Prim.Native.Nat.{ℕ, zero, suc, _+_, _-_, _*_, _^_, _≤_, _<_}
 use native.Mathlib.Nat.{mul-le-mul, mul-pos, mul-le-mul-right, mul-le-mul-left, mod-lt, div-add-mod', div-mul-le-self, div-eq-of-lt}
 use native.Mathlib.Omega.{arith}
-use lib.Dec.{eqb, ltb}
-use borrow.Author.Tests.{ne-eqb, ltb-false, leb-true, le-leb}
-use Rattle.laws.specs.Choice.{pick, firstOf}
+use lib.Dec.{ltb}
+use borrow.Author.Tests.{ltb-false, leb-true, le-leb}
+use Rattle.laws.specs.Choice.{firstOf}
 use Rattle.liberation.specs.Sets.{isWidth, widthFault, sizeFault}
-use Rattle.laws.proofs.ChoiceLaws.{first-none, when-none}
+use Rattle.laws.proofs.ChoiceLaws.{first-none, when-none, pick-refused, pick-done, and-refused, and-done}
 use Rattle.liberation.proofs.Widths.{width-least, width-most}
 use Rattle.liberation.proofs.FaultLaws.{width-of, size-of}
+use Rattle.refusals.specs.declared.Answer.{Answer}
+use Rattle.refusals.specs.Answers.{Answers}
+use Rattle.refusals.proofs.AnswerLaws.{answers-as, answers-none}
 use Rattle.space.specs.declared.Space.{Space}
 use Rattle.space.specs.Says.{upBy, stripeHolds, stripesOf, needOf, fitsIn, packageFault, spaceFault, SpaceSays, Refused, SpaceMeans}
 
@@ -67,35 +70,30 @@ small p s l e =
 -- a refusal by a number that is not 0
 pub refusal-says : (p s l free n : ℕ) (r : Space) → n ≡ spaceFault p s l → (n ≡ 0 → ⊥) → Refused n r → SpaceSays p s l free r
 refusal-says p s l free n r e z d =
-    let no : eqb (spaceFault p s l) 0 ≡ false = ne-eqb (spaceFault p s l) 0 (λ q. z (e ∙ q)) in
     record {
-      number = d .number ∙ e;
-      place = d .place;
-      stripes = d .stripes ∙ ap (λ (t : Bool). pick t (stripesOf p p s l) 0) (sym no);
-      bytes = d .bytes ∙ ap (λ (t : Bool). pick t (needOf p p s l) 0) (sym no);
-      fits = d .fits ∙ ap (λ (t : Bool). t && fitsIn p p s l free) (sym no);
+      answer = answers-as n (spaceFault p s l) (r .answer) e (d .answer);
+      stripes = d .stripes ∙ pick-refused n (spaceFault p s l) (stripesOf p p s l) 0 e z;
+      bytes = d .bytes ∙ pick-refused n (spaceFault p s l) (needOf p p s l) 0 e z;
+      fits = d .fits ∙ and-refused n (spaceFault p s l) (fitsIn p p s l free) e z;
     }
 
 -- an accepted call
-pub space-says : (p s l free : ℕ) → spaceFault p s l ≡ 0 → SpaceSays p s l free (record { number = 0; place = 0; stripes = stripesOf p p s l; bytes = needOf p p s l; fits = fitsIn p p s l free })
-space-says p s l free e =
-    let ok : eqb (spaceFault p s l) 0 ≡ true = ap (λ (x : ℕ). eqb x 0) e in
+pub space-says : (p s l free : ℕ) (a : Answer) → spaceFault p s l ≡ 0 → Answers 0 a → SpaceSays p s l free (record { answer = a; stripes = stripesOf p p s l; bytes = needOf p p s l; fits = fitsIn p p s l free })
+space-says p s l free a e k =
     record {
-      number = sym e;
-      place = refl;
-      stripes = ap (λ (t : Bool). pick t (stripesOf p p s l) 0) (sym ok);
-      bytes = ap (λ (t : Bool). pick t (needOf p p s l) 0) (sym ok);
-      fits = ap (λ (t : Bool). t && fitsIn p p s l free) (sym ok);
+      answer = answers-as 0 (spaceFault p s l) a (sym e) k;
+      stripes = pick-done (spaceFault p s l) (stripesOf p p s l) 0 e;
+      bytes = pick-done (spaceFault p s l) (needOf p p s l) 0 e;
+      fits = and-done (spaceFault p s l) (fitsIn p p s l free) e;
     }
 
 -- an accepted answer: the stripes hold the package, one fewer does not, and it fits exactly when its need is at most the free bytes
-pub space-means : (p s l free : ℕ) (r : Space) → SpaceSays p s l free r → r .number ≡ 0 → SpaceMeans p s l free r
+pub space-means : (p s l free : ℕ) (r : Space) → SpaceSays p s l free r → r .answer .refusal ≡ 0 → SpaceMeans p s l free r
 space-means p s l free r h z =
-    let e : spaceFault p s l ≡ 0 = sym (h .number) ∙ z in
-    let ok : eqb (spaceFault p s l) 0 ≡ true = ap (λ (x : ℕ). eqb x 0) e in
-    let n : r .stripes ≡ stripesOf p p s l = h .stripes ∙ ap (λ (t : Bool). pick t (stripesOf p p s l) 0) ok in
-    let b : r .bytes ≡ needOf p p s l = h .bytes ∙ ap (λ (t : Bool). pick t (needOf p p s l) 0) ok in
-    let f : r .fits ≡ fitsIn p p s l free = h .fits ∙ ap (λ (t : Bool). t && fitsIn p p s l free) ok in
+    let e : spaceFault p s l ≡ 0 = answers-none (spaceFault p s l) (r .answer) (h .answer) z in
+    let n : r .stripes ≡ stripesOf p p s l = h .stripes ∙ sym (pick-done (spaceFault p s l) (stripesOf p p s l) 0 e) in
+    let b : r .bytes ≡ needOf p p s l = h .bytes ∙ sym (pick-done (spaceFault p s l) (needOf p p s l) 0 e) in
+    let f : r .fits ≡ fitsIn p p s l free = h .fits ∙ sym (and-done (spaceFault p s l) (fitsIn p p s l free) e) in
     let d : 0 < stripeHolds p p s = small p s l e .pos in
     record {
       enough = rw n (up-enough l (stripeHolds p p s) d);

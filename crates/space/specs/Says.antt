@@ -7,6 +7,7 @@ use Prim.Native.Nat.{ℕ, _+_, _-_, _*_, _/_, _^_, _≤_, _<_}
 use lib.Dec.{eqb, ltb, leb}
 use Rattle.laws.specs.Choice.{pick, firstOf, when}
 use Rattle.liberation.specs.Sets.{widthFault, sizeFault}
+use Rattle.refusals.specs.Answers.{Answers}
 use Rattle.space.specs.declared.Space.{Space}
 
 -- the quotient of a by d, "rounded up"
@@ -41,16 +42,14 @@ abbrev pub spaceFault : ℕ → ℕ → ℕ → ℕ
 spaceFault p s l = firstOf (widthFault p) (firstOf (sizeFault s) (packageFault l))
 
 pub record SpaceSays (p s l free : ℕ) (r : Space) : Type 0 where
-  pub number : r .number ≡ spaceFault p s l
-  pub place : r .place ≡ 0
+  pub answer : Answers (spaceFault p s l) (r .answer)
   pub stripes : r .stripes ≡ pick (eqb (spaceFault p s l) 0) (stripesOf p p s l) 0
   pub bytes : r .bytes ≡ pick (eqb (spaceFault p s l) 0) (needOf p p s l) 0
   pub fits : r .fits ≡ (eqb (spaceFault p s l) 0 && fitsIn p p s l free)
 
 -- a refusal by number n
 pub record Refused (n : ℕ) (r : Space) : Type 0 where
-  pub number : r .number ≡ n
-  pub place : r .place ≡ 0
+  pub answer : Answers n (r .answer)
   pub stripes : r .stripes ≡ 0
   pub bytes : r .bytes ≡ 0
   pub fits : r .fits ≡ false

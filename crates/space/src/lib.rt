@@ -1,24 +1,23 @@
 // The space that a package takes: its stripes, the bytes of each disk, and whether that fits.
 ghost use mathlib.Core.Path.{_≡_};
 ghost use Rattle.space.specs.Says.{spaceFault, SpaceSays, Refused};
+use refusals::Answer;
 
-// A refusal number (0 for none) and its place, the stripes, the bytes of each disk, and whether these are at most the free bytes.
+// The answer, the stripes, the bytes of each disk, and whether these are at most the free bytes.
 #[repr(C)]
 pub struct Space {
-    pub number: u8,
-    pub place: u32,
+    pub answer: Answer,
     pub stripes: u64,
     pub bytes: u64,
     pub fits: bool,
 }
 
 // A refusal of the space call: every other field is zero or false.
-fn refused_space(number: u8) -> Space
-    ensures { λ r. ⌜ Refused number r ⌝ }
+fn refused_space(refusal: u8) -> Space
+    ensures { λ r. ⌜ Refused refusal r ⌝ }
 {
     Space {
-        number: number,
-        place: 0,
+        answer: refusals::answered(refusal),
         stripes: 0,
         bytes: 0,
         fits: false,
@@ -29,11 +28,11 @@ fn refused_space(number: u8) -> Space
 fn space_fault(width: usize, size: usize, bytes: u64) -> u8
     ensures { λ r. ⌜ r ≡ spaceFault width size bytes ⌝ }
 {
-    let first = sets::width_fault(width);
+    let first = refusals::width_fault(width);
     if first != 0 {
         return first;
     }
-    let second = sets::size_fault(size);
+    let second = refusals::size_fault(size);
     if second != 0 {
         return second;
     }
@@ -53,8 +52,7 @@ pub fn package_space(width: usize, size: usize, bytes: u64, free: u64) -> Space
     let stripes = (bytes + (holds - 1)) / holds;
     let need = stripes * gives;
     Space {
-        number: 0,
-        place: 0,
+        answer: refusals::answered(0),
         stripes: stripes,
         bytes: need,
         fits: need <= free,

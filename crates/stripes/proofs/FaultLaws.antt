@@ -12,13 +12,15 @@ use Rattle.laws.specs.Choice.{pick, when, firstOf}
 use Rattle.laws.specs.Sums.{allTo}
 use Rattle.laws.specs.Xor.{allBytes}
 use Rattle.laws.proofs.Flags.{or-false-r}
-use Rattle.laws.proofs.ChoiceLaws.{first-none, first-kept, first-assoc, when-none}
+use Rattle.laws.proofs.ChoiceLaws.{first-none, first-kept, first-assoc, pick-refused, pick-done, and-refused, and-done}
 use Rattle.liberation.specs.Sets.{isWidth, widthFault, longFault, sizeFault, numbersFault}
 use Rattle.liberation.specs.Plans.{Step, allOf}
 use Rattle.liberation.proofs.Widths.{width-least, width-most}
-use Rattle.liberation.proofs.FaultLaws.{width-of, numbers-of, numbers-first}
+use Rattle.liberation.proofs.FaultLaws.{width-of, size-of, long-of, numbers-of, numbers-first}
 use Rattle.liberation.proofs.ParityPlans.{plan-row-parity, plan-diagonal-parity}
-use Rattle.sets.specs.declared.Answer.{Answer}
+use Rattle.refusals.specs.declared.Answer.{Answer}
+use Rattle.refusals.specs.Answers.{Answers}
+use Rattle.refusals.proofs.AnswerLaws.{answers-as}
 use Rattle.parity.specs.Stripes.{stripeLong, encoded, followed, clean, setClean}
 use Rattle.stripes.specs.Cells.{Sized}
 use Rattle.stripes.specs.Says.{stripeFault, EncodeSays, CheckSays}
@@ -54,10 +56,10 @@ fault-none p s t e =
     let w = first-none (widthFault p) (firstOf (sizeFault s) (longFault (stripeLong p p s) t)) e in
     let v = first-none (sizeFault s) (longFault (stripeLong p p s) t) (w .1) in
     record {
-      widest = width-most p (not-false (isWidth p) (when-none (not (isWidth p)) 0 (w .0)));
+      widest = width-most p (width-of p (w .0));
       disks = omega arith;
-      small = ltb-false 4096 s (or-false-r (eqb s 0) (ltb 4096 s) (when-none (eqb s 0 || ltb 4096 s) 1 (v .0)));
-      long = eqb-true (length t) (stripeLong p p s) (not-false (eqb (length t) (stripeLong p p s)) (when-none (not (eqb (length t) (stripeLong p p s))) 4 (v .1)));
+      small = size-of s (v .0) .1;
+      long = long-of (stripeLong p p s) t (v .1);
     }
 
 -- and has rows
@@ -66,12 +68,11 @@ fault-some p s t e =
     let w = first-none (widthFault p) (firstOf (sizeFault s) (longFault (stripeLong p p s) t)) e in
     omega (arith, width-least p (width-of p (w .0)))
 
-pub encode-refused : (p s n : ℕ) (t : List ℕ) (r : Answer) → n ≡ stripeFault p s t → (n ≡ 0 → ⊥) → (r .number ≡ n) × (r .place ≡ 0) → allBytes t ≡ true → EncodeSays p s t t r
+pub encode-refused : (p s n : ℕ) (t : List ℕ) (r : Answer) → n ≡ stripeFault p s t → (n ≡ 0 → ⊥) → Answers n r → allBytes t ≡ true → EncodeSays p s t t r
 encode-refused p s n t r e z a b =
     record {
-      number = a .0 ∙ e;
-      place = a .1;
-      stripe = sym (ap (λ (b : Bool). pick b (encoded p p s t) t) (ne-eqb (stripeFault p s t) 0 (λ q. z (e ∙ q))));
+      answer = answers-as n (stripeFault p s t) r e a;
+      stripe = pick-refused n (stripeFault p s t) (encoded p p s t) t e z;
       bytes = b;
     }
 
@@ -84,37 +85,26 @@ both-kinds p s t u v e q =
     ∙ ap₂ (λ (f : ℕ) (l : List ℕ). followed p p s f (allOf p 1 0) l) o e
     ∙ sym (ap₂ (λ (x y : List Step). followed p p s (suc p) y (followed p p s p x t)) (plan-row-parity p p) (plan-diagonal-parity p p))
 
-pub encode-done : (p s : ℕ) (t u v : List ℕ) (r : Answer) → stripeFault p s t ≡ 0 → u ≡ followed p p s p (allOf p 0 0) t → v ≡ followed p p s (p + 1) (allOf p 1 0) u → (r .number ≡ 0) × (r .place ≡ 0) → allBytes t ≡ true → EncodeSays p s t v r
+pub encode-done : (p s : ℕ) (t u v : List ℕ) (r : Answer) → stripeFault p s t ≡ 0 → u ≡ followed p p s p (allOf p 0 0) t → v ≡ followed p p s (p + 1) (allOf p 1 0) u → Answers 0 r → allBytes t ≡ true → EncodeSays p s t v r
 encode-done p s t u v r z e q a b =
     record {
-      number = a .0 ∙ sym z;
-      place = a .1;
-      stripe = both-kinds p s t u v e q ∙ sym (ap (λ (b : Bool). pick b (encoded p p s t) t) (eq-eqb (stripeFault p s t) 0 z));
+      answer = answers-as 0 (stripeFault p s t) r (sym z) a;
+      stripe = both-kinds p s t u v e q ∙ pick-done (stripeFault p s t) (encoded p p s t) t z;
       bytes = b;
     }
 
-pub check-refused : (p s n : ℕ) (t : List ℕ) → n ≡ stripeFault p s t → (n ≡ 0 → ⊥) → CheckSays p s t (record { number = n; place = 0; clean = false })
-check-refused p s n t e z =
-    record {
-      number = e;
-      place = refl;
-      clean = sym (ap (λ (b : Bool). b && clean p p s t) (ne-eqb (stripeFault p s t) 0 (λ q. z (e ∙ q))));
-    }
+pub check-refused : (p s n : ℕ) (t : List ℕ) (a : Answer) → n ≡ stripeFault p s t → (n ≡ 0 → ⊥) → Answers n a → CheckSays p s t (record { answer = a; clean = false })
+check-refused p s n t a e z k = record { answer = answers-as n (stripeFault p s t) a e k; clean = and-refused n (stripeFault p s t) (clean p p s t) e z }
 
--- not refused: clean if the sets of both kinds are
-check-done : (p s : ℕ) (t : List ℕ) (b : Bool) → stripeFault p s t ≡ 0 → b ≡ (allTo p (λ i. setClean p p s t 0 i) && allTo p (λ i. setClean p p s t 1 i)) → CheckSays p s t (record { number = 0; place = 0; clean = b })
+-- not refused
+pub check-done : (p s : ℕ) (t : List ℕ) (a : Answer) (b : Bool) → stripeFault p s t ≡ 0 → Answers 0 a → b ≡ clean p p s t → CheckSays p s t (record { answer = a; clean = b })
+check-done p s t a b z k e = record { answer = answers-as 0 (stripeFault p s t) a (sym z) k; clean = e ∙ and-done (stripeFault p s t) (clean p p s t) z }
+
+-- clean if the sets of both kinds are: a row set is not, or the diagonal sets decide
+pub clean-rows : (p k s : ℕ) (t : List ℕ) (b : Bool) → b ≡ allTo p (λ i. setClean p k s t 0 i) → b ≡ false → false ≡ clean p k s t
 unfolding clean
-check-done p s t b z e =
-    record {
-      number = sym z;
-      place = refl;
-      clean = e ∙ sym (ap (λ (f : Bool). f && clean p p s t) (eq-eqb (stripeFault p s t) 0 z));
-    }
+clean-rows p k s t b e f = sym (ap (λ (x : Bool). x && allTo p (λ i. setClean p k s t 1 i)) (sym e ∙ f))
 
--- a row set is not clean
-pub check-rows : (p s : ℕ) (t : List ℕ) (b : Bool) → stripeFault p s t ≡ 0 → b ≡ allTo p (λ i. setClean p p s t 0 i) → b ≡ false → CheckSays p s t (record { number = 0; place = 0; clean = b })
-check-rows p s t b z e f = check-done p s t b z (f ∙ sym (ap (λ (x : Bool). x && allTo p (λ i. setClean p p s t 1 i)) (sym e ∙ f)))
-
--- all row sets are clean, so the diagonal sets decide
-pub check-both : (p s : ℕ) (t : List ℕ) (b d : Bool) → stripeFault p s t ≡ 0 → b ≡ allTo p (λ i. setClean p p s t 0 i) → b ≡ true → d ≡ allTo p (λ i. setClean p p s t 1 i) → CheckSays p s t (record { number = 0; place = 0; clean = d })
-check-both p s t b d z e f q = check-done p s t d z (q ∙ sym (ap (λ (x : Bool). x && allTo p (λ i. setClean p p s t 1 i)) (sym e ∙ f)))
+pub clean-both : (p k s : ℕ) (t : List ℕ) (b d : Bool) → b ≡ allTo p (λ i. setClean p k s t 0 i) → b ≡ true → d ≡ allTo p (λ i. setClean p k s t 1 i) → d ≡ clean p k s t
+unfolding clean
+clean-both p k s t b d e f q = q ∙ sym (ap (λ (x : Bool). x && allTo p (λ i. setClean p k s t 1 i)) (sym e ∙ f))

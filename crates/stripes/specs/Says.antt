@@ -8,7 +8,8 @@ use Rattle.laws.specs.Choice.{pick, firstOf}
 use Rattle.laws.specs.Xor.{allBytes}
 use Rattle.liberation.specs.Sets.{widthFault, sizeFault, longFault}
 use Rattle.parity.specs.Stripes.{stripeLong, encoded, clean}
-use Rattle.sets.specs.declared.Answer.{Answer}
+use Rattle.refusals.specs.declared.Answer.{Answer}
+use Rattle.refusals.specs.Answers.{Answers}
 use Rattle.stripes.specs.declared.Checked.{Checked}
 
 -- both calls refuse by 1, 2 and 5
@@ -17,13 +18,11 @@ stripeFault p s t = firstOf (widthFault p) (firstOf (sizeFault s) (longFault (st
 
 -- the stripe t becomes t′: encoded, or as it was on a refusal
 pub record EncodeSays (p s : ℕ) (t t′ : List ℕ) (r : Answer) : Type 0 where
-  pub number : r .number ≡ stripeFault p s t
-  pub place : r .place ≡ 0
+  pub answer : Answers (stripeFault p s t) r
   pub stripe : t′ ≡ pick (eqb (stripeFault p s t) 0) (encoded p p s t) t
   -- what was lent are bytes
   pub bytes : allBytes t ≡ true
 
 pub record CheckSays (p s : ℕ) (t : List ℕ) (r : Checked) : Type 0 where
-  pub number : r .number ≡ stripeFault p s t
-  pub place : r .place ≡ 0
+  pub answer : Answers (stripeFault p s t) (r .answer)
   pub clean : r .clean ≡ (eqb (stripeFault p s t) 0 && clean p p s t)

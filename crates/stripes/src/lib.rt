@@ -10,17 +10,16 @@ ghost use Rattle.laws.specs.Sums.{allTo};
 ghost use Rattle.liberation.specs.Sets.{place, setOf, widthFault, sizeFault};
 ghost use Rattle.liberation.specs.Plans.{allOf};
 ghost use Rattle.sets.specs.Limits.{Within};
-ghost use Rattle.parity.specs.Stripes.{solved, followed, setClean, stripeLong};
+ghost use Rattle.parity.specs.Stripes.{solved, followed, setClean, clean, stripeLong};
 ghost use Rattle.offsets.specs.Offsets.{scaled, cellsFrom, Pushed};
 ghost use Rattle.stripes.specs.Cells.{survivors, ordinaryOf, parityDisk, extraIn, Listing, Sized, Ordinary};
 ghost use Rattle.stripes.specs.Says.{EncodeSays, CheckSays};
-use sets::Answer;
+use refusals::Answer;
 
-// A refusal number (0 for none) and its place, or whether the stripe is clean.
+// The answer, and whether the stripe is clean.
 #[repr(C)]
 pub struct Checked {
-    pub number: u8,
-    pub place: u32,
+    pub answer: Answer,
     pub clean: bool,
 }
 
@@ -271,11 +270,22 @@ fn diagonals_are_clean(width: usize, disks: usize, size: usize, stripe: &[u8]) -
     true
 }
 
+// Do all sets XOR to zero? The diagonal sets are looked at where the row sets do.
+fn is_clean(width: usize, disks: usize, size: usize, stripe: &[u8]) -> bool
+    requires { ⌜ Sized width disks size (now stripe) × (0 < width) ⌝ }
+    ensures { λ r. ⌜ r ≡ clean width disks size (now (stripe .entry)) ⌝ }
+{
+    if !rows_are_clean(width, disks, size, stripe) {
+        return false;
+    }
+    diagonals_are_clean(width, disks, size, stripe)
+}
+
 // The refusal of a call on a stripe of `long` bytes, 0 for none.
 fn stripe_fault(width: usize, size: usize, long: usize) -> u8
     ensures { λ r. ⌜ r ≡ firstOf (widthFault width) (firstOf (sizeFault size) (when (not (eqb long (stripeLong width width size))) 5)) ⌝ }
 {
-    let fault = sets::numbers_fault(width, size, 0);
+    let fault = refusals::numbers_fault(width, width, size, 0);
     if fault != 0 {
         return fault;
     }
@@ -291,32 +301,27 @@ pub fn encode_stripe(width: usize, size: usize, stripe: &mut [u8]) -> Answer
 {
     let fault = stripe_fault(width, size, stripe.len());
     if fault != 0 {
-        return sets::answered(fault);
+        return refusals::answered(fault);
     }
     solve_rows(width, width, size, width, stripe);
     solve_diagonals(width, width, size, stripe);
-    sets::answered(0)
+    refusals::answered(0)
 }
 
 // Is a stripe clean? Refusals: 1, 2, 5.
 pub fn check_stripe(width: usize, size: usize, stripe: &[u8]) -> Checked
     ensures { λ r. ⌜ CheckSays width size (now (stripe .entry)) r ⌝ }
 {
-    let number = stripe_fault(width, size, stripe.len());
-    if number != 0 {
+    let refusal = stripe_fault(width, size, stripe.len());
+    if refusal != 0 {
         return Checked {
-            number,
-            place: 0,
+            answer: refusals::answered(refusal),
             clean: false,
         };
     }
-    let mut clean = rows_are_clean(width, width, size, stripe);
-    if clean {
-        clean = diagonals_are_clean(width, width, size, stripe);
-    }
+    let clean = is_clean(width, width, size, stripe);
     Checked {
-        number: 0,
-        place: 0,
+        answer: refusals::answered(0),
         clean,
     }
 }

@@ -58,14 +58,19 @@ mul-charge-3 c = omega (arith, small c)
 add-charge-2 : tie.Need-add-charge-2
 add-charge-2 c = omega (arith, small c)
 
+answered-requires : tie.Need-answered-requires
+answered-requires c κs = search needs
+
 add-t12 : tie.Need-add-t12
-add-t12 c = omega (arith, small c)
+add-t12 c = omega (arith, small (c .before))
 
 returns-2 : tie.Need-returns-2
 returns-2 c =
-    let i = c .before .before in
+    let m = c .before in
+    let l = m .before in
+    let i = l .before in
     let a = i .before .before .args in
-    bill-done (a .bytes) (a .first) (a .second) (a .third) (c .before .least-of .result) (c .least-of2 .result) (passed i) (c .before .least-of .ensures) (c .least-of2 .ensures)
+    bill-done (a .bytes) (a .first) (a .second) (a .third) (l .least-of .result) (m .least-of2 .result) (c .answered .result) (passed i) (c .answered .ensures) (l .least-of .ensures) (m .least-of2 .ensures)
 
 pub bill-bytes-spec : {M : Type 1} → statement M
 bill-bytes-spec =
@@ -83,5 +88,6 @@ bill-bytes-spec =
     add-charge
     mul-charge-3
     add-charge-2
+    answered-requires
     add-t12
     returns-2)

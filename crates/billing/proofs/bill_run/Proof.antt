@@ -14,15 +14,15 @@ refused-bill-requires c κs = search needs
 returns : tie.Need-returns
 returns c =
     let i = c .before in
-    let g = i .before .before .progress-of in
-    let a = i .before .before .before .args in
+    let g = i .before .before .before .progress-of in
+    let a = i .before .before .before .before .args in
     run-refused (a .run) (a .first) (a .second) (a .third) (g .result) (c .refused-bill .result) (g .ensures) (i .if1 .taken) (c .refused-bill .ensures)
 
 mul-bill-bytes : tie.Need-mul-bill-bytes
 mul-bill-bytes c =
     let i = c .before in
-    let g = i .before .before .progress-of in
-    omega (arith, bytes-fit (i .before .before .before .args .run) (g .result) (g .ensures) (i .if1 .left))
+    let g = i .before .before .before .progress-of in
+    omega (arith, bytes-fit (i .before .before .before .before .args .run) (g .result) (g .ensures) (i .if1 .left))
 
 bill-bytes-requires : tie.Need-bill-bytes-requires
 bill-bytes-requires c κs = search needs
@@ -30,8 +30,8 @@ bill-bytes-requires c κs = search needs
 returns-2 : tie.Need-returns-2
 returns-2 c =
     let i = c .before .before in
-    let g = i .before .before .progress-of in
-    let a = i .before .before .before .args in
+    let g = i .before .before .before .progress-of in
+    let a = i .before .before .before .before .args in
     run-billed (a .run) (g .result) (g .ensures) (i .if1 .left) (a .first) (a .second) (a .third) (c .bill-bytes .result) (c .bill-bytes .ensures)
 
 pub bill-run-spec : {M : Type 1} → statement M

@@ -48,8 +48,8 @@ use Rattle.runs.proofs.Run as T
 use Rattle.runs.proofs.Run.Laws as T′
 use Rattle.runs.proofs.RunAnswer as S
 use Rattle.runs.proofs.RunAnswer.Laws as S′
-use Rattle.sets.proofs.Answer as U
-use Rattle.sets.proofs.Answer.Laws as U′
+use Rattle.refusals.proofs.Answer as U
+use Rattle.refusals.proofs.Answer.Laws as U′
 use Rattle.runs.proofs.stepped as stepped
 use Rattle.runs.proofs.stepped.Symbol as stepped-def
 use Rattle.runs.proofs.stepped.Symbol.{name as #runs·stepped}

@@ -31,11 +31,15 @@ within c =
 form-fault-requires : tie.Need-form-fault-requires
 form-fault-requires c κs = search needs
 
+answered-requires : tie.Need-answered-requires
+answered-requires c κs = search needs
+
 returns : tie.Need-returns
 returns c =
-    let q = c .before in
+    let t = c .before in
+    let q = t .before in
     let a = q .before .before .args in
-    form-refused (a .width) (a .disk) (q .form-fault .result) (a .plan .now) (q .form-fault .ensures) (c .if1 .taken)
+    form-refused (a .width) (a .disk) (q .form-fault .result) (a .plan .now) (q .form-fault .ensures) (t .if1 .taken) (c .answered .result) (c .answered .ensures)
 
 -- the stripe's cells have their marks
 enough : (c : tie.After-no-marks) → let p = c .before .before .before .before .args .width in p * (p + 2) ≤ length (c .no-marks .result)
@@ -74,6 +78,7 @@ judge-plan-spec =
     tie.close
     (tie.spec
     form-fault-requires
+    answered-requires
     returns
     no-marks-requires
     add-marks

@@ -120,18 +120,23 @@ loop-less c = search needs
 loop-again : tie.Need-loop-again Inv-loop μ-loop
 loop-again c = turned c
 
+answered-requires : tie.Need-answered-requires Inv-loop μ-loop
+answered-requires c κs = search needs
+
 same-length-2 : tie.Need-same-length-2 Inv-loop μ-loop
 same-length-2 c =
-    let a = c .before .before .before .before .args in
-    let q = c .before .before .before .before .pre in
-    let l = c .before .loop in
+    let e = c .before in
+    let a = e .before .before .before .before .args in
+    let q = e .before .before .before .before .pre in
+    let l = e .before .loop in
     halfway-long (a .width) (a .disk) (a .plan .now) (l .done) (l .marks) (a .marks .now) [] (l .reads) (l .i) (l .inv) (q .1 .1)
 
 returns-2 : tie.Need-returns-2 Inv-loop μ-loop
 returns-2 c =
-    let a = c .before .before .before .before .args in
-    let l = c .before .loop in
-    halfway-end (a .width) (a .disk) (a .plan .now) (l .done) (l .marks) (l .reads) (l .i) (c .loop-test .left) (l .inv)
+    let e = c .before in
+    let a = e .before .before .before .before .args in
+    let l = e .before .loop in
+    halfway-end (a .width) (a .disk) (a .plan .now) (l .done) (l .marks) (l .reads) (l .i) (e .loop-test .left) (l .inv) (c .answered .result) (c .answered .ensures)
 
 pub judge-steps-spec : {M : Type 1} → statement M
 judge-steps-spec =
@@ -161,5 +166,6 @@ judge-steps-spec =
     add-i
     loop-less
     loop-again
+    answered-requires
     same-length-2
     returns-2)

@@ -46,10 +46,10 @@ mark-steps-requires c κs =
 
 returns : tie.Need-returns
 returns c =
-    let k = c .before in
+    let k = c .before .before in
     let q = k .before .before .before .before in
     let a = q .args in
-    plan-says (a .width) (a .disk) _ (a .p) (plan-none (a .width) (a .width) (a .disk) (q .pre .0) (q .pre .1)) (q .pre .2) (q .pre .2 .number) (q .pre .2 .place) refl refl (k .mark-steps .ensures .0)
+    plan-says (a .width) (a .disk) _ (a .p) (plan-none (a .width) (a .width) (a .disk) (q .pre .0) (q .pre .1)) (q .pre .2) refl refl refl (k .mark-steps .ensures .0)
 
 pub finished-spec : {M : Type 1} → statement M
 finished-spec =

@@ -18,7 +18,10 @@ no-steps-requires : tie.Need-no-steps-requires
 no-steps-requires c κs = search needs
 
 returns : tie.Need-returns
-returns c = let t = c .before in let q = t .before in let a = q .before .args in plan-refused (a .width) (a .disk) (q .plan-fault .result) _ (q .plan-fault .ensures) (t .if1 .taken) refl refl (c .no-steps .ensures) refl refl
+returns c = let n = c .before in let t = n .before in let q = t .before in let a = q .before .args in plan-refused (a .width) (a .disk) (q .plan-fault .result) _ (q .plan-fault .ensures) (t .if1 .taken) (c .answered .ensures) (n .no-steps .ensures) refl refl
+
+answered-requires : tie.Need-answered-requires
+answered-requires c κs = search needs
 
 our-plan-requires : tie.Need-our-plan-requires
 our-plan-requires c κs = let a = c .before .before .args in plan-of (a .width) (a .width) (a .disk) (none c)
@@ -33,4 +36,4 @@ returns-2 : tie.Need-returns-2
 returns-2 c = search needs
 
 pub plan-disk-spec : {M : Type 1} → statement M
-plan-disk-spec = tie.close (tie.spec plan-fault-requires no-steps-requires returns our-plan-requires finished-requires returns-2)
+plan-disk-spec = tie.close (tie.spec plan-fault-requires no-steps-requires answered-requires returns our-plan-requires finished-requires returns-2)

@@ -37,33 +37,41 @@ cast-refusal-text : tie.Need-cast-refusal-text
 cast-refusal-text c = search needs
 
 refusal-text-requires-2 : tie.Need-refusal-text-requires-2
-refusal-text-requires-2 c κs = omega (arith, c .before .before .before .plan-disk .ensures .number, fault-small (c .before .before .before .before .before .before .before .first-value .result) (c .before .before .before .before .before .before .second-value .result))
+refusal-text-requires-2 c κs =
+    let d = c .before .before .before .before in
+    let e = d .before in
+    omega (arith, d .plan-disk .ensures .answer .refusal, fault-small (e .before .before .before .first-value .result) (e .before .before .second-value .result))
 
 returns-2 : tie.Need-returns-2
 returns-2 c =
-    let f = c .before .before .before .before .before .before .before .before .first-value in
-    let s = c .before .before .before .before .before .before .before .second-value in
-    let d = c .before .before .before .before .plan-disk in
-    says-refusal (c .before .before .before .before .before .before .before .before .before .before .args .input .now) (f .result) (s .result) (formed (c .before .before .before .before .before)) (f .ensures) (s .ensures)
-    (d .result .number) (d .ensures .number) (c .before .before .if2 .taken) (c .refusal-text2 .ensures)
+    let t = c .before .before in
+    let d = t .before .before .before in
+    let e = d .before in
+    let f = e .before .before .before .first-value in
+    let s = e .before .before .second-value in
+    says-refusal (e .before .before .before .before .before .args .input .now) (f .result) (s .result) (formed e) (f .ensures) (s .ensures)
+    (d .plan-disk .result .answer .refusal) (d .plan-disk .ensures .answer .refusal) (t .if2 .taken) (c .refusal-text2 .ensures)
 
 steps-text-requires : tie.Need-steps-text-requires
 steps-text-requires c κs =
-    let e = c .before in
-    let d = e .before .before .plan-disk .ensures in
-    let p = e .before .before .before .before .before .before .first-value .result in
-    let f = e .before .before .before .before .before .second-value .result in
-    let z = sym (d .number) ∙ e .if2 .left in
+    let t = c .before in
+    let d = t .before .before .before in
+    let e = d .before in
+    let p = e .before .before .before .first-value .result in
+    let f = e .before .before .second-value .result in
+    let z = sym (d .plan-disk .ensures .answer .refusal) ∙ t .if2 .left in
     let w = plan-of p p f z in
-    (w .0, w .1, held-as _ _ _ (planned-is p f z) (d .steps))
+    (w .0, w .1, held-as _ _ _ (planned-is p f z) (d .plan-disk .ensures .steps))
 
 returns-3 : tie.Need-returns-3
 returns-3 c =
-    let e = c .before .before in
-    let f = e .before .before .before .before .before .before .first-value in
-    let s = e .before .before .before .before .before .second-value in
-    says-plan (e .before .before .before .before .before .before .before .before .args .input .now) (f .result) (s .result) (formed (e .before .before .before)) (f .ensures) (s .ensures)
-    (sym (e .before .before .plan-disk .ensures .number) ∙ e .if2 .left) (c .steps-text .ensures)
+    let t = c .before .before in
+    let d = t .before .before .before in
+    let e = d .before in
+    let f = e .before .before .before .first-value in
+    let s = e .before .before .second-value in
+    says-plan (e .before .before .before .before .before .args .input .now) (f .result) (s .result) (formed e) (f .ensures) (s .ensures)
+    (sym (d .plan-disk .ensures .answer .refusal) ∙ t .if2 .left) (c .steps-text .ensures)
 
 pub plan-text-spec : {M : Type 1} → statement M
 plan-text-spec =

@@ -11,37 +11,45 @@ use Rattle.runs.proofs.progress_of.Tie as tie
 numbers-fault-requires : tie.Need-numbers-fault-requires
 numbers-fault-requires c κs = search needs
 
+answered-requires : tie.Need-answered-requires
+answered-requires c κs = search needs
+
 returns : tie.Need-returns
 returns c =
-    let f = c .before .numbers-fault in
-    progress-refused (c .before .before .args .run) (f .result) (f .ensures) (c .if1 .taken)
+    let t = c .before in
+    let f = t .before .numbers-fault in
+    progress-refused (t .before .before .args .run) (f .result) (c .answered .result) (f .ensures) (t .if1 .taken) (c .answered .ensures)
 
 plan-disk-requires : tie.Need-plan-disk-requires
 plan-disk-requires c κs = search needs
 
-cast-t5 : tie.Need-cast-t5
-cast-t5 c = search needs
+answered-requires-2 : tie.Need-answered-requires-2
+answered-requires-2 c κs = search needs
 
-cast-t6 : tie.Need-cast-t6
-cast-t6 c = search needs
+cast-t7 : tie.Need-cast-t7
+cast-t7 c = search needs
+
+cast-t8 : tie.Need-cast-t8
+cast-t8 c = search needs
 
 -- the record's fields are 32-bit numbers
-small : (c : tie.After-struct-known3) → c .before .before .before .before .before .before .args .run .next < 2 ^ 32
+small : (c : tie.After-struct-known3) → c .before .before .before .before .before .before .before .args .run .next < 2 ^ 32
 small c = omega arith
 
-mul-t7 : tie.Need-mul-t7
-mul-t7 c =
-    let i = c .before .before .before in
-    record { fits = product-fits (i .before .before .before .args .run .next) (i .plan-disk .result .reads) (small c) (omega (arith, c .struct-known3 .given .1 .1 .1 .1 .0)) }
+mul-t9 : tie.Need-mul-t9
+mul-t9 c =
+    let i = c .before .before .before .before in
+    record { fits = product-fits (i .before .before .before .args .run .next) (i .plan-disk .result .reads) (small c) (omega (arith, c .struct-known3 .given)) }
 
 returns-2 : tie.Need-returns-2
 returns-2 c =
-    let i = c .before .before .before in
+    let n = c .before .before .before in
+    let i = n .before in
     let e = i .before in
     let x = e .before .before .args .run in
     let r = i .plan-disk .result in
     let z : runFault x ≡ 0 = sym (e .before .numbers-fault .ensures) ∙ e .if1 .left in
-    progress-done x _ (x .next * r .reads) z (small c) refl (ap (λ (n : ℕ). x .next * n) (reads-are x r z (i .plan-disk .ensures)))
+    progress-done x (n .answered2 .result) _ (x .next * r .reads) z (n .answered2 .ensures) (small c) refl (ap (λ (n : ℕ). x .next * n) (reads-are x r z (i .plan-disk .ensures)))
 
 pub progress-of-spec : {M : Type 1} → statement M
-progress-of-spec = tie.close (tie.spec numbers-fault-requires returns plan-disk-requires cast-t5 cast-t6 mul-t7 returns-2)
+progress-of-spec = tie.close (tie.spec numbers-fault-requires answered-requires returns plan-disk-requires answered-requires-2 cast-t7 cast-t8 mul-t9 returns-2)

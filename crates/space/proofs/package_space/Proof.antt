@@ -50,8 +50,11 @@ div-stripes c = omega (arith, bound c)
 mul-need : tie.Need-mul-need
 mul-need c = omega (arith, bound c)
 
+answered-requires : tie.Need-answered-requires
+answered-requires c κs = search needs
+
 returns-2 : tie.Need-returns-2
-returns-2 c = let a = c .before .before .args in space-says (a .width) (a .size) (a .bytes) (a .free) (none c)
+returns-2 c = let e = c .before in let a = e .before .before .args in space-says (a .width) (a .size) (a .bytes) (a .free) (c .answered .result) (none e) (c .answered .ensures)
 
 pub package-space-spec : {M : Type 1} → statement M
 package-space-spec =
@@ -66,4 +69,5 @@ package-space-spec =
     add-stripes
     div-stripes
     mul-need
+    answered-requires
     returns-2)

@@ -1,9 +1,9 @@
--- `check_stripe`: a refusal, or whether the row sets are clean, and if they are, the diagonal sets.
+-- `check_stripe`: a refusal, or whether the stripe is clean.
 use mathlib.Core.Path.{_≡_, sym, _∙_}
 use borrow.Author.Needs.{needs}
 use Rattle.stripes.specs.Cells.{Sized}
 use Rattle.stripes.specs.Says.{stripeFault}
-use Rattle.stripes.proofs.FaultLaws.{fault-none, fault-some, check-refused, check-rows, check-both}
+use Rattle.stripes.proofs.FaultLaws.{fault-none, fault-some, check-refused, check-done}
 use Rattle.stripes.proofs.check_stripe.Statement.{statement}
 use Rattle.stripes.proofs.check_stripe.Tie as tie
 
@@ -17,36 +17,28 @@ sized c = let a = c .before .before .before .args in fault-none (a .width) (a .s
 stripe-fault-requires : tie.Need-stripe-fault-requires
 stripe-fault-requires c κs = search needs
 
+answered-requires : tie.Need-answered-requires
+answered-requires c κs = search needs
+
 returns : tie.Need-returns
 returns c =
-    let a = c .before .before .before .args in
-    check-refused (a .width) (a .size) (c .before .stripe-fault .result) (a .stripe .now) (c .before .stripe-fault .ensures) (c .if1 .taken)
+    let t = c .before in
+    let f = t .before .stripe-fault in
+    let a = t .before .before .before .args in
+    check-refused (a .width) (a .size) (f .result) (a .stripe .now) (c .answered .result) (f .ensures) (t .if1 .taken) (c .answered .ensures)
 
-rows-are-clean-requires : tie.Need-rows-are-clean-requires
-rows-are-clean-requires c κs = let a = c .before .before .before .args in (sized c, fault-some (a .width) (a .size) (a .stripe .now) (passed c))
+is-clean-requires : tie.Need-is-clean-requires
+is-clean-requires c κs = let a = c .before .before .before .args in (sized c, fault-some (a .width) (a .size) (a .stripe .now) (passed c))
 
-diagonals-are-clean-requires : tie.Need-diagonals-are-clean-requires
-diagonals-are-clean-requires c κs = sized (c .before .before)
+answered-requires-2 : tie.Need-answered-requires-2
+answered-requires-2 c κs = search needs
 
 returns-2 : tie.Need-returns-2
 returns-2 c =
-    let k = c .before .before in
-    let a = k .before .before .before .before .args in
-    check-both (a .width) (a .size) (a .stripe .now) (k .rows-are-clean .result) (c .diagonals-are-clean .result) (passed (k .before)) (k .rows-are-clean .ensures) (c .before .if2 .taken) (c .diagonals-are-clean .ensures)
-
-returns-3 : tie.Need-returns-3
-returns-3 c =
     let k = c .before in
-    let a = k .before .before .before .before .args in
-    check-rows (a .width) (a .size) (a .stripe .now) (k .rows-are-clean .result) (passed (k .before)) (k .rows-are-clean .ensures) (c .if2 .left)
+    let e = k .before in
+    let a = e .before .before .before .args in
+    check-done (a .width) (a .size) (a .stripe .now) (c .answered2 .result) (k .is-clean .result) (passed e) (c .answered2 .ensures) (k .is-clean .ensures)
 
 pub check-stripe-spec : {M : Type 1} → statement M
-check-stripe-spec =
-    tie.close
-    (tie.spec
-    stripe-fault-requires
-    returns
-    rows-are-clean-requires
-    diagonals-are-clean-requires
-    returns-2
-    returns-3)
+check-stripe-spec = tie.close (tie.spec stripe-fault-requires answered-requires returns is-clean-requires answered-requires-2 returns-2)

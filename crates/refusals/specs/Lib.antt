@@ -1,0 +1,2 @@
+-- What an answer says of a refusal.
+pub mod Answers
