@@ -1,0 +1,3 @@
+//! The examples of document 01 on plans.
+
+pub mod checks;

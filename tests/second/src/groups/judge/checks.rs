@@ -1,0 +1,152 @@
+//! The judge on accepted and damaged plans, wrong lengths and refused numbers.
+
+use super::calls::judge_plan;
+use super::model;
+use crate::harness::answer::ACCEPTED;
+use crate::harness::model::{bytes_of, Step};
+use crate::harness::plans::{damaged, Loss};
+use crate::harness::{numbers, Group, Lent, Random, Setting};
+
+/// Rounds for each lost disk of each width; a round judges two plans.
+const ROUNDS: usize = 300;
+
+/// How often the judge gave each number.
+type Seen = [u64; 256];
+
+pub fn run(setting: &mut Setting, group: &mut Group) {
+    let random = &mut setting.random;
+    let mut seen = [0; 256];
+    for loss in Loss::all() {
+        random_plans(group, random, &loss, &mut seen);
+        refusal_at_every_place(group, random, &loss, &mut seen);
+        second_steps(group, random, &loss, &mut seen);
+        wrong_lengths(group, random, &loss, &mut seen);
+    }
+    every_plan_of_width_3(group, random, &mut seen);
+    refused_numbers(group, random, &mut seen);
+    for number in [0, 1, 3, 5, 6, 7, 8, 9] {
+        let often = seen[number] >= 100;
+        group.same(|| format!("judge gave {number} at least 100 times"), true, often);
+    }
+}
+
+/// Compares the answer, and the plan's bytes and all memory around them.
+fn same_word(
+    group: &mut Group,
+    random: &mut Random,
+    (width, disk): (usize, usize),
+    plan: &[u8],
+    seen: &mut Seen,
+) {
+    let mut lent = Lent::of(plan, random);
+    let before = lent.clone();
+    let got = judge_plan(width, disk, lent.part());
+    let expected = model::judge_plan(width, disk, plan);
+    let call = || format!("judge_plan({width}, {disk}, {plan:?})");
+    group.same(call, expected, got);
+    group.same_bytes(|| format!("{}, memory", call()), before.whole(), lent.whole());
+    seen[got.answer.refusal as usize] += 1;
+}
+
+/// An accepted plan and a damaged one, many times.
+fn random_plans(group: &mut Group, random: &mut Random, loss: &Loss, seen: &mut Seen) {
+    for _ in 0..ROUNDS {
+        let steps = loss.accepted(random);
+        let plan = bytes_of(&steps);
+        let answer = judge_plan(loss.p, loss.disk, &plan).answer;
+        let call = || format!("judge_plan({}, {}, {plan:?}), answer", loss.p, loss.disk);
+        group.same(call, ACCEPTED, answer);
+        same_word(group, random, (loss.p, loss.disk), &plan, seen);
+        let plan = damaged(loss, &steps, random);
+        same_word(group, random, (loss.p, loss.disk), &plan, seen);
+    }
+}
+
+/// For each place, an accepted plan with one bad step there.
+fn refusal_at_every_place(group: &mut Group, random: &mut Random, loss: &Loss, seen: &mut Seen) {
+    let p = loss.p;
+    for place in 0..p {
+        let steps = loss.accepted(random);
+        let step = steps[place];
+        let earlier = steps[random.below(place + 1)];
+        let bad = [
+            Step { row: p, ..step },
+            Step { kind: 2, ..step },
+            Step { number: p, ..step },
+            Step { row: 255, kind: 255, number: 255 },
+            Step { number: (step.number + 1) % p, ..step },
+            Step { row: (step.row + 1) % p, ..step },
+            Step { kind: 1 - step.kind, ..step },
+            earlier,
+            Step { number: p, ..earlier },
+            Step { kind: 1 - earlier.kind, ..earlier },
+        ];
+        for step in bad {
+            let mut steps = steps.clone();
+            steps[place] = step;
+            same_word(group, random, (p, loss.disk), &bytes_of(&steps), seen);
+        }
+    }
+}
+
+/// All second steps on the row just rebuilt, and on two other rows.
+fn second_steps(group: &mut Group, random: &mut Random, loss: &Loss, seen: &mut Seen) {
+    let p = loss.p;
+    let needing = loss.needing();
+    let row = needing.first().map_or(random.below(p), |choice| choice.step.row);
+    let mut steps: Vec<Step> = loss.choices.iter().map(|of_row| of_row[0].step).collect();
+    steps.swap(0, row);
+    for second_row in [row, (row + 1) % p, (row + p - 1) % p, p] {
+        for kind in 0..3 {
+            for number in 0..=p {
+                steps[1] = Step { row: second_row, kind, number };
+                same_word(group, random, (p, loss.disk), &bytes_of(&steps), seen);
+            }
+        }
+    }
+}
+
+fn wrong_lengths(group: &mut Group, random: &mut Random, loss: &Loss, seen: &mut Seen) {
+    let p = loss.p;
+    let plan = bytes_of(&loss.accepted(random));
+    let right = plan.len();
+    let lengths = [0, 1, p, right - 3, right - 1, right + 1, right + 3, 2 * right, right + 256];
+    for length in lengths {
+        let longer: Vec<u8> = plan.iter().copied().cycle().take(length).collect();
+        same_word(group, random, (p, loss.disk), &longer, seen);
+    }
+}
+
+/// All three-step plans of width 3, fields up to one over the limit.
+fn every_plan_of_width_3(group: &mut Group, random: &mut Random, seen: &mut Seen) {
+    let mut steps = Vec::new();
+    for row in 0..4 {
+        for kind in 0..3 {
+            steps.extend((0..4).map(|number| [row, kind, number]));
+        }
+    }
+    for disk in 0..5 {
+        for first in &steps {
+            for second in &steps {
+                for third in &steps {
+                    let plan = [*first, *second, *third].concat();
+                    same_word(group, random, (3, disk), &plan, seen);
+                }
+            }
+        }
+    }
+}
+
+/// Refused widths and disks, with plans of right and wrong lengths.
+fn refused_numbers(group: &mut Group, random: &mut Random, seen: &mut Seen) {
+    for width in numbers::any_widths() {
+        for disk in numbers::any_disks(width) {
+            for length in [0, 15, 3 * numbers::cut_width(width)] {
+                let rows = (0..length / 3).map(|row| Step { row, kind: 0, number: row });
+                let mut plan = bytes_of(&rows.collect::<Vec<Step>>());
+                plan.resize(length, 0);
+                same_word(group, random, (width, disk), &plan, seen);
+            }
+        }
+    }
+}

@@ -1,0 +1,54 @@
+//! The judge in the second implementation.
+
+use std::collections::HashSet;
+
+use super::calls::Judged;
+use crate::harness::answer::{Answer, ACCEPTED};
+use crate::harness::model::{cells_read, lost_rows, refuse, steps_of, Step};
+
+/// The judge's call.
+pub fn judge_plan(width: usize, disk: usize, plan: &[u8]) -> Judged {
+    let answer = refuse(width).disk(disk).length(plan.len(), |p| 3 * p).answer();
+    if answer != ACCEPTED {
+        return Judged { answer, reads: 0 };
+    }
+    let steps = steps_of(plan);
+    let answer = refuse_steps(width, disk, &steps);
+    if answer != ACCEPTED {
+        return Judged { answer, reads: 0 };
+    }
+    Judged { answer, reads: cells_read(width, disk, &steps).len() as u32 }
+}
+
+/// The first step that is refused, with its refusal.
+fn refuse_steps(p: usize, disk: usize, steps: &[Step]) -> Answer {
+    let mut rebuilt = HashSet::new();
+    for (place, step) in steps.iter().enumerate() {
+        let refusal = refuse_step(p, disk, step, &rebuilt);
+        if refusal != 0 {
+            return Answer { refusal, place: place as u32 };
+        }
+        rebuilt.insert(step.row);
+    }
+    ACCEPTED
+}
+
+/// The refusal of one step, or 0, after the rows rebuilt so far.
+fn refuse_step(p: usize, disk: usize, step: &Step, rebuilt: &HashSet<usize>) -> u8 {
+    if step.row >= p || step.kind > 1 || step.number >= p {
+        return 6;
+    }
+    let lost = lost_rows(p, disk, step.kind, step.number);
+    if !lost.contains(&step.row) {
+        return 7;
+    }
+    if rebuilt.contains(&step.row) {
+        return 8;
+    }
+    let stands = |row: &usize| *row == step.row || rebuilt.contains(row);
+    if lost.iter().all(stands) {
+        0
+    } else {
+        9
+    }
+}

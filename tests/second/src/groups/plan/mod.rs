@@ -1,0 +1,5 @@
+//! The planner.
+
+pub mod calls;
+pub mod checks;
+pub mod model;

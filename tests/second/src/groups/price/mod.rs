@@ -1,0 +1,4 @@
+//! What accepted plans cost.
+
+pub mod checks;
+pub mod model;

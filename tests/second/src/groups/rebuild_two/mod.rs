@@ -1,0 +1,5 @@
+//! The rebuild of two lost disks.
+
+pub mod calls;
+pub mod checks;
+pub mod model;

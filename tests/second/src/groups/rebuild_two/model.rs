@@ -1,0 +1,15 @@
+//! The rebuild of two lost disks in the second implementation: its refusals.
+//!
+//! It needs no way to the bytes: any contents of the other disks belong to exactly one clean
+//! stripe, so a clean result with the other disks as they were is the right one.
+
+use crate::harness::answer::Answer;
+use crate::harness::model::refuse;
+
+/// Width, cell size and the two lost disks.
+pub type Numbers = (usize, usize, usize, usize);
+
+/// The answer of the call on a stripe of that length.
+pub fn rebuild_two((width, size, first, second): Numbers, length: usize) -> Answer {
+    refuse(width).size(size).two_disks(first, second).stripe(length).answer()
+}

@@ -1,0 +1,5 @@
+//! Rebuild runs.
+
+pub mod calls;
+pub mod checks;
+pub mod model;

@@ -1,0 +1,3 @@
+//! Every set of every width, seen through the judge.
+
+pub mod checks;

@@ -1,0 +1,5 @@
+//! The space of a package.
+
+pub mod calls;
+pub mod checks;
+pub mod model;

@@ -1,0 +1,5 @@
+//! Encoding a stripe and checking it.
+
+pub mod calls;
+pub mod checks;
+pub mod model;

@@ -1,0 +1,4 @@
+//! Stripes of Jerasure.
+
+pub mod checks;
+pub mod file;

@@ -1,0 +1,17 @@
+//! What the groups share: how they run, lent memory, random numbers, and the model's core.
+
+pub mod answer;
+mod group;
+mod lent;
+pub mod model;
+pub mod numbers;
+pub mod plans;
+mod random;
+pub mod runner;
+pub mod small_stack;
+pub mod stripes;
+
+pub use group::Group;
+pub use lent::Lent;
+pub use random::Random;
+pub use runner::Setting;

@@ -1,0 +1,14 @@
+//! The core of the second implementation, written from document 01 alone: sets are explicit
+//! lists of cells, and everything else is counted on them.
+
+mod our_plan;
+mod refusals;
+mod sets;
+mod steps;
+mod stripe;
+
+pub use our_plan::our_steps;
+pub use refusals::{refuse, WIDTHS};
+pub use sets::{diagonal_set, extra_cell, row_set, set_cells, Cell};
+pub use steps::{bytes_of, cells_read, lost_rows, steps_of, Step};
+pub use stripe::{add, cell_place, column_length, disk_place, encode, stripe_length, sum_of};
