@@ -1,46 +1,34 @@
-/* Times encode, check and the rebuild of one and of two data disks, all
-   contestants interleaved, and prints speed ratios as Markdown.
+/* Times encode, check and the rebuild of one and of two data disks, and prints
+   the results as Markdown.
 
    Time is processor time of the thread. In a round each contestant is timed
-   once, in an order that turns from round to round. A ratio is the
-   contestant's time over ours: above 1 the library is faster. The median is
-   that of the rounds' ratios; best is the contestant's best time over ours. */
+   once, in an order that turns from round to round. A run has rounds for every
+   array, cell size and operation; runs follow each other. */
 
-#include "calls.h"
+#include "results.h"
 
 #include <stdio.h>
 #include <stdlib.h>
 #include <time.h>
+#include <unistd.h>
 
-static const int WIDTHS[] = { 5, 7, 17, 31 };
-static const size_t SIZES[] = { 64, 512, 4096 };
+static int runs = 4, rounds = 41;
 
-enum { WIDTH_COUNT = 4, SIZE_COUNT = 3 };
+/* A warm sample takes at least so long, and so long for each loss. */
+static const double WARM_SECONDS = 300e-6, LOSS_SECONDS = 50e-6;
 
-/* Warm: the same stripe again and again, in samples of at least so long. */
-enum { WARM_ROUNDS = 41 };
-static const double WARM_SECONDS = 300e-6;
-
-/* Streaming: every stripe once, more of them than any cache holds. */
-enum { STREAM_ROUNDS = 9, MOST_ROUNDS = 41 };
 static const size_t STREAM_BYTES = (size_t)128 << 20;
 
-static const char *const OPERATION_NAMES[] = { "encode", "check", "rebuild of one data disk",
-                                               "rebuild of two data disks" };
+/* Streaming, times differ less and take longer. */
+static int runs_of(enum Mode mode)
+{
+    return mode == WARM ? runs : (runs + 1) / 2;
+}
 
-enum Mode { WARM, STREAMING, MODES };
-
-static const char *const MODE_NAMES[] = { "warm", "streaming" };
-
-/* What was measured of one operation on one shape. */
-struct Result {
-    double ours;                    /* seconds a stripe, best */
-    double read;                    /* bytes read of a stripe */
-    double median[CONTESTANTS];
-    double best[CONTESTANTS];
-};
-
-static struct Result results[MODES][OPERATIONS][WIDTH_COUNT][SIZE_COUNT];
+static int rounds_of(enum Mode mode)
+{
+    return mode == WARM ? rounds : (rounds + 4) / 5;
+}
 
 static double now(void)
 {
@@ -49,45 +37,39 @@ static double now(void)
     return (double)time.tv_sec + 1e-9 * (double)time.tv_nsec;
 }
 
-/* Seconds a stripe for so many calls; each disk is lost in turn. */
-static double sample(const struct Shelf *shelf, Call *call, enum Mode mode, size_t calls)
+/* Seconds a call. Each loss comes once, for so many calls on end, as a rebuild
+   has the same disks lost in all stripes. */
+static double sample(const struct Shelf *shelf, Call *call, const struct Losses *losses,
+                     enum Mode mode, size_t calls)
 {
-    size_t step = mode == WARM ? 0 : 1;
+    size_t number = 0;
     if (mode == WARM) {
-        call(shelf, 0, 0);
+        call(shelf, 0, &losses->all[0]);
     }
-    int disk = 0;
     double start = now();
-    for (size_t i = 0; i < calls; i++) {
-        call(shelf, i * step, disk);
-        disk = disk + 1 == shelf->p ? 0 : disk + 1;
+    for (int i = 0; i < losses->count; i++) {
+        for (size_t j = 0; j < calls; j++) {
+            call(shelf, number, &losses->all[i]);
+            number = number + 1 == shelf->stripes ? 0 : number + 1;
+        }
     }
-    return (now() - start) / (double)calls;
+    return (now() - start) / (double)(losses->count * calls);
 }
 
-/* How many calls make a sample: a multiple of p, so that each disk counts alike. */
-static size_t calls_needed(const struct Shelf *shelf, Call *call, enum Mode mode)
+/* How many calls each loss gets in a sample. */
+static size_t calls_needed(const struct Shelf *shelf, Call *call, const struct Losses *losses,
+                           enum Mode mode)
 {
     if (mode == STREAMING) {
-        return shelf->stripes;
+        return (shelf->stripes + losses->count - 1) / losses->count;
     }
-    size_t calls = shelf->p;
-    while (sample(shelf, call, mode, calls) * (double)calls < WARM_SECONDS) {
+    double needed = LOSS_SECONDS * losses->count;
+    needed = needed < WARM_SECONDS ? WARM_SECONDS : needed;
+    size_t calls = 1;
+    while (sample(shelf, call, losses, mode, calls) * (double)(losses->count * calls) < needed) {
         calls *= 2;
     }
     return calls;
-}
-
-static int ascending(const void *a, const void *b)
-{
-    double x = *(const double *)a, y = *(const double *)b;
-    return (x > y) - (x < y);
-}
-
-static double median(double *values, int count)
-{
-    qsort(values, count, sizeof *values, ascending);
-    return values[count / 2];
 }
 
 static double least(const double *values, int count)
@@ -99,109 +81,99 @@ static double least(const double *values, int count)
     return found;
 }
 
+/* Adds a run's times to the result. */
+static void add_run(struct Result *result, double times[CONTESTANTS][MOST_ROUNDS], int who,
+                    int count)
+{
+    double ratios[MOST_ROUNDS], best = least(times[who], count);
+    for (int round = 0; round < count; round++) {
+        ratios[round] = times[who][round] / times[OURS][round];
+    }
+    result->medians[who][result->runs] = median(ratios, count);
+    if (result->runs == 0 || best < result->best[who]) {
+        result->best[who] = best;
+    }
+}
+
 static void measure(const struct Shelf *shelf, enum Operation operation, enum Mode mode,
                     struct Result *result)
 {
     static double times[CONTESTANTS][MOST_ROUNDS];
-    int rounds = mode == WARM ? WARM_ROUNDS : STREAM_ROUNDS;
-    size_t calls = calls_needed(shelf, CALLS[operation][OURS], mode);
-    for (int round = 0; round < rounds; round++) {
+    Call *const *calls = CALLS[operation];
+    const struct Losses *losses = &shelf->array->losses[operation];
+    size_t count = calls_needed(shelf, calls[OURS], losses, mode);
+    for (int round = 0; round < rounds_of(mode); round++) {
         for (int turn = 0; turn < CONTESTANTS; turn++) {
             int who = (turn + round) % CONTESTANTS;
-            if (CALLS[operation][who] == NULL) {
-                continue;
+            if (calls[who] != NULL) {
+                times[who][round] = sample(shelf, calls[who], losses, mode, count);
             }
-            times[who][round] = sample(shelf, CALLS[operation][who], mode, calls);
         }
     }
-    result->ours = least(times[OURS], rounds);
-    result->read = (double)bytes_read(shelf, operation);
     for (int who = 0; who < CONTESTANTS; who++) {
-        if (CALLS[operation][who] == NULL) {
-            continue;
+        if (calls[who] != NULL) {
+            add_run(result, times, who, rounds_of(mode));
         }
-        double ratios[MOST_ROUNDS];
-        for (int round = 0; round < rounds; round++) {
-            ratios[round] = times[who][round] / times[OURS][round];
-        }
-        result->best[who] = least(times[who], rounds) / result->ours;
-        result->median[who] = median(ratios, rounds);
     }
+    result->read = shelf->array->cells[operation] * (double)shelf->s;
+    result->runs++;
 }
 
-static void measure_shape(enum Mode mode, int width, int size)
+static void measure_shelf(const struct Array *arrays, enum Mode mode, int array, int size)
 {
     struct Shelf shelf;
-    int p = WIDTHS[width];
-    size_t s = SIZES[size];
-    size_t stripe = (p + 2) * p * s;
-    open_shelf(&shelf, p, s, mode == WARM ? 1 : (STREAM_BYTES + stripe - 1) / stripe);
+    size_t s = CELL_SIZES[size], stripe = stripe_bytes(&arrays[array], s);
+    open_shelf(&shelf, &arrays[array], s,
+               mode == WARM ? 1 : (STREAM_BYTES + stripe - 1) / stripe);
     compare(&shelf);
     for (int operation = 0; operation < OPERATIONS; operation++) {
-        measure(&shelf, operation, mode, &results[mode][operation][width][size]);
+        measure(&shelf, operation, mode, &results[mode][operation][array][size]);
     }
     close_shelf(&shelf);
 }
 
-static void print_row(const struct Result *result, Call *const *calls, int p, size_t s)
+static void run_once(const struct Array *arrays, int run)
 {
-    printf("| %d | %zu | %.2f | %.1f |", p, s, 1e6 * result->ours,
-           1e-9 * result->read / result->ours);
-    for (int who = JERASURE; who < CONTESTANTS; who++) {
-        if (calls[who] == NULL) {
-            printf(" none |");
-        } else {
-            printf(" %.2f / %.2f |", result->median[who], result->best[who]);
-        }
-    }
-    printf("\n");
-}
-
-static void print_table(enum Mode mode, enum Operation operation)
-{
-    printf("### %s, %s\n\n", OPERATION_NAMES[operation], MODE_NAMES[mode]);
-    printf("| p | s | ours, us | GB/s read | Jerasure | ISA-L | memcpy |\n");
-    printf("|---|---|---|---|---|---|---|\n");
-    for (int width = 0; width < WIDTH_COUNT; width++) {
-        for (int size = 0; size < SIZE_COUNT; size++) {
-            print_row(&results[mode][operation][width][size], CALLS[operation],
-                      WIDTHS[width], SIZES[size]);
-        }
-    }
-    printf("\n");
-}
-
-/* The aims, all against Jerasure. */
-
-static void print_aim(enum Operation operation, int width, int size, double aim, int of_best)
-{
-    printf("| %s | %d | %zu | %.1f, %s |", OPERATION_NAMES[operation], WIDTHS[width],
-           SIZES[size], aim, of_best ? "best" : "median");
     for (int mode = 0; mode < MODES; mode++) {
-        const struct Result *result = &results[mode][operation][width][size];
-        double got = of_best ? result->best[JERASURE] : result->median[JERASURE];
-        printf(" %.2f %s |", got, got >= aim ? "met" : "SHORT");
+        for (int array = 0; array < ARRAYS && run < runs_of(mode); array++) {
+            for (int size = 0; size < SIZES; size++) {
+                fprintf(stderr, "bench: run %d, %s, p = %d, k = %d, s = %zu\n", run + 1,
+                        MODE_NAMES[mode], arrays[array].p, arrays[array].k, CELL_SIZES[size]);
+                measure_shelf(arrays, mode, array, size);
+            }
+        }
     }
-    printf("\n");
 }
 
-static void print_aims(void)
+static void usage(void)
 {
-    printf("### aims against Jerasure\n\n");
-    printf("| operation | p | s | aim | warm | streaming |\n");
-    printf("|---|---|---|---|---|---|\n");
-    for (int width = 0; width < WIDTH_COUNT; width++) {
-        print_aim(ENCODE, width, 2, 1.4, 1);
+    fprintf(stderr, "usage: bench [-n RUNS] [-r ROUNDS], up to %d runs and %d rounds\n",
+            MOST_RUNS, MOST_ROUNDS);
+    exit(2);
+}
+
+/* A whole number from 1 to the most. */
+static int number_of(const char *text, int most)
+{
+    char *end;
+    long number = strtol(text, &end, 10);
+    if (end == text || *end != '\0' || number < 1 || number > most) {
+        usage();
     }
-    for (int width = 0; width < WIDTH_COUNT; width++) {
-        print_aim(REBUILD, width, 2, WIDTHS[width] < 17 ? 1.2 : 1.5, 1);
-    }
-    for (int width = 0; width < WIDTH_COUNT; width++) {
-        print_aim(REBUILD_TWO, width, 2, WIDTHS[width] < 17 ? 1.2 : 1.4, 1);
-    }
-    for (int width = 0; width < WIDTH_COUNT; width++) {
-        print_aim(ENCODE, width, 1, 2.0, 0);
-        print_aim(REBUILD, width, 1, 2.0, 0);
+    return (int)number;
+}
+
+static void read_options(int argc, char **argv)
+{
+    int option;
+    while ((option = getopt(argc, argv, "n:r:")) != -1) {
+        if (option == 'n') {
+            runs = number_of(optarg, MOST_RUNS);
+        } else if (option == 'r') {
+            rounds = number_of(optarg, MOST_ROUNDS);
+        } else {
+            usage();
+        }
     }
 }
 
@@ -212,25 +184,23 @@ static double load(void)
     return loads[0];
 }
 
-int main(void)
+int main(int argc, char **argv)
 {
+    static struct Array arrays[ARRAYS];
+    read_options(argc, argv);
+    for (int array = 0; array < ARRAYS; array++) {
+        open_array(&arrays[array], SHAPES[array][0], SHAPES[array][1]);
+    }
     double before = load();
-    for (int mode = 0; mode < MODES; mode++) {
-        for (int width = 0; width < WIDTH_COUNT; width++) {
-            for (int size = 0; size < SIZE_COUNT; size++) {
-                measure_shape(mode, width, size);
-                fprintf(stderr, "bench: %s, p = %d, s = %zu done\n", MODE_NAMES[mode],
-                        WIDTHS[width], SIZES[size]);
-            }
-        }
+    for (int run = 0; run < runs; run++) {
+        run_once(arrays, run);
     }
     printf("Load average before and after: %.1f, %.1f. ", before, load());
-    printf("Ratios are median / best; above 1 the library is faster.\n\n");
-    for (int mode = 0; mode < MODES; mode++) {
-        for (int operation = 0; operation < OPERATIONS; operation++) {
-            print_table(mode, operation);
-        }
+    printf("Warm: %d runs of %d rounds; streaming: %d of %d.\n\n", runs_of(WARM),
+           rounds_of(WARM), runs_of(STREAMING), rounds_of(STREAMING));
+    print_results();
+    for (int array = 0; array < ARRAYS; array++) {
+        close_array(&arrays[array]);
     }
-    print_aims();
     return 0;
 }
