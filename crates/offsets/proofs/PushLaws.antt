@@ -67,12 +67,13 @@ module _ {f : ℕ → ℕ} {l : ℕ → ℕ → List ℕ} (w : Walk f l) where
             ∙ p .list;
       }
 
-  pub pushing-all : {lo hi count n c : ℕ} {old at : List ℕ} → hi ≤ c → Pushing l lo hi count old at n c → Pushed old at count n (l (hi - lo) lo)
-  pushing-all {lo} {hi} {count} {n} {c} {old} {at} h p =
+  pub pushing-all : {lo hi count n c : ℕ} {old at : List ℕ} → hi ≤ c → count + (hi - lo) ≤ length old → Pushing l lo hi count old at n c → Pushed old at count n (l (hi - lo) lo)
+  pushing-all {lo} {hi} {count} {n} {c} {old} {at} h room p =
       let q : hi - c ≡ 0 = omega arith in
       record {
         count = omega (arith, p .some, walk-long (hi - lo) lo);
         list = sym (append-nil (take n at)) ∙ ap (λ (y : List ℕ). take n at ++ y) (sym (w .none c) ∙ ap (λ (j : ℕ). l j c) (sym q)) ∙ p .list;
+        fits = omega (arith, p .some, p .long);
       }
 
 -- offsets are small numbers: of a disk's column, the bytes of a column, and of a row in it
@@ -82,17 +83,18 @@ small c r h =
     (mul-le-mul most (mul-le-mul (r .widest) (r .small)), mul-le-mul (r .widest) (r .small), λ j k. let b : j ≤ 31 = omega arith in mul-le-mul b (r .small))
 
 -- nothing pushed, one number, and pushes one after another
-pub pushed-none : (l : List ℕ) (n : ℕ) → Pushed l l n n []
-pushed-none l n = record { count = omega arith; list = sym (append-nil (take n l)) }
+pub pushed-none : (l : List ℕ) (n : ℕ) → n ≤ length l → Pushed l l n n []
+pushed-none l n h = record { count = omega arith; list = sym (append-nil (take n l)); fits = h }
 
 pub pushed-one : (l : List ℕ) (n x : ℕ) → n < length l → Pushed l (set l n x) n (n + 1) (x ∷ [])
-pushed-one l n x h = record { count = refl; list = ap (λ (j : ℕ). take j (set l n x)) (add-one n) ∙ take-suc-set l n x h }
+pushed-one l n x h = record { count = refl; list = ap (λ (j : ℕ). take j (set l n x)) (add-one n) ∙ take-suc-set l n x h; fits = omega (arith, length-set l n x) }
 
 pub pushed-then : {a b c : List ℕ} {n m r : ℕ} {xs ys : List ℕ} → Pushed a b n m xs → Pushed b c m r ys → Pushed a c n r (xs ++ ys)
 pushed-then {a} {b} {c} {n} {m} {r} {xs} {ys} u v =
     record {
       count = v .count ∙ ap (λ (k : ℕ). k + length ys) (u .count) ∙ omega (arith, length-append xs ys);
       list = v .list ∙ ap (λ (l : List ℕ). l ++ ys) (u .list) ∙ append-assoc (take n a) xs ys;
+      fits = v .fits;
     }
 
 -- what the test of the kind picks

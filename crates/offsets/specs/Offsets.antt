@@ -30,3 +30,4 @@ pub record Room (p s i lo hi n long : ℕ) : Type 0 where
 pub record Pushed (old new : List ℕ) (n r : ℕ) (xs : List ℕ) : Type 0 where
   pub count : r ≡ n + length xs
   pub list : take r new ≡ take n old ++ xs
+  pub fits : r ≤ length new

@@ -30,7 +30,7 @@ use Rattle.xor_within.specs.Beside.{Beside}
 use Rattle.offsets.specs.Offsets.{scaled, Pushed}
 use Rattle.offsets.proofs.OffsetLaws.{over-offsets}
 use Rattle.stripes.specs.Cells.{survivors}
-use Rattle.stripes.proofs.SetLists.{survivors-one, survivors-few, survivors-reached, size-fits}
+use Rattle.stripes.proofs.SetLists.{survivors-one, survivors-reached, size-fits}
 use Rattle.rebuild.specs.Cells.{Ready}
 use Rattle.rebuild.proofs.LostLaws.{lost-below}
 
@@ -115,9 +115,6 @@ module _ (p s f row kind number : ℕ) (t col : List ℕ) (ready : Ready p s f r
 
   -- the offsets of the survivors: each has the length of the row's part, and lies in the stripe
   module _ (n : ℕ) (old at : List ℕ) (room : length at ≡ 33) (pushed : Pushed old at 0 n (scaled s (survivors p f f xs))) where
-    pub survivors-most : n ≤ 33
-    survivors-most = survivors-few p p s kind number f f n old at t (ready .within .numbered) room (ready .stripe) pushed .1
-
     mid-long : length (midOf (row * s) (row * s + s - row * s) col) ≡ s
     mid-long = simp (length-take, length-drop) (omega (arith, row-fits))
 

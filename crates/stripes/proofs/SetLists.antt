@@ -7,7 +7,7 @@ use Prim.Native.Nat.{ℕ, suc, _+_, _-_, _*_, _%_, _≤_, _<_}
 use native.Mathlib.Nat.{mod-lt, zero-add, mul-le-mul-right}
 use native.Mathlib.Omega.{arith}
 use lib.Dec.{eqb, ltb, leb}
-use lib.ListN.{length, getD, set, take, replicate, length-take, length-append}
+use lib.ListN.{length, getD, set, take, replicate, length-append}
 use borrow.Author.Tests.{eq-eqb, ne-eqb, eqb-true, eqb-false, ltb-true, lt-ltb, le-ltb, le-leb, lt-leb}
 use Rattle.laws.specs.Choice.{pick}
 use Rattle.laws.specs.Lists.{isIn, allBelow, same}
@@ -190,9 +190,9 @@ module _ (p k kind i : ℕ) where
             (extra-apart p k i (o .numbered) h))
 
 -- what is pushed when a list of cells is empty, or one cell
-pub none-pushed : {xs : List ℕ} (s n : ℕ) (l : List ℕ) → xs ≡ [] → Pushed l l n n (scaled s xs)
+pub none-pushed : {xs : List ℕ} (s n : ℕ) (l : List ℕ) → n ≤ length l → xs ≡ [] → Pushed l l n n (scaled s xs)
 unfolding scaled
-none-pushed s n l e = subst (λ (ys : List ℕ). Pushed l l n n (scaled s ys)) (sym e) (pushed-none l n)
+none-pushed s n l h e = subst (λ (ys : List ℕ). Pushed l l n n (scaled s ys)) (sym e) (pushed-none l n h)
 
 pub one-pushed : {xs : List ℕ} (s n x : ℕ) (l : List ℕ) → xs ≡ x ∷ [] → n < length l → Pushed l (set l n (x * s)) n (n + 1) (scaled s xs)
 unfolding scaled
@@ -248,11 +248,8 @@ module _ (p k s kind i : ℕ) where
 
 -- offsets of the cells xs, in a list of 33 numbers
 module _ (s r n : ℕ) (old at xs t : List ℕ) (room : length at ≡ 33) (pushed : Pushed old at 0 r (scaled s xs)) (below : allBelow n xs ≡ true) (long : length t ≡ n * s) where
-  pub counted : (r ≡ length xs) × (r ≤ 33)
-  counted = let e : r ≡ length xs = omega (arith, pushed .count, length-scaled s xs) in (e, omega (arith, ap length (pushed .list), length-scaled s xs, length-take r at))
-
   pub reached : Reached s (length t) (take r at)
-  reached = subst (Reached s (length t)) (sym (pushed .list)) (cells-reached s n (length t) xs below (omega arith) (omega (arith, counted)))
+  reached = subst (Reached s (length t)) (sym (pushed .list)) (cells-reached s n (length t) xs below (omega arith) (omega (arith, pushed .count, pushed .fits, length-scaled s xs)))
 
   -- they lie beside a cell that is none of them
   pub beside : (x : ℕ) → x < n → isIn x xs ≡ false → Beside (x * s) s (length t) (take r at)
@@ -284,9 +281,6 @@ module _ (p k kind i c r : ℕ) (o : Ordinary p k kind i c r) where
     in-stripe : allBelow (p * (k + 2)) (without (place p r c) (setOf p k kind i)) ≡ true
     in-stripe = kept-below (without-keeps (place p r c)) (p * (k + 2)) (setOf p k kind i) (set-below p k kind i (o .numbered))
 
-    pub others-few : n ≤ 33
-    others-few = counted s n (p * (k + 2)) old at (without (place p r c) (setOf p k kind i)) t room list in-stripe (long ∙ omega arith) .1
-
     pub others-beside : Beside (place p r c * s) s (length t) (take n at)
     others-beside = beside s n (p * (k + 2)) old at (without (place p r c) (setOf p k kind i)) t room list in-stripe (long ∙ omega arith) (place p r c) own-below none
       where
@@ -296,7 +290,7 @@ module _ (p k kind i c r : ℕ) (o : Ordinary p k kind i c r) where
     pub others-solve : (u : List ℕ) → u ≡ withPart s (place p r c * s) (xorOffsets s t (take n at)) t → u ≡ solved s (place p r c) (setOf p k kind i) t
     others-solve u e = e ∙ ap (λ (l : List ℕ). withPart s (place p r c * s) l t) (ap (xorOffsets s t) (list .list) ∙ over-offsets s t (without (place p r c) (setOf p k kind i)))
 
--- the survivors of a set: few, in the stripe, and all of it where no disk is lost
+-- the survivors of a set: in the stripe, and all of it where no disk is lost
 module _ (p k s kind i x y n : ℕ) (old at t : List ℕ) (numbered : i < p) (room : length at ≡ 33) (long : length t ≡ stripeLong p k s) (pushed : Pushed old at 0 n (scaled s (survivors p x y (setOf p k kind i)))) where
   pub survivors-below : allBelow (p * (k + 2)) (survivors p x y (setOf p k kind i)) ≡ true
   survivors-below = kept-below (survivors-keep p x y) (p * (k + 2)) (setOf p k kind i) (set-below p k kind i numbered)
@@ -304,9 +298,6 @@ module _ (p k s kind i x y n : ℕ) (old at t : List ℕ) (numbered : i < p) (ro
   -- the stripe has a cell
   pub size-fits : s ≤ length t
   size-fits = let l : 0 < k + 2 = omega arith in omega (arith, cell-fits (p * (k + 2)) s (place p i 0) (place-below p (k + 2) i 0 numbered l))
-
-  pub survivors-few : (n ≡ length (survivors p x y (setOf p k kind i))) × (n ≤ 33)
-  survivors-few = counted s n (p * (k + 2)) old at (survivors p x y (setOf p k kind i)) t room pushed survivors-below (long ∙ omega arith)
 
   pub survivors-reached : Reached s (length t) (take n at)
   survivors-reached = reached s n (p * (k + 2)) old at (survivors p x y (setOf p k kind i)) t room pushed survivors-below (long ∙ omega arith)

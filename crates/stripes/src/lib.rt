@@ -208,7 +208,7 @@ pub fn solve_rows(width: usize, disks: usize, size: usize, disk: usize, stripe: 
     ensures { λ _. ⌜ now (stripe .exit) ≡ followed width disks size disk (allOf width 0 0) (now (stripe .entry)) ⌝ }
 {
     let mut at = offsets::no_offsets();
-    let n = offsets::push_row(width, size, 0, 0, disk, &mut at, 0);
+    let n = offsets::push(width, size, 0, 0, 0, disk, &mut at, 0);
     let m = offsets::push_row(width, size, 0, disk + 1, disks + 1, &mut at, n);
     let column = width * size;
     xor_within::gather_within(stripe, disk * column, column, &at[..m]);

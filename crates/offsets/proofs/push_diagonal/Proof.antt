@@ -70,7 +70,7 @@ loop-again c =
     )
 
 returns : tie.Need-returns Inv-loop μ-loop
-returns c = let a = c .before .before .before .before .args in pushing-all (diagonal-walk (a .width) (a .size) (a .number)) (omega arith) (c .before .loop .inv .3)
+returns c = let a = c .before .before .before .before .args in pushing-all (diagonal-walk (a .width) (a .size) (a .number)) (omega arith) (omega arith) (c .before .loop .inv .3)
 
 pub push-diagonal-spec : {M : Type 1} → statement M
 push-diagonal-spec =

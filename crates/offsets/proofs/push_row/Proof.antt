@@ -47,7 +47,7 @@ loop-again c =
     (omega arith, omega arith, pushing-one (row-walk (a .width) (a .size) (a .number)) (l .offset) (omega arith) (omega arith) (omega arith) (l .inv .2))
 
 returns : tie.Need-returns Inv-loop μ-loop
-returns c = let a = c .before .before .args in pushing-all (row-walk (a .width) (a .size) (a .number)) (omega arith) (c .before .loop .inv .2)
+returns c = let a = c .before .before .args in pushing-all (row-walk (a .width) (a .size) (a .number)) (omega arith) (omega arith) (c .before .loop .inv .2)
 
 pub push-row-spec : {M : Type 1} → statement M
 push-row-spec =

@@ -6,7 +6,7 @@ use lib.ListN.{length, set, take, length-set}
 use lib.Seq.{length-take-le}
 use borrow.Author.Needs.{needs}
 use Rattle.parity.proofs.CellLaws.{cell-fits}
-use Rattle.rebuild.proofs.StepLaws.{row-fits, survivors-most, sources-fit, step-alone, pair-beside, step-added, two-put}
+use Rattle.rebuild.proofs.StepLaws.{row-fits, sources-fit, step-alone, pair-beside, step-added, two-put}
 use Rattle.rebuild.proofs.rebuild_cell.Statement.{statement}
 use Rattle.rebuild.proofs.rebuild_cell.Tie as tie
 
@@ -14,12 +14,9 @@ use Rattle.rebuild.proofs.rebuild_cell.Tie as tie
 fits : (c : tie.After-surviving) → let a = c .before .before .before .before .before .args in a .row * a .size + a .size ≤ length (a .column .now)
 fits c = let o = c .before .before .before .before .before in let a = o .args in row-fits (a .width) (a .size) (a .disk) (a .row) (a .kind) (a .number) (a .stripe .now) (a .column .now) (o .pre)
 
--- the list is as long as before, and long enough
+-- the list is as long as before
 room : (c : tie.After-surviving) → length (c .surviving .last .1 .1 .1 .1 .1 .1 .1 .0) ≡ 33
 room c = search needs
-
-few : (u : tie.After-surviving) → u .surviving .result ≤ 33
-few u = let o = u .before .before .before .before .before in let a = o .args in survivors-most (a .width) (a .size) (a .disk) (a .row) (a .kind) (a .number) (a .stripe .now) (a .column .now) (o .pre) (u .surviving .result) (u .before .before .no-offsets .result) (u .surviving .last .1 .1 .1 .1 .1 .1 .1 .0) (room u) (u .surviving .ensures)
 
 surviving-requires : tie.Need-surviving-requires
 surviving-requires c κs =
@@ -35,11 +32,8 @@ add-end c = omega (arith, fits (c .before))
 part-gather-end : tie.Need-part-gather-end
 part-gather-end c = omega (arith, fits (c .before))
 
-array-share-prefix-at : tie.Need-array-share-prefix-at
-array-share-prefix-at c = let u = c .before .before in omega (arith, few u, room u)
-
 slice-aggregate-gather : tie.Need-slice-aggregate-gather
-slice-aggregate-gather c = let u = c .before .before .before in sym (length-take-le (u .surviving .result) (u .surviving .last .1 .1 .1 .1 .1 .1 .1 .0) (omega (arith, few u, room u)))
+slice-aggregate-gather c = let u = c .before .before .before .surviving in sym (length-take-le (u .result) (u .last .1 .1 .1 .1 .1 .1 .1 .0) (u .ensures .fits))
 
 gather-requires : tie.Need-gather-requires
 gather-requires c κs =
@@ -113,7 +107,7 @@ rebuild-cell-spec =
     (λ c. search needs)
     (λ c. search needs)
     part-gather-end
-    array-share-prefix-at
+    (λ c. search needs)
     slice-aggregate-gather
     gather-requires
     other-row-requires

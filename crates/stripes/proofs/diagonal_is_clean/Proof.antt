@@ -1,29 +1,19 @@
 -- `diagonal_is_clean`: all cells of the set are pushed, and their XOR is tested.
 use mathlib.Core.Path.{_≡_, refl, sym}
-use Prim.Native.Nat.{_+_, _≤_}
-use native.Mathlib.Omega.{arith}
+use Prim.Native.Nat.{_+_}
 use lib.ListN.{length}
 use lib.Seq.{length-take-le}
 use borrow.Author.Needs.{needs}
-use Rattle.stripes.proofs.SetLists.{size-fits, survivors-few, survivors-reached, none-lost}
+use Rattle.stripes.proofs.SetLists.{size-fits, survivors-reached, none-lost}
 use Rattle.stripes.proofs.diagonal_is_clean.Statement.{statement}
 use Rattle.stripes.proofs.diagonal_is_clean.Tie as tie
 
--- the list is as long as before, and long enough
+-- the list is as long as before
 room : (c : tie.After-surviving) → length (c .surviving .last .1 .1 .1 .1 .1 .1 .1 .0) ≡ 33
 room c = search needs
 
-few : (c : tie.After-surviving) → c .surviving .result ≤ 33
-few c =
-    let o = c .before .before .before .before in
-    let a = o .args in
-    survivors-few (a .width) (a .disks) (a .size) 1 (a .number) (a .disks + 2) (a .disks + 2) (c .surviving .result) (a .at .now) (c .surviving .last .1 .1 .1 .1 .1 .1 .1 .0) (a .stripe .now) (o .pre .1) (room c) (o .pre .0 .long) (c .surviving .ensures) .1
-
-slice-reshare-prefix-is-zero : tie.Need-slice-reshare-prefix-is-zero
-slice-reshare-prefix-is-zero c = let u = c .before .before in omega (arith, few u, room u)
-
 slice-aggregate-is-zero : tie.Need-slice-aggregate-is-zero
-slice-aggregate-is-zero c = let u = c .before .before .before in sym (length-take-le (u .surviving .result) (u .surviving .last .1 .1 .1 .1 .1 .1 .1 .0) (omega (arith, few u, room u)))
+slice-aggregate-is-zero c = let u = c .before .before .before .surviving in sym (length-take-le (u .result) (u .last .1 .1 .1 .1 .1 .1 .1 .0) (u .ensures .fits))
 
 is-zero-requires : tie.Need-is-zero-requires
 is-zero-requires c κs =
@@ -47,7 +37,7 @@ diagonal-is-clean-spec =
     (tie.spec
     (λ c. search needs)
     (λ c κs. search needs)
-    slice-reshare-prefix-is-zero
+    (λ c. search needs)
     slice-aggregate-is-zero
     is-zero-requires
     (λ c. search needs)

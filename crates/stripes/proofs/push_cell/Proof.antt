@@ -11,13 +11,13 @@ use Rattle.stripes.proofs.push_cell.Tie as tie
 returns : tie.Need-returns
 returns c =
     let a = c .before .args in
-    none-pushed (a .size) (a .count) (a .at .now) (one-lost-x (a .width) (a .x) (a .y) (a .row) (a .disk) (c .before .pre .1) (c .if1 .taken))
+    none-pushed (a .size) (a .count) (a .at .now) (omega arith) (one-lost-x (a .width) (a .x) (a .y) (a .row) (a .disk) (c .before .pre .1) (c .if1 .taken))
 
 returns-2 : tie.Need-returns-2
 returns-2 c =
     let o = c .before .before in
     let a = o .args in
-    none-pushed (a .size) (a .count) (a .at .now) (one-lost-y (a .width) (a .x) (a .y) (a .row) (a .disk) (o .pre .1) (c .if2 .taken))
+    none-pushed (a .size) (a .count) (a .at .now) (omega arith) (one-lost-y (a .width) (a .x) (a .y) (a .row) (a .disk) (o .pre .1) (c .if2 .taken))
 
 -- the cell's place and its offset are small numbers
 small : (c : tie.Else2) → let a = c .before .before .args in (a .disk * a .width ≤ 32 * 31) × ((a .disk * a .width + a .row) * a .size ≤ 1023 * 4096)

@@ -14,19 +14,19 @@ use Rattle.stripes.proofs.push_extra.Tie as tie
 returns : tie.Need-returns
 returns c =
     let a = c .before .before .args in
-    none-pushed (a .size) (a .count) (a .at .now) (ap (survivors (a .width) (a .x) (a .y)) (extra-row (a .width) (a .disks) (a .kind) (a .number) (c .if1 .taken)) ∙ survivors-none (a .width) (a .x) (a .y))
+    none-pushed (a .size) (a .count) (a .at .now) (omega arith) (ap (survivors (a .width) (a .x) (a .y)) (extra-row (a .width) (a .disks) (a .kind) (a .number) (c .if1 .taken)) ∙ survivors-none (a .width) (a .x) (a .y))
 
 returns-2 : tie.Need-returns-2
 returns-2 c =
     let a = c .before .before .before .args in
-    none-pushed (a .size) (a .count) (a .at .now) (ap (survivors (a .width) (a .x) (a .y)) (extra-first (a .width) (a .disks) (a .kind) (a .number) (c .if2 .taken)) ∙ survivors-none (a .width) (a .x) (a .y))
+    none-pushed (a .size) (a .count) (a .at .now) (omega arith) (ap (survivors (a .width) (a .x) (a .y)) (extra-first (a .width) (a .disks) (a .kind) (a .number) (c .if2 .taken)) ∙ survivors-none (a .width) (a .x) (a .y))
 
 returns-3 : tie.Need-returns-3
 returns-3 c =
     let d = c .before .extra-disk in
     let f = c .before .before in
     let a = f .before .before .before .args in
-    none-pushed (a .size) (a .count) (a .at .now) (ap (survivors (a .width) (a .x) (a .y)) (extra-absent (a .width) (a .disks) (a .kind) (a .number) (f .if2 .left) (omega (arith, d .ensures))) ∙ survivors-none (a .width) (a .x) (a .y))
+    none-pushed (a .size) (a .count) (a .at .now) (omega arith) (ap (survivors (a .width) (a .x) (a .y)) (extra-absent (a .width) (a .disks) (a .kind) (a .number) (f .if2 .left) (omega (arith, d .ensures))) ∙ survivors-none (a .width) (a .x) (a .y))
 
 returns-4 : tie.Need-returns-4
 returns-4 c =

@@ -1,38 +1,26 @@
 -- `rows_are_clean`: the XOR of the columns of the data disks and P is zero exactly if that of every row is.
 use mathlib.Core.Path.{_≡_, sym}
-use Prim.Native.Nat.{_+_, _*_, _-_, _≤_, _<_}
+use Prim.Native.Nat.{_+_, _*_, _-_, _<_}
 use native.Mathlib.Omega.{arith}
 use lib.ListN.{length, take}
 use lib.Seq.{length-take-le}
 use borrow.Author.Needs.{needs}
 use Rattle.xor.specs.Reach.{Reached}
 use Rattle.parity.proofs.CellLaws.{cell-fits}
-use Rattle.stripes.proofs.SetLists.{data-count}
 use Rattle.stripes.proofs.ColumnLaws.{columns-reached, first-row, rows-clean}
 use Rattle.stripes.proofs.rows_are_clean.Statement.{statement}
 use Rattle.stripes.proofs.rows_are_clean.Tie as tie
 
--- the list is as long as before, and long enough
-room : (c : tie.After-push-row) → length (c .push-row .last .1 .1 .1 .1 .1 .0) ≡ 33
-room c = search needs
-
-few : (c : tie.After-push-row) → c .push-row .result ≤ 32
-few c =
-    let o = c .before .before .before .before in
-    let a = o .args in
-    omega (arith, data-count (a .width) (a .disks) (a .size) 0 0 (a .disks + 1 - 0) 0 (c .push-row .ensures))
-
+-- the numbers of the list that are in use
 long : (c : tie.After-push-row) → length (take (c .push-row .result) (c .push-row .last .1 .1 .1 .1 .1 .0)) ≡ c .push-row .result
-long c = length-take-le (c .push-row .result) (c .push-row .last .1 .1 .1 .1 .1 .0) (omega (arith, few c, room c))
+long c = length-take-le (c .push-row .result) (c .push-row .last .1 .1 .1 .1 .1 .0) (c .push-row .ensures .fits)
 
 reach : (c : tie.After-push-row) → let a = c .before .before .before .before .args in Reached (a .width * a .size) (length (a .stripe .now)) (take (c .push-row .result) (c .push-row .last .1 .1 .1 .1 .1 .0))
 reach c =
     let o = c .before .before .before .before in
     let a = o .args in
-    columns-reached (a .width) (a .disks) (a .size) (a .disks + 2) (o .pre .1) (first-row (a .width) (a .disks) (a .size) (a .stripe .now) (o .pre .1) (o .pre .0 .long) (c .push-row .ensures)) (omega (arith, few c, long c)) (omega (arith, o .pre .0 .long))
-
-array-share-prefix-at : tie.Need-array-share-prefix-at
-array-share-prefix-at c = let u = c .before in omega (arith, few u, room u)
+    let room : length (c .push-row .last .1 .1 .1 .1 .1 .0) ≡ 33 = search needs in
+    columns-reached (a .width) (a .disks) (a .size) (a .disks + 2) (o .pre .1) (first-row (a .width) (a .disks) (a .size) (a .stripe .now) (o .pre .1) (o .pre .0 .long) (c .push-row .ensures)) (omega (arith, long c, c .push-row .ensures .fits)) (omega (arith, o .pre .0 .long))
 
 slice-aggregate-is-zero : tie.Need-slice-aggregate-is-zero
 slice-aggregate-is-zero c = sym (long (c .before .before))
@@ -62,7 +50,7 @@ rows-are-clean-spec =
     (λ c. search needs)
     (λ c κs. search needs)
     (λ c. search needs)
-    array-share-prefix-at
+    (λ c. search needs)
     slice-aggregate-is-zero
     is-zero-requires
     returns)

@@ -8,7 +8,7 @@ use lib.Seq.{length-take-le}
 use borrow.Author.Needs.{needs}
 use Rattle.liberation.specs.Sets.{place}
 use Rattle.xor_within.specs.Beside.{Beside}
-use Rattle.stripes.proofs.SetLists.{own-disk, others-few, others-beside, others-solve}
+use Rattle.stripes.proofs.SetLists.{own-disk, others-beside, others-solve}
 use Rattle.stripes.proofs.solve_by.Statement.{statement}
 use Rattle.stripes.proofs.solve_by.Tie as tie
 
@@ -23,12 +23,6 @@ others-requires c κs =
 -- the list is as long as before
 room : (c : tie.After-others) → length (c .others .last .1 .1 .1 .1 .1 .1 .0) ≡ 33
 room c = search needs
-
-few : (c : tie.After-others) → c .others .result ≤ 33
-few c =
-    let o = c .before .before .before .before in
-    let a = o .args in
-    others-few (a .width) (a .disks) (a .kind) (a .number) (a .disk) (a .row) (o .pre .0 .1) (a .size) (c .others .result) (a .at .now) (c .others .last .1 .1 .1 .1 .1 .1 .0) (a .stripe .now) (room c) (o .pre .0 .0 .long) (c .others .ensures)
 
 lies : (c : tie.After-others) → let a = c .before .before .before .before .args in Beside (place (a .width) (a .row) (a .disk) * a .size) (a .size) (length (a .stripe .now)) (take (c .others .result) (c .others .last .1 .1 .1 .1 .1 .1 .0))
 lies c =
@@ -53,11 +47,8 @@ add-to c = omega (arith, small (c .before .before))
 mul-to-2 : tie.Need-mul-to-2
 mul-to-2 c = omega (arith, lies (c .before .before) .fits)
 
-slice-reshare-prefix-gather-within : tie.Need-slice-reshare-prefix-gather-within
-slice-reshare-prefix-gather-within c = let u = c .before .before .before in omega (arith, few u, room u)
-
 slice-aggregate-gather-within : tie.Need-slice-aggregate-gather-within
-slice-aggregate-gather-within c = let u = c .before .before .before .before in sym (length-take-le (u .others .result) (u .others .last .1 .1 .1 .1 .1 .1 .0) (omega (arith, few u, room u)))
+slice-aggregate-gather-within c = let o = c .before .before .before .before .others in sym (length-take-le (o .result) (o .last .1 .1 .1 .1 .1 .1 .0) (o .ensures .fits))
 
 gather-within-requires : tie.Need-gather-within-requires
 gather-within-requires c κs = lies (c .before .before .before .before)
@@ -78,7 +69,7 @@ solve-by-spec =
     mul-to
     add-to
     mul-to-2
-    slice-reshare-prefix-gather-within
+    (λ c. search needs)
     slice-aggregate-gather-within
     gather-within-requires
     (λ c. search needs)

@@ -55,30 +55,6 @@ diagonal-step-returns t c =
     let a = c .before .before .args in
     diagonal-none (a .width) (a .size) (a .x) (a .y) (a .left) (a .row) (a .stripe .now) (c .if1 .taken)
 
-diagonal-step-add-number : (t : ℕ) → diagonal-step-lts.Need-add-number (
-  solve-reads.Asked,
-  solve-reads.Learnt,
-  row-step-below t,
-  row-step.Post,
-) (diagonal-step-at t) diagonal-step.Post
-diagonal-step-add-number t c = search needs
-
-diagonal-step-sub-number : (t : ℕ) → diagonal-step-lts.Need-sub-number (
-  solve-reads.Asked,
-  solve-reads.Learnt,
-  row-step-below t,
-  row-step.Post,
-) (diagonal-step-at t) diagonal-step.Post
-diagonal-step-sub-number t c = search needs
-
-diagonal-step-rem-number : (t : ℕ) → diagonal-step-lts.Need-rem-number (
-  solve-reads.Asked,
-  solve-reads.Learnt,
-  row-step-below t,
-  row-step.Post,
-) (diagonal-step-at t) diagonal-step.Post
-diagonal-step-rem-number t c = search needs
-
 diagonal-step-add-next : (t : ℕ) → diagonal-step-lts.Need-add-next (
   solve-reads.Asked,
   solve-reads.Learnt,
@@ -90,14 +66,6 @@ diagonal-step-add-next t c =
     let a = z .args in
     let h : 0 < a .width = omega arith in
     omega (arith, z .pre .1 .0 .widest, mod-lt (a .row + a .width - a .x) h)
-
-diagonal-step-rem-next : (t : ℕ) → diagonal-step-lts.Need-rem-next (
-  solve-reads.Asked,
-  solve-reads.Learnt,
-  row-step-below t,
-  row-step.Post,
-) (diagonal-step-at t) diagonal-step.Post
-diagonal-step-rem-next t c = search needs
 
 diagonal-step-solve-requires : (t : ℕ) → diagonal-step-lts.Need-solve-requires (
   solve-reads.Asked,
@@ -111,14 +79,6 @@ diagonal-step-solve-requires t c κs =
     let number = diagonalOf (a .width) (a .x) (a .row) in
     (z .pre .1 .0, diagonal-own (a .width) (a .width) number (a .y) (nextRow (a .width) (a .x) (a .y) (a .row)) (mod-lt (a .row + a .width - a .x) (omega arith)) (mod-lt (number + a .y) (omega arith)) (omega arith) refl)
 
-diagonal-step-sub-row-step : (t : ℕ) → diagonal-step-lts.Need-sub-row-step (
-  solve-reads.Asked,
-  solve-reads.Learnt,
-  row-step-below t,
-  row-step.Post,
-) (diagonal-step-at t) diagonal-step.Post
-diagonal-step-sub-row-step t c = search needs
-
 diagonal-step-row-step-requires : (t : ℕ) → diagonal-step-lts.Need-row-step-requires (
   solve-reads.Asked,
   solve-reads.Learnt,
@@ -130,14 +90,6 @@ diagonal-step-row-step-requires t c κs =
     let z = v .before .before .before .before in
     let a = z .args in
     (omega arith, (sized-kept (a .width) (a .size) (a .stripe .now) (v .solve .last .1 .1 .1 .1 .1 .1 .1 .0) (z .pre .1 .0) (v .solve .kept .1 .1 .1 .1 .1 .1 .1 .0), (omega arith, omega arith, mod-lt (diagonalOf (a .width) (a .x) (a .row) + a .y) (omega arith))))
-
-diagonal-step-same-length : (t : ℕ) → diagonal-step-lts.Need-same-length (
-  solve-reads.Asked,
-  solve-reads.Learnt,
-  row-step-below t,
-  row-step.Post,
-) (diagonal-step-at t) diagonal-step.Post
-diagonal-step-same-length t c = search needs
 
 diagonal-step-returns-2 : (t : ℕ) → diagonal-step-lts.Need-returns-2 (
   solve-reads.Asked,
@@ -173,30 +125,6 @@ row-step-solve-requires t c κs =
     let a = z .args in
     (z .pre .1 .0, row-own (a .width) (a .width) (a .row) (a .x) (omega arith) (omega arith))
 
-row-step-sub-diagonal-step : (t : ℕ) → row-step-lts.Need-sub-diagonal-step (
-  solve-reads.Asked,
-  solve-reads.Learnt,
-  diagonal-step-below t,
-  diagonal-step.Post,
-) (row-step-at t) row-step.Post
-row-step-sub-diagonal-step t c = search needs
-
-row-step-diagonal-step-requires : (t : ℕ) → row-step-lts.Need-diagonal-step-requires (
-  solve-reads.Asked,
-  solve-reads.Learnt,
-  diagonal-step-below t,
-  diagonal-step.Post,
-) (row-step-at t) row-step.Post
-row-step-diagonal-step-requires t c κs = search needs
-
-row-step-same-length : (t : ℕ) → row-step-lts.Need-same-length (
-  solve-reads.Asked,
-  solve-reads.Learnt,
-  diagonal-step-below t,
-  diagonal-step.Post,
-) (row-step-at t) row-step.Post
-row-step-same-length t c = search needs
-
 row-step-returns-2 : (t : ℕ) → row-step-lts.Need-returns-2 (
   solve-reads.Asked,
   solve-reads.Learnt,
@@ -220,15 +148,15 @@ pub +diagonal-step+row-step-spec : {M : Type 1} → statement M
     (diagonal-step-at t)
     diagonal-step.Post
     (diagonal-step-returns t)
-    (diagonal-step-add-number t)
-    (diagonal-step-sub-number t)
-    (diagonal-step-rem-number t)
+    (λ c. search needs)
+    (λ c. search needs)
+    (λ c. search needs)
     (diagonal-step-add-next t)
-    (diagonal-step-rem-next t)
+    (λ c. search needs)
     (diagonal-step-solve-requires t)
-    (diagonal-step-sub-row-step t)
+    (λ c. search needs)
     (diagonal-step-row-step-requires t)
-    (diagonal-step-same-length t)
+    (λ c. search needs)
     (diagonal-step-returns-2 t))
     λ t. row-step-lts.spec
     (solve-reads.Asked, solve-reads.Learnt, diagonal-step-below t, diagonal-step.Post)
@@ -236,7 +164,7 @@ pub +diagonal-step+row-step-spec : {M : Type 1} → statement M
     row-step.Post
     (row-step-returns t)
     (row-step-solve-requires t)
-    (row-step-sub-diagonal-step t)
-    (row-step-diagonal-step-requires t)
-    (row-step-same-length t)
+    (λ c. search needs)
+    (λ c κs. search needs)
+    (λ c. search needs)
     (row-step-returns-2 t)

@@ -15,9 +15,6 @@ Inv-loop width gap left₀ at₀ left at = (at < width) × (comesToOne left widt
 abbrev μ-loop : tie.MeasureT-loop
 μ-loop width gap left₀ at₀ left at = left
 
-sub-left : tie.Need-sub-left Inv-loop μ-loop
-sub-left c = search needs
-
 loop-holds : tie.Need-loop-holds Inv-loop μ-loop
 loop-holds c = (c .pre .1, refl)
 
@@ -26,18 +23,6 @@ returns c =
     let l = c .before .before .loop in
     let a = c .before .before .before .args in
     sym (one-found (l .left) (a .width) (a .gap) (l .at) (c .before .loop-test .taken) (c .if1 .taken)) ∙ l .inv .1
-
-add-at : tie.Need-add-at Inv-loop μ-loop
-add-at c = search needs
-
-rem-at : tie.Need-rem-at Inv-loop μ-loop
-rem-at c = search needs
-
-sub-left-2 : tie.Need-sub-left-2 Inv-loop μ-loop
-sub-left-2 c = search needs
-
-loop-less : tie.Need-loop-less Inv-loop μ-loop
-loop-less c = search needs
 
 loop-again : tie.Need-loop-again Inv-loop μ-loop
 loop-again c =
@@ -57,12 +42,12 @@ comes-to-one-spec =
     (tie.spec
     Inv-loop
     μ-loop
-    sub-left
+    (λ c. search needs)
     loop-holds
     returns
-    add-at
-    rem-at
-    sub-left-2
-    loop-less
+    (λ c. search needs)
+    (λ c. search needs)
+    (λ c. search needs)
+    (λ c. search needs)
     loop-again
     returns-2)

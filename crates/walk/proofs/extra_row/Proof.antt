@@ -6,14 +6,8 @@ use Rattle.walk.proofs.RoleLaws.{extra-below, half-most}
 use Rattle.walk.proofs.extra_row.Statement.{statement}
 use Rattle.walk.proofs.extra_row.Tie as tie
 
-add-result : tie.Need-add-result
-add-result c = search needs
-
 mul-result : tie.Need-mul-result
 mul-result c = omega (arith, half-most (c .args .width) (c .args .disk) (c .pre .0) (c .pre .3))
-
-rem-result : tie.Need-rem-result
-rem-result c = search needs
 
 sub-result : tie.Need-sub-result
 sub-result c = omega (arith, extra-below (c .args .width) (c .args .disk) (c .pre .1) (c .pre .2) (c .pre .3))
@@ -22,4 +16,4 @@ returns : tie.Need-returns
 returns c = (refl, extra-below (c .args .width) (c .args .disk) (c .pre .1) (c .pre .2) (c .pre .3) .1)
 
 pub extra-row-spec : {M : Type 1} → statement M
-extra-row-spec = tie.close (tie.spec add-result mul-result rem-result sub-result returns)
+extra-row-spec = tie.close (tie.spec (λ c. search needs) mul-result (λ c. search needs) sub-result returns)

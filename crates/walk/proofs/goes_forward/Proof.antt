@@ -8,14 +8,8 @@ use Rattle.walk.proofs.goes_forward.Tie as tie
 returns : tie.Need-returns
 returns c = let a = c .before .args in sym (forward-zero (a .width) (a .a) (a .b) (c .if1 .taken))
 
-sub-comes-to-one : tie.Need-sub-comes-to-one
-sub-comes-to-one c = search needs
-
-comes-to-one-requires : tie.Need-comes-to-one-requires
-comes-to-one-requires c κs = search needs
-
 returns-2 : tie.Need-returns-2
 returns-2 c = let a = c .before .before .args in c .comes-to-one .ensures ∙ sym (forward-other (a .width) (a .a) (a .b) (c .before .if1 .left))
 
 pub goes-forward-spec : {M : Type 1} → statement M
-goes-forward-spec = tie.close (tie.spec returns sub-comes-to-one comes-to-one-requires returns-2)
+goes-forward-spec = tie.close (tie.spec returns (λ c. search needs) (λ c κs. search needs) returns-2)

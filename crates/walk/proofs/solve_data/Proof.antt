@@ -4,18 +4,12 @@ use Rattle.walk.proofs.DiskLaws.{data-forward, data-back, walked-forwar
 use Rattle.walk.proofs.solve_data.Statement.{statement}
 use Rattle.walk.proofs.solve_data.Tie as tie
 
-goes-forward-requires : tie.Need-goes-forward-requires
-goes-forward-requires c κs = search needs
-
 walk-disks-requires : tie.Need-walk-disks-requires
 walk-disks-requires c κs =
     let g = c .before .before .goes-forward in
     let z = c .before .before .before .before in
     let a = z .args in
     (z .pre .0, walked-forward (a .width) (a .a) (a .b) (g .result) (z .pre .1 .0) (z .pre .1 .1) (z .pre .1 .2) (g .ensures) (c .before .if1 .taken))
-
-same-length : tie.Need-same-length
-same-length c = search needs
 
 returns : tie.Need-returns
 returns c =
@@ -24,12 +18,6 @@ returns c =
     let g = i .before .goes-forward in
     let a = i .before .before .before .args in
     data-forward (a .width) (a .size) (a .a) (a .b) (a .stripe .now) (w .walk-disks .last .1 .1 .1 .1 .0) (g .result) (g .ensures) (i .if1 .taken) (w .walk-disks .ensures)
-
-walk-disks-requires-2 : tie.Need-walk-disks-requires-2
-walk-disks-requires-2 c κs = search needs
-
-same-length-2 : tie.Need-same-length-2
-same-length-2 c = search needs
 
 returns-2 : tie.Need-returns-2
 returns-2 c =
@@ -43,10 +31,10 @@ pub solve-data-spec : {M : Type 1} → statement M
 solve-data-spec =
     tie.close
     (tie.spec
-    goes-forward-requires
+    (λ c κs. search needs)
     walk-disks-requires
-    same-length
+    (λ c. search needs)
     returns
-    walk-disks-requires-2
-    same-length-2
+    (λ c κs. search needs)
+    (λ c. search needs)
     returns-2)

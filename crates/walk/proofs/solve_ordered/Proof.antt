@@ -4,12 +4,6 @@ use Rattle.walk.proofs.DiskLaws.{ordered-data, ordered-row, ordered-dia
 use Rattle.walk.proofs.solve_ordered.Statement.{statement}
 use Rattle.walk.proofs.solve_ordered.Tie as tie
 
-solve-data-requires : tie.Need-solve-data-requires
-solve-data-requires c κs = search needs
-
-same-length : tie.Need-same-length
-same-length c = search needs
-
 returns : tie.Need-returns
 returns c =
     let w = c .before .before in
@@ -17,24 +11,12 @@ returns c =
     let a = i .before .before .args in
     ordered-data (a .width) (a .size) (a .a) (a .b) (a .stripe .now) (w .solve-data .last .1 .1 .1 .1 .0) (i .if1 .taken) (w .solve-data .ensures)
 
-with-row-parity-requires : tie.Need-with-row-parity-requires
-with-row-parity-requires c κs = search needs
-
-same-length-2 : tie.Need-same-length-2
-same-length-2 c = search needs
-
 returns-2 : tie.Need-returns-2
 returns-2 c =
     let w = c .before .before in
     let i = w .before .before in
     let a = i .before .before .before .args in
     ordered-row (a .width) (a .size) (a .a) (a .b) (a .stripe .now) (w .with-row-parity .last .1 .1 .1 .0) (i .before .if1 .left) (i .if2 .taken) (w .with-row-parity .ensures)
-
-with-diagonal-parity-requires : tie.Need-with-diagonal-parity-requires
-with-diagonal-parity-requires c κs = search needs
-
-same-length-3 : tie.Need-same-length-3
-same-length-3 c = search needs
 
 returns-3 : tie.Need-returns-3
 returns-3 c =
@@ -47,12 +29,12 @@ pub solve-ordered-spec : {M : Type 1} → statement M
 solve-ordered-spec =
     tie.close
     (tie.spec
-    solve-data-requires
-    same-length
+    (λ c κs. search needs)
+    (λ c. search needs)
     returns
-    with-row-parity-requires
-    same-length-2
+    (λ c κs. search needs)
+    (λ c. search needs)
     returns-2
-    with-diagonal-parity-requires
-    same-length-3
+    (λ c κs. search needs)
+    (λ c. search needs)
     returns-3)

@@ -4,24 +4,12 @@ use Rattle.walk.proofs.DiskLaws.{pair-ordered, pair-turned}
 use Rattle.walk.proofs.solve_pair.Statement.{statement}
 use Rattle.walk.proofs.solve_pair.Tie as tie
 
-solve-ordered-requires : tie.Need-solve-ordered-requires
-solve-ordered-requires c κs = search needs
-
-same-length : tie.Need-same-length
-same-length c = search needs
-
 returns : tie.Need-returns
 returns c =
     let w = c .before .before in
     let i = w .before .before in
     let a = i .before .before .args in
     pair-ordered (a .width) (a .size) (a .first) (a .second) (a .stripe .now) (w .solve-ordered .last .1 .1 .1 .1 .0) (i .if1 .taken) (w .solve-ordered .ensures)
-
-solve-ordered-requires-2 : tie.Need-solve-ordered-requires-2
-solve-ordered-requires-2 c κs = search needs
-
-same-length-2 : tie.Need-same-length-2
-same-length-2 c = search needs
 
 returns-2 : tie.Need-returns-2
 returns-2 c =
@@ -34,9 +22,9 @@ pub solve-pair-spec : {M : Type 1} → statement M
 solve-pair-spec =
     tie.close
     (tie.spec
-    solve-ordered-requires
-    same-length
+    (λ c κs. search needs)
+    (λ c. search needs)
     returns
-    solve-ordered-requires-2
-    same-length-2
+    (λ c κs. search needs)
+    (λ c. search needs)
     returns-2)

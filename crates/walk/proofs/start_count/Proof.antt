@@ -5,9 +5,6 @@ use Rattle.walk.proofs.RoleLaws.{pick-zero, pick-other}
 use Rattle.walk.proofs.start_count.Statement.{statement}
 use Rattle.walk.proofs.start_count.Tie as tie
 
-sub-result : tie.Need-sub-result
-sub-result c = search needs
-
 returns : tie.Need-returns
 returns c = pick-zero (c .before .args .y) (c .before .args .width) ((c .before .args .width - 1) / 2) (c .if1 .taken)
 
@@ -15,4 +12,4 @@ returns-2 : tie.Need-returns-2
 returns-2 c = pick-other (c .before .args .y) (c .before .args .width) ((c .before .args .width - 1) / 2) (c .if1 .left)
 
 pub start-count-spec : {M : Type 1} → statement M
-start-count-spec = tie.close (tie.spec sub-result returns returns-2)
+start-count-spec = tie.close (tie.spec (λ c. search needs) returns returns-2)

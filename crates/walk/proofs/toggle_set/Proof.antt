@@ -1,7 +1,7 @@
 -- `toggle_set`: the surviving cells of the set are pushed by their places, and each has a mark.
 use mathlib.Core.Path.{_≡_, sym, ap, _∙_}
 use mathlib.Core.List.{List}
-use Prim.Native.Nat.{ℕ, _+_, _-_, _*_, _≤_}
+use Prim.Native.Nat.{ℕ, _+_, _-_, _*_}
 use native.Mathlib.Omega.{arith}
 use lib.ListN.{length, take}
 use lib.Seq.{length-take-le}
@@ -10,7 +10,7 @@ use Rattle.laws.specs.Lists.{allBelow}
 use Rattle.liberation.specs.Sets.{setOf}
 use Rattle.odd.specs.Toggled.{toggledAll}
 use Rattle.stripes.specs.Cells.{survivors}
-use Rattle.stripes.proofs.SetLists.{survivors-few, survivors-below}
+use Rattle.stripes.proofs.SetLists.{survivors-below}
 use Rattle.walk.proofs.ToggleLaws.{in-order, ordered-survivors, set-places, places-marked}
 use Rattle.walk.proofs.toggle_set.Statement.{statement}
 use Rattle.walk.proofs.toggle_set.Tie as tie
@@ -27,19 +27,12 @@ surviving-requires c κs =
     let q = o .pre .0 in
     record { widest = q .widest; disks = omega arith; numbered = o .pre .1; small = omega arith; ordered = w .0; last = omega (arith, m .ensures); room = q .room }
 
--- the list is as long as before, and long enough
+-- the list is as long as before
 room : (c : tie.After-surviving) → length (c .surviving .last .1 .1 .1 .1 .1 .1 .1 .0) ≡ 33
 room c = search needs
 
-few : (u : tie.After-surviving) → u .surviving .result ≤ 33
-few u =
-    let m = u .before .before .least in
-    let o = u .before .before .before .before .before in
-    let a = o .args in
-    survivors-few (a .width) (a .width) 1 (a .kind) (a .number) (m .result) (a .x + a .y - m .result) (u .surviving .result) (a .at .now) (u .surviving .last .1 .1 .1 .1 .1 .1 .1 .0) (a .marks .now) (o .pre .1) (room u) (o .pre .0 .marks ∙ omega arith) (u .surviving .ensures) .1
-
 long : (u : tie.After-surviving) → length (take (u .surviving .result) (u .surviving .last .1 .1 .1 .1 .1 .1 .1 .0)) ≡ u .surviving .result
-long u = length-take-le (u .surviving .result) (u .surviving .last .1 .1 .1 .1 .1 .1 .1 .0) (omega (arith, few u, room u))
+long u = length-take-le (u .surviving .result) (u .surviving .last .1 .1 .1 .1 .1 .1 .1 .0) (u .surviving .ensures .fits)
 
 -- the places in the list
 places : (u : tie.After-surviving) → let a = u .before .before .before .before .before .args in take (u .surviving .result) (u .surviving .last .1 .1 .1 .1 .1 .1 .1 .0) ≡ survivors (a .width) (a .x) (a .y) (setOf (a .width) (a .width) (a .kind) (a .number))
@@ -47,9 +40,6 @@ places u =
     let m = u .before .before .least in
     let a = u .before .before .before .before .before .args in
     set-places (a .width) (a .x) (a .y) (m .result) (setOf (a .width) (a .width) (a .kind) (a .number)) (m .ensures) (u .surviving .ensures)
-
-slice-reshare-prefix-toggle-all : tie.Need-slice-reshare-prefix-toggle-all
-slice-reshare-prefix-toggle-all c = let u = c .before .before .before in omega (arith, few u, room u)
 
 slice-aggregate-toggle-all : tie.Need-slice-aggregate-toggle-all
 slice-aggregate-toggle-all c = sym (long (c .before .before .before .before))
@@ -63,7 +53,7 @@ toggle-all-requires c κs =
     let xs = setOf (a .width) (a .width) (a .kind) (a .number) in
     let n = a .width * (a .width + 2) in
     let b = ap (allBelow n) (sym (ordered-survivors (a .width) (a .x) (a .y) (m .result) (m .ensures) xs)) ∙ survivors-below (a .width) (a .width) 1 (a .kind) (a .number) (m .result) (a .x + a .y - m .result) (u .surviving .result) (a .at .now) (u .surviving .last .1 .1 .1 .1 .1 .1 .1 .0) (a .marks .now) (o .pre .1) (room u) (o .pre .0 .marks ∙ omega arith) (u .surviving .ensures) in
-    (omega (arith, few u, long u), λ i h. omega (arith, places-marked n (take (u .surviving .result) (u .surviving .last .1 .1 .1 .1 .1 .1 .1 .0)) (survivors (a .width) (a .x) (a .y) xs) (places u) b i h, o .pre .0 .marks))
+    (omega (arith, room u, u .surviving .ensures .fits, long u), λ i h. omega (arith, places-marked n (take (u .surviving .result) (u .surviving .last .1 .1 .1 .1 .1 .1 .1 .0)) (survivors (a .width) (a .x) (a .y) xs) (places u) b i h, o .pre .0 .marks))
 
 returns : tie.Need-returns
 returns c =
@@ -80,7 +70,7 @@ toggle-set-spec =
     (λ c. search needs)
     sub-surviving
     surviving-requires
-    slice-reshare-prefix-toggle-all
+    (λ c. search needs)
     slice-aggregate-toggle-all
     toggle-all-requires
     (λ c. search needs)

@@ -23,15 +23,6 @@ abbrev μ-loop : tie.MeasureT-loop
 loop-holds : tie.Need-loop-holds Inv-loop μ-loop
 loop-holds c = let a = c .before .args in (omega arith, refl, up-first (a .width) (a .size) (a .disk) (a .stripe .now))
 
-add-number : tie.Need-add-number Inv-loop μ-loop
-add-number c = search needs
-
-sub-number : tie.Need-sub-number Inv-loop μ-loop
-sub-number c = search needs
-
-rem-number : tie.Need-rem-number Inv-loop μ-loop
-rem-number c = search needs
-
 solve-requires : tie.Need-solve-requires Inv-loop μ-loop
 solve-requires c κs =
     let z = c .before .before .before .before in
@@ -39,12 +30,6 @@ solve-requires c κs =
     let l = c .before .before .loop in
     let b = mod-lt (l .i + a .width - a .disk) {m = a .width} (omega arith) in
     (sized-kept (a .width) (a .size) (a .stripe .now) (l .stripe) (z .pre .0) (l .inv .1), diagonal-own (a .width) (a .width) (diagonalOf (a .width) (a .disk) (l .i)) (a .disk) (l .i) b (omega arith) (omega arith) (up-row (a .width) (a .disk) (l .i) (omega arith) (omega arith)))
-
-add-i : tie.Need-add-i Inv-loop μ-loop
-add-i c = search needs
-
-loop-less : tie.Need-loop-less Inv-loop μ-loop
-loop-less c = search needs
 
 loop-again : tie.Need-loop-again Inv-loop μ-loop
 loop-again c =
@@ -69,12 +54,12 @@ up-diagonals-spec =
     Inv-loop
     μ-loop
     loop-holds
-    add-number
-    sub-number
-    rem-number
+    (λ c. search needs)
+    (λ c. search needs)
+    (λ c. search needs)
     solve-requires
-    add-i
-    loop-less
+    (λ c. search needs)
+    (λ c. search needs)
     loop-again
     same-length
     returns)

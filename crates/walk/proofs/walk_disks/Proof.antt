@@ -8,15 +8,6 @@ use Rattle.walk.proofs.DiskLaws.{other-range, walk-done}
 use Rattle.walk.proofs.walk_disks.Statement.{statement}
 use Rattle.walk.proofs.walk_disks.Tie as tie
 
-start-requires : tie.Need-start-requires
-start-requires c κs = search needs
-
-extra-row-requires : tie.Need-extra-row-requires
-extra-row-requires c κs = search needs
-
-other-disk-requires : tie.Need-other-disk-requires
-other-disk-requires c κs = search needs
-
 -- the other disk is a data disk
 below : (c : tie.After-other-disk) → c .other-disk .result < c .before .before .before .before .before .before .before .args .width
 below c =
@@ -33,18 +24,6 @@ solve-requires c κs =
     let r = k .before .extra-row in
     (sized-kept (a .width) (a .size) (a .stripe .now) (v .start .last .1 .1 .1 .1 .0) (z .pre .0) (v .start .kept .1 .1 .1 .1 .0), row-own (a .width) (a .width) (r .result) (k .other-disk .result) (r .ensures .1) (omega (arith, below k)))
 
-sub-diagonal-step : tie.Need-sub-diagonal-step
-sub-diagonal-step c = search needs
-
-mul-diagonal-step : tie.Need-mul-diagonal-step
-mul-diagonal-step c = search needs
-
-diagonal-step-requires : tie.Need-diagonal-step-requires
-diagonal-step-requires c κs = search needs
-
-same-length : tie.Need-same-length
-same-length c = search needs
-
 returns : tie.Need-returns
 returns c =
     let w = c .before .before in
@@ -60,12 +39,12 @@ pub walk-disks-spec : {M : Type 1} → statement M
 walk-disks-spec =
     tie.close
     (tie.spec
-    start-requires
-    extra-row-requires
-    other-disk-requires
+    (λ c κs. search needs)
+    (λ c κs. search needs)
+    (λ c κs. search needs)
     solve-requires
-    sub-diagonal-step
-    mul-diagonal-step
-    diagonal-step-requires
-    same-length
+    (λ c. search needs)
+    (λ c. search needs)
+    (λ c κs. search needs)
+    (λ c. search needs)
     returns)
