@@ -4,8 +4,8 @@ ghost use Rattle.planner.specs.Says.{PlanSays, ListSays};
 ghost use Rattle.judge.specs.Says.{JudgeSays};
 ghost use Rattle.space.specs.Says.{SpaceSays};
 ghost use Rattle.stripes.specs.Says.{EncodeSays, CheckSays};
-ghost use Rattle.rebuild.specs.Says.{OneSays};
-ghost use Rattle.repair.specs.Says.{TwoSays};
+ghost use Rattle.rebuild_one.specs.Says.{OneSays};
+ghost use Rattle.rebuild_two.specs.Says.{TwoSays};
 ghost use Rattle.runs.specs.Runs.{OpenSays, StepSays, ProgressSays};
 ghost use Rattle.billing.specs.Bills.{BillSays, RunBillSays};
 use billing::Bill;
@@ -77,7 +77,7 @@ pub extern "C" fn cuzhaveli_rebuild_one(
 ) -> Answer
     ensures { λ r. ⌜ OneSays width size disk (now (stripe .entry)) (now (column .entry)) (now (column .exit)) r ⌝ }
 {
-    rebuild::rebuild_one(width, size, disk, stripe, column)
+    rebuild_one::rebuild_one(width, size, disk, stripe, column)
 }
 
 // Rebuilds two lost disks of a lent stripe in place.
@@ -91,7 +91,7 @@ pub extern "C" fn cuzhaveli_rebuild_two(
 ) -> Answer
     ensures { λ r. ⌜ TwoSays width size first second (now (stripe .entry)) (now (stripe .exit)) r ⌝ }
 {
-    repair::rebuild_two(width, size, first, second, stripe)
+    rebuild_two::rebuild_two(width, size, first, second, stripe)
 }
 
 // Opens a rebuild run over `stripes` stripes.

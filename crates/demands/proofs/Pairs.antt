@@ -7,12 +7,12 @@ use native.Mathlib.Omega.{arith}
 use lib.Dec.{eqb}
 use Rattle.laws.specs.Choice.{pick}
 use Rattle.liberation.specs.Sets.{diskAt}
-use Rattle.parity.specs.Stripes.{cellAt, isStripe, clean}
-use Rattle.pairs.specs.Pairs.{pairSolved}
-use Rattle.pairs.proofs.PairLaws.{pair-stripe, pair-off, pair-clean, pair-back}
+use Rattle.liberation_stripes.specs.Stripes.{cellAt, isStripe, clean}
+use Rattle.liberation_pairs.specs.Pairs.{pairSolved}
+use Rattle.liberation_pairs.proofs.PairLaws.{pair-stripe, pair-off, pair-clean, pair-back}
 use Rattle.refusals.specs.declared.Answer.{Answer}
-use Rattle.repair.specs.Says.{twoFault, TwoSays}
-use Rattle.repair.proofs.RefusalLaws.{fault-none}
+use Rattle.rebuild_two.specs.Says.{twoFault, TwoSays}
+use Rattle.rebuild_two.proofs.TwoRefusals.{fault-none}
 use Rattle.demands.proofs.Stripes.{is-stripe}
 
 -- An accepted rebuild of the disks a and b of t leaves t′.

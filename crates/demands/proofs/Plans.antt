@@ -12,8 +12,8 @@ use Rattle.liberation.specs.Claims.{isBest, diagonalsUsed, loneExtras, byExtra,
 use Rattle.liberation.proofs.FaultLaws.{plan-none}
 use Rattle.liberation.proofs.Rearranging.{count-same}
 use Rattle.liberation.proofs.Demand3.{plans-best, plan-accepted}
-use Rattle.parity.specs.Stripes.{isStripe, followed}
-use Rattle.parity.proofs.Rearranging.{bytes-same}
+use Rattle.liberation_stripes.specs.Stripes.{isStripe, followed}
+use Rattle.liberation_stripes.proofs.Rearranging.{bytes-same}
 use Rattle.planner.specs.declared.Plan.{Plan}
 use Rattle.planner.specs.Says.{PlanSays}
 use Rattle.planner.proofs.FormLaws.{formOf, length-of, plan-form}

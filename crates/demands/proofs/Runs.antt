@@ -6,7 +6,7 @@ use Prim.Native.Nat.{ℕ, _+_, _*_, _<_}
 use lib.ListN.{length}
 use Rattle.liberation.specs.Sets.{diskAt}
 use Rattle.liberation.proofs.FaultLaws.{numbers-of, plan-none}
-use Rattle.parity.specs.Stripes.{cellAt, columnOf, isStripe, clean}
+use Rattle.liberation_stripes.specs.Stripes.{cellAt, columnOf, isStripe, clean}
 use Rattle.refusals.specs.declared.Answer.{Answer}
 use Rattle.planner.specs.declared.Plan.{Plan}
 use Rattle.planner.specs.Says.{PlanSays}
@@ -15,7 +15,7 @@ use Rattle.runs.specs.declared.RunAnswer.{RunAnswer}
 use Rattle.runs.specs.declared.Progress.{Progress}
 use Rattle.runs.specs.Runs.{OpenSays, StepSays, ProgressSays}
 use Rattle.runs.specs.Claims.{Call, Left, Made, lastRun, columnsOf}
-use Rattle.runs.proofs.SaysLaws.{step-rebuilds}
+use Rattle.runs.proofs.RunRefusals.{step-rebuilds}
 use Rattle.runs.proofs.MadeLaws.{progress-right}
 use Rattle.demands.proofs.Stripes.{brings-back}
 use Rattle.demands.proofs.Plans.{our-reads}

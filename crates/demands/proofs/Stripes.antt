@@ -14,16 +14,16 @@ use Rattle.laws.proofs.Flags.{and-i}
 use Rattle.liberation.specs.Sets.{diskAt}
 use Rattle.liberation.specs.Plans.{readList}
 use Rattle.liberation.proofs.Demand3.{plan-accepted}
-use Rattle.parity.specs.Stripes.{cellAt, columnOf, stripeLong, isStripe, clean, encoded, rebuilt}
-use Rattle.parity.proofs.Encoding.{encoded-stripe, encoded-data, encoded-clean, encoded-only}
-use Rattle.parity.proofs.Rebuilding.{one-back, lost-unused, only-read}
+use Rattle.liberation_stripes.specs.Stripes.{cellAt, columnOf, stripeLong, isStripe, clean, encoded, rebuilt}
+use Rattle.liberation_stripes.proofs.Encoding.{encoded-stripe, encoded-data, encoded-clean, encoded-only}
+use Rattle.liberation_stripes.proofs.Rebuilding.{one-back, lost-unused, only-read}
 use Rattle.refusals.specs.declared.Answer.{Answer}
 use Rattle.planner.specs.Says.{ListSays}
 use Rattle.stripes.specs.declared.Checked.{Checked}
 use Rattle.stripes.specs.Says.{stripeFault, EncodeSays, CheckSays}
-use Rattle.stripes.proofs.FaultLaws.{fault-none as within-limits}
-use Rattle.rebuild.specs.Says.{OneSays}
-use Rattle.rebuild.proofs.SaysLaws.{Fit, fault-none}
+use Rattle.stripes.proofs.StripeRefusals.{fault-none as within-limits}
+use Rattle.rebuild_one.specs.Says.{OneSays}
+use Rattle.rebuild_one.proofs.OneRefusals.{Fit, fault-none}
 
 pub is-stripe : (p s : ℕ) (t : List ℕ) → length t ≡ stripeLong p p s → allBytes t ≡ true → isStripe p p s t ≡ true
 is-stripe p s t e b = and-i (eqb (length t) (stripeLong p p s)) (allBytes t) (eq-eqb (length t) (stripeLong p p s) e) b

@@ -7,7 +7,7 @@ use Rattle.laws.specs.Xor.{xorFrom, xorL}
 use Rattle.liberation.specs.Sets.{rowFrom, rowSet, diagonalFrom, ordinary, diagonalSet, lostIn, survivingIn}
 use Rattle.liberation.specs.Plans.{diagonals, firstRoutes, decided, routesFrom, routes, rowSteps, diagonalSteps, dataPlan, allOf, planOf, readFrom}
 use Rattle.liberation.specs.Judging.{othersThere, stepFault, judgeFrom}
-use Rattle.parity.specs.Stripes.{xorOver, clean, without, followed, rebuilt, encoded}
+use Rattle.liberation_stripes.specs.Stripes.{xorOver, clean, without, followed, rebuilt, encoded}
 use Rattle.examples.specs.Table.{table, agree}
 
 pub starred : agree table ≡ true

@@ -8,7 +8,7 @@ use Rattle.laws.specs.Choice.{when}
 use Rattle.laws.specs.Lists.{same}
 use Rattle.liberation.specs.Plans.{Step, step, routes, planOf, readCount}
 use Rattle.liberation.specs.Judging.{judge}
-use Rattle.parity.specs.Stripes.{encoded, rebuilt, clean}
+use Rattle.liberation_stripes.specs.Stripes.{encoded, rebuilt, clean}
 use Rattle.space.specs.Says.{stripesOf, needOf, spaceFault}
 
 pub record Row : Type 0 where

@@ -1,5 +1,5 @@
 -- The laws that the judge's proofs plug their places into.
-pub mod StepLaws
-pub mod PlanLaws
-pub mod FormLaws
+pub mod StepRefusals
+pub mod JudgingLoop
+pub mod FormRefusals
 pub mod AcceptLaws

@@ -12,8 +12,8 @@ use Rattle.laws.specs.Choice.{pick}
 use Rattle.laws.specs.Xor.{xorL}
 use Rattle.laws.proofs.XorLaws.{xorL-assoc, xorL-swap, xorL-twice, xorL-zeros, zero-xorL, length-xorL}
 use Rattle.laws.proofs.SearchLaws.{drop-next}
-use Rattle.parity.specs.Stripes.{cellAt, xorOver}
-use Rattle.parity.proofs.OverLaws.{over-bytes}
+use Rattle.liberation_stripes.specs.Stripes.{cellAt, xorOver}
+use Rattle.liberation_stripes.proofs.OverLaws.{over-bytes}
 use Rattle.xor.specs.Parts.{xorOffsets}
 use Rattle.offsets.specs.Offsets.{scaled}
 use Rattle.offsets.proofs.OffsetLaws.{over-offsets}

@@ -16,7 +16,7 @@ use Rattle.laws.proofs.MemberLaws.{in-head, in-tail}
 use Rattle.laws.proofs.Modulo.{lt-or-le}
 use Rattle.liberation.specs.Sets.{place, diskAt, rowFrom, diagonalFrom, survivingIn}
 use Rattle.liberation.proofs.SetLaws.{disk-place, in-surviving}
-use Rattle.parity.specs.Stripes.{without}
+use Rattle.liberation_stripes.specs.Stripes.{without}
 use Rattle.offsets.specs.Offsets.{cellsFrom}
 use Rattle.offsets.proofs.PushLaws.{Walk}
 

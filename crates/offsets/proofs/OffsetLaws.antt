@@ -8,8 +8,8 @@ use lib.ListN.{length, getD}
 use Rattle.laws.specs.Lists.{allBelow}
 use Rattle.laws.specs.Xor.{xorL}
 use Rattle.laws.proofs.ListLaws.{below-at}
-use Rattle.parity.specs.Stripes.{cellAt, xorOver}
-use Rattle.parity.proofs.CellLaws.{cell-fits}
+use Rattle.liberation_stripes.specs.Stripes.{cellAt, xorOver}
+use Rattle.liberation_stripes.proofs.CellLaws.{cell-fits}
 use Rattle.xor.specs.Parts.{xorOffsets}
 use Rattle.xor.specs.Reach.{Reached}
 use Rattle.offsets.specs.Offsets.{scaled}

@@ -19,7 +19,7 @@ use Rattle.liberation.proofs.RecordLaws.{length-form, form-steps, recorded-from
 use Rattle.refusals.proofs.AnswerLaws.{answers-none}
 use Rattle.planner.specs.declared.Plan.{Plan}
 use Rattle.planner.specs.Says.{PlanSays, plannedSteps}
-use Rattle.planner.proofs.PlanLaws.{held-as, planned-is}
+use Rattle.planner.proofs.PlanAnswers.{held-as, planned-is}
 
 -- the p steps of a plan's record, and the same in the judge's form
 abbrev pub stepsHeld : ℕ → Plan → List Step

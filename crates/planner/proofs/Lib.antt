@@ -1,6 +1,6 @@
 pub mod RouteLaws
-pub mod StepLaws
-pub mod ReadingLaws
-pub mod PlanLaws
+pub mod StepRecord
+pub mod MarkingLoop
+pub mod PlanAnswers
 pub mod FormLaws
 pub mod MeansLaws

@@ -11,8 +11,8 @@ use borrow.Author.Tests.{eqb-true, eq-eqb, leb-false, lt-leb, not-false}
 use Rattle.laws.specs.Choice.{pick, when, firstOf}
 use Rattle.laws.proofs.Flags.{and-l, and-r, and-i, or-false-l, or-false-r, flag}
 use Rattle.laws.proofs.ChoiceLaws.{first-none, when-none}
-use Rattle.parity.specs.Stripes.{stripeLong}
-use Rattle.rebuild.specs.Says.{oneFault}
+use Rattle.liberation_stripes.specs.Stripes.{stripeLong}
+use Rattle.rebuild_one.specs.Says.{oneFault}
 use Rattle.runs.specs.declared.Run.{Run}
 use Rattle.runs.specs.Runs.{opened, isOver, cellsSoFar, runFault, nextFault, stepFault, moved, runColumn}
 use Rattle.runs.specs.Claims.{Call, isAccepted, steps, acceptedIn, written, inOrder, allLong, rebuiltEach, Runs-right, Runs-go}

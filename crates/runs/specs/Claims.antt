@@ -8,7 +8,7 @@ use lib.ListN.{length}
 use Rattle.laws.specs.Choice.{pick}
 use Rattle.liberation.specs.Sets.{numbersFault}
 use Rattle.liberation.specs.Plans.{planOf, readCount}
-use Rattle.parity.specs.Stripes.{stripeLong, rebuilt}
+use Rattle.liberation_stripes.specs.Stripes.{stripeLong, rebuilt}
 use Rattle.refusals.specs.declared.Answer.{Answer}
 use Rattle.runs.specs.declared.Run.{Run}
 use Rattle.runs.specs.declared.RunAnswer.{RunAnswer}

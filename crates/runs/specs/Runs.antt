@@ -9,10 +9,10 @@ use Rattle.laws.specs.Choice.{pick, when, firstOf}
 use Rattle.laws.specs.Xor.{allBytes}
 use Rattle.liberation.specs.Sets.{numbersFault}
 use Rattle.liberation.specs.Plans.{planOf, readCount}
-use Rattle.parity.specs.Stripes.{rebuilt}
+use Rattle.liberation_stripes.specs.Stripes.{rebuilt}
 use Rattle.refusals.specs.declared.Answer.{Answer}
 use Rattle.refusals.specs.Answers.{Answers}
-use Rattle.rebuild.specs.Says.{lengthsFault}
+use Rattle.rebuild_one.specs.Says.{lengthsFault}
 use Rattle.runs.specs.declared.Run.{Run}
 use Rattle.runs.specs.declared.RunAnswer.{RunAnswer}
 use Rattle.runs.specs.declared.Progress.{Progress}

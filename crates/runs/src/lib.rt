@@ -61,7 +61,7 @@ pub fn open_run(width: usize, size: usize, disk: usize, stripes: u32) -> RunAnsw
 fn step_fault(run: Run, which: u64, stripe: usize, column: usize) -> u8
     ensures { λ r. ⌜ r ≡ stepLengthsFault run which stripe column ⌝ }
 {
-    let fault = rebuild::one_fault(run.width, run.size, run.disk, stripe, column);
+    let fault = rebuild_one::one_fault(run.width, run.size, run.disk, stripe, column);
     if fault != 0 {
         return fault;
     }
@@ -85,7 +85,7 @@ pub fn stepped(run: Run, which: u64, stripe: &[u8], column: &mut [u8]) -> RunAns
             run: run,
         };
     }
-    let answer = rebuild::rebuild_one(run.width, run.size, run.disk, stripe, column);
+    let answer = rebuild_one::rebuild_one(run.width, run.size, run.disk, stripe, column);
     let mut moved = run;
     moved.next = run.next + 1;
     RunAnswer {

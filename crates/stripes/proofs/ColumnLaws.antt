@@ -17,9 +17,9 @@ use Rattle.laws.proofs.Modulo.{lt-or-le}
 use Rattle.liberation.specs.Sets.{place, diskAt, rowAt, rowFrom, rowSet, survivingIn}
 use Rattle.liberation.specs.Plans.{allOf}
 use Rattle.liberation.proofs.SetLaws.{place-of, in-row, in-surviving, set-below}
-use Rattle.parity.specs.Stripes.{cellAt, withCell, xorOver, without, followed, columnOf, withColumn, setClean, stripeLong}
-use Rattle.parity.proofs.CellLaws.{cell-fits, cell-long, cells-equal, cell-with, cell-other, length-with, column-same, cell-off, column-put}
-use Rattle.parity.proofs.OverLaws.{over-ext}
+use Rattle.liberation_stripes.specs.Stripes.{cellAt, withCell, xorOver, without, followed, columnOf, withColumn, setClean, stripeLong}
+use Rattle.liberation_stripes.proofs.CellLaws.{cell-fits, cell-long, cells-equal, cell-with, cell-other, length-with, column-same, cell-off, column-put}
+use Rattle.liberation_stripes.proofs.OverLaws.{over-ext}
 use Rattle.xor.specs.Parts.{withPart, xorOffsets}
 use Rattle.xor.specs.Reach.{Reached}
 use Rattle.xor.proofs.BlockLaws.{offsets-long}

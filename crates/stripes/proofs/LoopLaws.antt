@@ -12,7 +12,7 @@ use Rattle.laws.proofs.Flags.{and-i, flag, clash}
 use Rattle.laws.proofs.AllLaws.{all-at}
 use Rattle.liberation.specs.Sets.{place, setOf}
 use Rattle.liberation.specs.Plans.{allOf}
-use Rattle.parity.specs.Stripes.{solved, followed}
+use Rattle.liberation_stripes.specs.Stripes.{solved, followed}
 
 module _ (p k s f t : ℕ) where
   -- the steps from j on, done to a stripe

@@ -19,9 +19,9 @@ use Rattle.liberation.specs.Sets.{place, diskAt, rowAt, rowFrom, diagonalFrom, 
 use Rattle.liberation.proofs.SetLaws.{disk-place, place-of, in-row, in-ordinary, in-ordinary-data, place-below, set-below}
 use Rattle.liberation.proofs.DistinctLaws.{extra-apart}
 use Rattle.liberation.proofs.PlaceLaws.{disk-below}
-use Rattle.parity.specs.Stripes.{without, solved, setClean, stripeLong}
-use Rattle.parity.proofs.CellLaws.{cell-fits}
-use Rattle.parity.proofs.OverLaws.{in-without}
+use Rattle.liberation_stripes.specs.Stripes.{without, solved, setClean, stripeLong}
+use Rattle.liberation_stripes.proofs.CellLaws.{cell-fits}
+use Rattle.liberation_stripes.proofs.OverLaws.{in-without}
 use Rattle.xor.specs.Parts.{withPart, xorOffsets}
 use Rattle.xor.specs.Reach.{Reached}
 use Rattle.xor_within.specs.Beside.{Beside}

@@ -8,7 +8,7 @@ use lib.ListN.{length}
 use Rattle.laws.specs.Choice.{pick}
 use Rattle.laws.specs.Lists.{isIn}
 use Rattle.liberation.specs.Sets.{place, rowSet, ordinary, hasExtra, extraOf, survivingIn}
-use Rattle.parity.specs.Stripes.{stripeLong}
+use Rattle.liberation_stripes.specs.Stripes.{stripeLong}
 
 -- the cells on neither of the disks x and y
 abbrev pub survivors : ℕ → ℕ → ℕ → List ℕ → List ℕ

@@ -7,7 +7,7 @@ use lib.Dec.{eqb}
 use Rattle.laws.specs.Choice.{pick, firstOf}
 use Rattle.laws.specs.Xor.{allBytes}
 use Rattle.liberation.specs.Sets.{widthFault, sizeFault, longFault}
-use Rattle.parity.specs.Stripes.{stripeLong, encoded, clean}
+use Rattle.liberation_stripes.specs.Stripes.{stripeLong, encoded, clean}
 use Rattle.refusals.specs.declared.Answer.{Answer}
 use Rattle.refusals.specs.Answers.{Answers}
 use Rattle.stripes.specs.declared.Checked.{Checked}

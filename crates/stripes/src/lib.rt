@@ -10,7 +10,7 @@ ghost use Rattle.laws.specs.Sums.{allTo};
 ghost use Rattle.liberation.specs.Sets.{place, setOf, widthFault, sizeFault};
 ghost use Rattle.liberation.specs.Plans.{allOf};
 ghost use Rattle.sets.specs.Limits.{Within};
-ghost use Rattle.parity.specs.Stripes.{solved, followed, setClean, clean, stripeLong};
+ghost use Rattle.liberation_stripes.specs.Stripes.{solved, followed, setClean, clean, stripeLong};
 ghost use Rattle.offsets.specs.Offsets.{scaled, cellsFrom, Pushed};
 ghost use Rattle.stripes.specs.Cells.{survivors, ordinaryOf, parityDisk, extraIn, Listing, Sized, Ordinary};
 ghost use Rattle.stripes.specs.Says.{EncodeSays, CheckSays};

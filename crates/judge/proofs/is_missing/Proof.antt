@@ -4,7 +4,7 @@ use Prim.Native.Nat.{_%_, _<_}
 use native.Mathlib.Nat.{mod-lt}
 use native.Mathlib.Omega.{arith}
 use borrow.Author.Needs.{needs}
-use Rattle.judge.proofs.StepLaws.{there-elsewhere, there-itself, there-other, byte-none}
+use Rattle.judge.proofs.StepRefusals.{there-elsewhere, there-itself, there-other, byte-none}
 use Rattle.judge.proofs.is_missing.Statement.{statement}
 use Rattle.judge.proofs.is_missing.Tie as tie
 

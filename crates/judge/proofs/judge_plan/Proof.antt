@@ -13,7 +13,7 @@ use Rattle.liberation.proofs.FaultLaws.{plan-of, long-of}
 use Rattle.liberation.proofs.MarkLists.{length-marks, take-marks, cells-most}
 use Rattle.judge.specs.Limits.{InArray}
 use Rattle.judge.specs.Says.{formFault}
-use Rattle.judge.proofs.FormLaws.{form-refused, steps-decide}
+use Rattle.judge.proofs.FormRefusals.{form-refused, steps-decide}
 use Rattle.judge.proofs.judge_plan.Statement.{statement}
 use Rattle.judge.proofs.judge_plan.Tie as tie
 

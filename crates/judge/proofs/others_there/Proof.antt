@@ -7,7 +7,7 @@ use lib.ListN.{length, drop}
 use borrow.Author.Needs.{needs}
 use Rattle.liberation.specs.Sets.{setOf}
 use Rattle.liberation.specs.Plans.{marksFrom}
-use Rattle.judge.proofs.StepLaws.{there, there-turn, there-stop, there-end}
+use Rattle.judge.proofs.StepRefusals.{there, there-turn, there-stop, there-end}
 use Rattle.judge.proofs.others_there.Statement.{statement}
 use Rattle.judge.proofs.others_there.Tie as tie
 

@@ -4,7 +4,7 @@ use Prim.Native.Nat.{ℕ, _+_, _-_, _≤_}
 use native.Mathlib.Omega.{arith}
 use lib.ListN.{replicate}
 use Rattle.liberation.specs.Plans.{step, allOf}
-use Rattle.planner.proofs.StepLaws.{Collected, collect-start, collect-push, collect-skip, collect-end, all-some, all-last}
+use Rattle.planner.proofs.StepRecord.{Collected, collect-start, collect-push, collect-skip, collect-end, all-some, all-last}
 use borrow.Author.Needs.{needs}
 use Rattle.planner.proofs.all_steps.Statement.{statement}
 use Rattle.planner.proofs.all_steps.Tie as tie

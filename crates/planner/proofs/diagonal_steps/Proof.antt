@@ -8,7 +8,7 @@ use native.Mathlib.Omega.{arith}
 use lib.ListN.{length, take, drop, length-append}
 use lib.Seq.{length-take-le, getD-take}
 use Rattle.liberation.specs.Plans.{step, diagonalOf, rowSteps, diagonalSteps}
-use Rattle.planner.proofs.StepLaws.{Collected, collect-push, collect-skip, collect-end, collect-room, diagonal-some, diagonal-none, diagonal-last, length-rows}
+use Rattle.planner.proofs.StepRecord.{Collected, collect-push, collect-skip, collect-end, collect-room, diagonal-some, diagonal-none, diagonal-last, length-rows}
 use borrow.Author.Needs.{needs}
 use Rattle.planner.proofs.diagonal_steps.Statement.{statement}
 use Rattle.planner.proofs.diagonal_steps.Tie as tie

@@ -8,7 +8,7 @@ use lib.Seq.{length-take-le}
 use Rattle.liberation.proofs.MarkLists.{length-marks, take-marks, cells-most}
 use Rattle.liberation.proofs.Widths.{width-most}
 use Rattle.liberation.proofs.FaultLaws.{plan-none}
-use Rattle.planner.proofs.PlanLaws.{plan-says}
+use Rattle.planner.proofs.PlanAnswers.{plan-says}
 use borrow.Author.Needs.{needs}
 use Rattle.planner.proofs.finished.Statement.{statement}
 use Rattle.planner.proofs.finished.Tie as tie

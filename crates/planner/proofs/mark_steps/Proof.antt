@@ -8,7 +8,7 @@ use lib.ListN.{length, getD}
 use Rattle.liberation.proofs.MarkLists.{length-marks}
 use Rattle.liberation.specs.Plans.{planOf}
 use Rattle.liberation.proofs.Widths.{width-most}
-use Rattle.planner.proofs.ReadingLaws.{Reading, reading-start, reading-turn, reading-end}
+use Rattle.planner.proofs.MarkingLoop.{Reading, reading-start, reading-turn, reading-end}
 use Rattle.liberation.proofs.RecordLaws.{StepAt, step-at, plan-length, plan-number}
 use borrow.Author.Needs.{needs}
 use Rattle.planner.proofs.mark_steps.Statement.{statement}

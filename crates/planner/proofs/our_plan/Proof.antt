@@ -3,7 +3,7 @@ use mathlib.Core.Path.{sym, _∙_}
 use native.Mathlib.Omega.{arith}
 use borrow.Author.Needs.{needs}
 use Rattle.liberation.proofs.Widths.{width-most}
-use Rattle.planner.proofs.PlanLaws.{data-steps-are, data-word, parity-steps, row-parity-word, diagonal-parity-word, our-plan-is}
+use Rattle.planner.proofs.PlanAnswers.{data-steps-are, data-word, parity-steps, row-parity-word, diagonal-parity-word, our-plan-is}
 use Rattle.planner.proofs.our_plan.Statement.{statement}
 use Rattle.planner.proofs.our_plan.Tie as tie
 

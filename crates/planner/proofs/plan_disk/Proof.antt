@@ -3,7 +3,7 @@ use mathlib.Core.Path.{_≡_, refl, sym, _∙_}
 use borrow.Author.Needs.{needs}
 use Rattle.liberation.specs.Sets.{planFault}
 use Rattle.liberation.proofs.FaultLaws.{plan-of}
-use Rattle.planner.proofs.PlanLaws.{plan-refused}
+use Rattle.planner.proofs.PlanAnswers.{plan-refused}
 use Rattle.planner.proofs.plan_disk.Statement.{statement}
 use Rattle.planner.proofs.plan_disk.Tie as tie
 

@@ -3,7 +3,7 @@ use mathlib.Core.Path.{_≡_, sym, _∙_}
 use borrow.Author.Needs.{needs}
 use Rattle.liberation.specs.Sets.{planFault}
 use Rattle.liberation.proofs.FaultLaws.{plan-of}
-use Rattle.planner.proofs.PlanLaws.{refusal-says, planned-says}
+use Rattle.planner.proofs.PlanAnswers.{refusal-says, planned-says}
 use Rattle.planner.proofs.plan_steps.Statement.{statement}
 use Rattle.planner.proofs.plan_steps.Tie as tie
 

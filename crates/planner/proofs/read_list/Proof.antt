@@ -8,7 +8,7 @@ use Rattle.liberation.specs.Sets.{isWidth, planFault}
 use Rattle.liberation.proofs.Widths.{width-most}
 use Rattle.liberation.proofs.FaultLaws.{plan-of}
 use Rattle.liberation.proofs.MarkLists.{no-cells, cells-most}
-use Rattle.planner.proofs.PlanLaws.{list-refused, list-first, list-long, list-says}
+use Rattle.planner.proofs.PlanAnswers.{list-refused, list-first, list-long, list-says}
 use borrow.Author.Needs.{needs}
 use Rattle.planner.proofs.read_list.Statement.{statement}
 use Rattle.planner.proofs.read_list.Tie as tie

@@ -7,7 +7,7 @@ use native.Mathlib.Omega.{arith}
 use lib.ListN.{length, getD, take, drop, set, replicate}
 use lib.Seq.{length-take-le, getD-take}
 use Rattle.liberation.specs.Plans.{step, rowSteps}
-use Rattle.planner.proofs.StepLaws.{Collected, collect-start, collect-push, collect-skip, collect-end, collect-room, zero-again, row-some, row-none, row-last, length-rows}
+use Rattle.planner.proofs.StepRecord.{Collected, collect-start, collect-push, collect-skip, collect-end, collect-room, zero-again, row-some, row-none, row-last, length-rows}
 use borrow.Author.Needs.{needs}
 use Rattle.planner.proofs.row_steps.Statement.{statement}
 use Rattle.planner.proofs.row_steps.Tie as tie

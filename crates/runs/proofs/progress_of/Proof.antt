@@ -4,7 +4,7 @@ use Prim.Native.Nat.{ℕ, _*_, _^_, _<_}
 use native.Mathlib.Omega.{arith}
 use borrow.Author.Needs.{needs}
 use Rattle.runs.specs.Runs.{runFault}
-use Rattle.runs.proofs.SaysLaws.{progress-refused, reads-are, progress-done, product-fits}
+use Rattle.runs.proofs.RunRefusals.{progress-refused, reads-are, progress-done, product-fits}
 use Rattle.runs.proofs.progress_of.Statement.{statement}
 use Rattle.runs.proofs.progress_of.Tie as tie
 

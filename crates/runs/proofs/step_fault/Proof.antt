@@ -4,9 +4,9 @@ use mathlib.Core.Bool.{true, false}
 use borrow.Author.Tests.{eq-eqb, ne-eqb, le-leb, lt-leb}
 use borrow.Author.Needs.{needs}
 use Rattle.laws.proofs.ChoiceLaws.{first-kept}
-use Rattle.rebuild.specs.Says.{lengthsFault}
+use Rattle.rebuild_one.specs.Says.{lengthsFault}
 use Rattle.runs.specs.Runs.{nextFault}
-use Rattle.runs.proofs.SaysLaws.{fault-is}
+use Rattle.runs.proofs.RunRefusals.{fault-is}
 use Rattle.runs.proofs.step_fault.Statement.{statement}
 use Rattle.runs.proofs.step_fault.Tie as tie
 

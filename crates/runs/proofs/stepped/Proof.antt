@@ -4,7 +4,7 @@ use native.Mathlib.Omega.{arith}
 use borrow.Author.Needs.{needs}
 use Rattle.xor.proofs.SourceLaws.{bytes-all}
 use Rattle.runs.specs.Runs.{stepFault}
-use Rattle.runs.proofs.SaysLaws.{not-over, step-refused, step-done}
+use Rattle.runs.proofs.RunRefusals.{not-over, step-refused, step-done}
 use Rattle.runs.proofs.stepped.Statement.{statement}
 use Rattle.runs.proofs.stepped.Tie as tie
 

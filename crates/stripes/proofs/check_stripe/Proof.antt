@@ -3,7 +3,7 @@ use mathlib.Core.Path.{_≡_, sym, _∙_}
 use borrow.Author.Needs.{needs}
 use Rattle.stripes.specs.Cells.{Sized}
 use Rattle.stripes.specs.Says.{stripeFault}
-use Rattle.stripes.proofs.FaultLaws.{fault-none, fault-some, check-refused, check-done}
+use Rattle.stripes.proofs.StripeRefusals.{fault-none, fault-some, check-refused, check-done}
 use Rattle.stripes.proofs.check_stripe.Statement.{statement}
 use Rattle.stripes.proofs.check_stripe.Tie as tie
 

@@ -6,7 +6,7 @@ use native.Mathlib.Omega.{arith}
 use lib.ListN.{length}
 use borrow.Author.Needs.{needs}
 use Rattle.laws.specs.Sums.{allTo}
-use Rattle.parity.specs.Stripes.{setClean}
+use Rattle.liberation_stripes.specs.Stripes.{setClean}
 use Rattle.stripes.proofs.LoopLaws.{all-start, all-more, all-fails, all-seen}
 use Rattle.stripes.proofs.diagonals_are_clean.Statement.{statement}
 use Rattle.stripes.proofs.diagonals_are_clean.Tie as tie

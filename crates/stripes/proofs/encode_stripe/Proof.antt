@@ -8,7 +8,7 @@ use Rattle.laws.specs.Xor.{allBytes}
 use Rattle.xor.proofs.SourceLaws.{bytes-all}
 use Rattle.stripes.specs.Cells.{Sized}
 use Rattle.stripes.specs.Says.{stripeFault}
-use Rattle.stripes.proofs.FaultLaws.{fault-none, fault-some, encode-refused, encode-done}
+use Rattle.stripes.proofs.StripeRefusals.{fault-none, fault-some, encode-refused, encode-done}
 use Rattle.stripes.proofs.encode_stripe.Statement.{statement}
 use Rattle.stripes.proofs.encode_stripe.Tie as tie
 

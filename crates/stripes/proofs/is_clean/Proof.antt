@@ -2,7 +2,7 @@
 use mathlib.Core.Path.{_≡_}
 use borrow.Author.Tests.{not-true, not-false}
 use borrow.Author.Needs.{needs}
-use Rattle.stripes.proofs.FaultLaws.{clean-rows, clean-both}
+use Rattle.stripes.proofs.StripeRefusals.{clean-rows, clean-both}
 use Rattle.stripes.proofs.is_clean.Statement.{statement}
 use Rattle.stripes.proofs.is_clean.Tie as tie
 

@@ -6,7 +6,7 @@ use lib.ListN.{length, take}
 use lib.Seq.{length-take-le}
 use borrow.Author.Needs.{needs}
 use Rattle.xor.specs.Reach.{Reached}
-use Rattle.parity.proofs.CellLaws.{cell-fits}
+use Rattle.liberation_stripes.proofs.CellLaws.{cell-fits}
 use Rattle.stripes.proofs.ColumnLaws.{columns-reached, first-row, rows-clean}
 use Rattle.stripes.proofs.rows_are_clean.Statement.{statement}
 use Rattle.stripes.proofs.rows_are_clean.Tie as tie

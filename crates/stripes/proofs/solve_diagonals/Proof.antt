@@ -5,7 +5,7 @@ use native.Mathlib.Omega.{arith}
 use lib.ListN.{length}
 use borrow.Author.Needs.{needs}
 use Rattle.liberation.specs.Plans.{allOf}
-use Rattle.parity.specs.Stripes.{followed}
+use Rattle.liberation_stripes.specs.Stripes.{followed}
 use Rattle.stripes.proofs.LoopLaws.{rest, rest-first, rest-turn, rest-last}
 use Rattle.stripes.proofs.SetLists.{parity-own}
 use Rattle.stripes.proofs.solve_diagonals.Statement.{statement}

@@ -6,7 +6,7 @@ use native.Mathlib.Omega.{arith}
 use borrow.Author.Needs.{needs}
 use borrow.Author.Tests.{eq-eqb, ne-eqb}
 use Rattle.liberation.specs.Sets.{numbersFault}
-use Rattle.stripes.proofs.FaultLaws.{fault-is, fault-first, numbers-most}
+use Rattle.stripes.proofs.StripeRefusals.{fault-is, fault-first, numbers-most}
 use Rattle.stripes.proofs.stripe_fault.Statement.{statement}
 use Rattle.stripes.proofs.stripe_fault.Tie as tie
 

@@ -1,0 +1,217 @@
+-- The steps of a plan in order. After i steps without a refusal, the rows rebuilt and the cells read so far, with the steps still to come, give the answer of the whole plan.
+use mathlib.Core.Path.{_≡_, refl, sym, ap, ap₂, _∙_}
+use mathlib.Core.Bool.{Bool, true, false, _||_}
+use mathlib.Core.Logic.{⊎-elim}
+use mathlib.Core.List.{List, [], _∷_}
+use Prim.Native.Nat.{ℕ, suc, _+_, _-_, _*_, _≤_, _<_}
+use native.Mathlib.Numerals.{add-one}
+use native.Mathlib.Omega.{arith}
+use lib.Dec.{eqb, leb, ltb}
+use lib.ListN.{length, getD, set, drop}
+use lib.Seq.{getD-drop, drop-drop}
+use borrow.Author.Tests.{eq-eqb, ne-eqb, leb-false}
+use Rattle.laws.specs.Choice.{pick}
+use Rattle.laws.specs.Lists.{added, allBelow}
+use Rattle.laws.proofs.Flags.{flag, or-false-l, or-false-r}
+use Rattle.liberation.specs.Sets.{diskAt, setOf, survivingIn}
+use Rattle.liberation.specs.Plans.{Step, step, readFrom, cellsRead, readCount, marksFrom}
+use Rattle.liberation.specs.Judging.{Judged, judged, judge, judgeFrom, stepFault, stepsIn}
+use Rattle.liberation.proofs.SetLaws.{survivors-below}
+use Rattle.sets.specs.Marks.{Marked, markAll, freshIn}
+use Rattle.sets.proofs.MarkLaws.{marks-added, fresh-added, fresh-le}
+use Rattle.liberation.proofs.MarkLists.{length-marks, mark-set}
+use Rattle.liberation.proofs.SetSizes.{size-most}
+use Rattle.refusals.specs.declared.Answer.{Answer}
+use Rattle.refusals.specs.Answers.{Answers}
+use Rattle.judge.specs.Says.{StepsSay}
+use Rattle.judge.proofs.StepRefusals.{outOfForm, fault-is}
+
+-- a step that is not refused is in form
+pub record InForm (p : ℕ) (s : Step) : Type 0 where
+  pub row : s .row < p
+  pub number : s .number < p
+
+pub no-fault : (p k f : ℕ) (ds : List ℕ) (s : Step) → stepFault p k f ds s ≡ 0 → InForm p s
+no-fault p k f ds s e = ⊎-elim (λ t. absurd (six t)) form (flag (outOfForm p s))
+  where
+    six : outOfForm p s ≡ true → ⊥
+    six t = omega (arith, e, fault-is p k f ds s true _ _ _ t refl refl refl)
+
+    form : outOfForm p s ≡ false → InForm p s
+    form t =
+        let rest : (leb p (s .number) || ltb 1 (s .kind)) ≡ false = or-false-r (leb p (s .row)) (leb p (s .number) || ltb 1 (s .kind)) t in
+        record {
+          row = leb-false p (s .row) (or-false-l (leb p (s .row)) (leb p (s .number) || ltb 1 (s .kind)) t);
+          number = leb-false p (s .number) (or-false-l (leb p (s .number)) (ltb 1 (s .kind)) rest);
+        }
+
+-- one step judged: the next one's turn, or the answer
+judge-next : (i p k f : ℕ) (ds : List ℕ) (s : Step) (ss : List Step) → stepFault p k f ds s ≡ 0 → judgeFrom i p k f ds (s ∷ ss) ≡ judgeFrom (suc i) p k f (s .row ∷ ds) ss
+unfolding judgeFrom
+judge-next i p k f ds s ss e = rw (eq-eqb (stepFault p k f ds s) 0 e, judgeFrom)
+
+judge-stop : (i p k f : ℕ) (ds : List ℕ) (s : Step) (ss : List Step) → (stepFault p k f ds s ≡ 0 → ⊥) → judgeFrom i p k f ds (s ∷ ss) ≡ judged (stepFault p k f ds s) i
+unfolding judgeFrom
+judge-stop i p k f ds s ss n = rw (ne-eqb (stepFault p k f ds s) 0 n, judgeFrom)
+
+-- the steps from step i on
+abbrev pub stepsFrom : ℕ → ℕ → List ℕ → List Step
+stepsFrom p i bs = stepsIn (p - i) (drop (3 * i) bs)
+
+-- the three bytes of step i
+pub record BytesOf (bs : List ℕ) (i : ℕ) (s : Step) : Type 0 where
+  pub row : s .row ≡ getD bs (3 * i) 0
+  pub kind : s .kind ≡ getD bs (3 * i + 1) 0
+  pub number : s .number ≡ getD bs (3 * i + 2) 0
+
+steps-next : (p i : ℕ) (s : Step) (bs : List ℕ) → i < p → BytesOf bs i s → stepsFrom p i bs ≡ s ∷ stepsFrom p (i + 1) bs
+unfolding stepsIn
+steps-next p i s bs h b = ap (λ (n : ℕ). stepsIn n (drop (3 * i) bs)) more ∙ ap₂ (λ (t : Step) (l : List ℕ). t ∷ stepsIn (p - (i + 1)) l) (sym here) rest
+  where
+    more : p - i ≡ suc (p - (i + 1))
+    more = omega arith
+
+    at : (k : ℕ) → getD (drop (3 * i) bs) k 0 ≡ getD bs (3 * i + k) 0
+    at k = getD-drop (3 * i) bs k 0
+
+    first : 3 * i ≡ 3 * i + 0
+    first = omega arith
+
+    here : s ≡ step (getD (drop (3 * i) bs) 0 0) (getD (drop (3 * i) bs) 1 0) (getD (drop (3 * i) bs) 2 0)
+    here = λ j. step ((b .row ∙ ap (λ (n : ℕ). getD bs n 0) first ∙ sym (at 0)) j) ((b .kind ∙ sym (at 1)) j) ((b .number ∙ sym (at 2)) j)
+
+    after : 3 * i + 3 ≡ 3 * (i + 1)
+    after = omega arith
+
+    rest : drop 3 (drop (3 * i) bs) ≡ drop (3 * (i + 1)) bs
+    rest = drop-drop 3 (3 * i) bs ∙ ap (λ (n : ℕ). drop n bs) after
+
+surviving-le : (p f : ℕ) (xs : List ℕ) → length (survivingIn p f xs) ≤ length xs
+unfolding survivingIn
+surviving-le p f [] = omega arith
+surviving-le p f (x ∷ xs) = go (eqb (diskAt p x) f) (surviving-le p f xs)
+  where
+    go : (b : Bool) → length (survivingIn p f xs) ≤ length xs → length (pick b (survivingIn p f xs) (x ∷ survivingIn p f xs)) ≤ suc (length xs)
+    go true h = omega arith
+    go false h = omega arith
+
+-- The loop's state before step i: `d` has a byte a row rebuilt, `m` a byte a cell read.
+pub record Halfway (p f : ℕ) (bs d m : List ℕ) (reads i : ℕ) : Type 0 where
+  pub within : i ≤ p
+  pub rows : List ℕ
+  pub cells : List ℕ
+  pub done : d ≡ marksFrom 31 0 rows
+  pub marks : m ≡ marksFrom (p * (p + 2)) 0 cells
+  pub count : reads ≡ length cells
+  pub few : reads ≤ 33 * i
+  pub verdict : judgeFrom i p p f rows (stepsFrom p i bs) ≡ judge p p f (stepsIn p bs)
+  pub read : readFrom p p f (stepsFrom p i bs) cells ≡ cellsRead p p f (stepsIn p bs)
+
+-- what `step_fault` says of the step
+abbrev pub FaultIs : ℕ → ℕ → List ℕ → Step → ℕ → Type 0
+FaultIs p f d s fault = (ds : List ℕ) → d ≡ marksFrom 31 0 ds → fault ≡ stepFault p p f ds s
+
+pub halfway-start : (p f : ℕ) (bs d m : List ℕ) → d ≡ marksFrom 31 0 [] → m ≡ marksFrom (p * (p + 2)) 0 [] → Halfway p f bs d m 0 0
+halfway-start p f bs d m e q =
+    record {
+      within = omega arith;
+      rows = [];
+      cells = [];
+      done = e;
+      marks = q;
+      count = refl;
+      few = omega arith;
+      verdict = ap (judgeFrom 0 p p f []) whole;
+      read = ap (λ (ss : List Step). readFrom p p f ss []) whole;
+    }
+  where
+    all : p - 0 ≡ p
+    all = omega arith
+
+    none : 3 * 0 ≡ 0
+    none = omega arith
+
+    whole : stepsFrom p 0 bs ≡ stepsIn p bs
+    whole = ap₂ (λ (n k : ℕ). stepsIn n (drop k bs)) all none
+
+-- the marks are as long as at the start
+pub halfway-long : (p f : ℕ) (bs d m m₀ ys : List ℕ) (reads i : ℕ) → Halfway p f bs d m reads i → m₀ ≡ marksFrom (p * (p + 2)) 0 ys → length m ≡ length m₀
+halfway-long p f bs d m m₀ ys reads i k e = ap length (k .marks) ∙ length-marks (p * (p + 2)) 0 (k .cells) ∙ sym (ap length e ∙ length-marks (p * (p + 2)) 0 ys)
+
+-- a step that is not refused
+pub halfway-form : (p f : ℕ) (bs d m : List ℕ) (s : Step) (reads i fault : ℕ) → Halfway p f bs d m reads i → FaultIs p f d s fault → fault ≡ 0 → InForm p s
+halfway-form p f bs d m s reads i fault k q z = no-fault p p f (k .rows) s (sym (q (k .rows) (k .done)) ∙ z)
+
+pub halfway-turn : (p f : ℕ) (bs d m m′ : List ℕ) (s : Step) (reads i fault fresh : ℕ) → p ≤ 31 → i < p → BytesOf bs i s → FaultIs p f d s fault → fault ≡ 0 → Halfway p f bs d m reads i → Marked m m′ (survivingIn p f (setOf p p (s .kind) (s .number))) fresh → Halfway p f bs (set d (s .row) 1) m′ (reads + fresh) (i + 1)
+unfolding readFrom
+halfway-turn p f bs d m m′ s reads i fault fresh w h b q z k r =
+    record {
+      within = omega arith;
+      rows = s .row ∷ k .rows;
+      cells = added xs (k .cells);
+      done = ap (λ (l : List ℕ). set l (s .row) 1) (k .done) ∙ mark-set 31 0 (s .row) (k .rows) (omega (arith, form .row)) ∙ ap (λ (n : ℕ). marksFrom 31 0 (n ∷ k .rows)) row;
+      marks = r .marks ∙ ap (λ (l : List ℕ). markAll l xs) (k .marks) ∙ marks-added (p * (p + 2)) xs (k .cells) below;
+      count = omega (arith, r .fresh, ap (λ (l : List ℕ). freshIn l xs) (k .marks), fresh-added (p * (p + 2)) xs (k .cells) below, k .count);
+      few = omega (arith, r .fresh, fresh-le m xs, surviving-le p f (setOf p p (s .kind) (s .number)), size-most p p (s .kind) (s .number), k .few);
+      verdict = ap (λ (n : ℕ). judgeFrom n p p f (s .row ∷ k .rows) (stepsFrom p (i + 1) bs)) (add-one i) ∙ sym (judge-next i p p f (k .rows) s (stepsFrom p (i + 1) bs) none) ∙ sym (ap (judgeFrom i p p f (k .rows)) next) ∙ k .verdict;
+      read = sym (ap (λ (ss : List Step). readFrom p p f ss (k .cells)) next) ∙ k .read;
+    }
+  where
+    none : stepFault p p f (k .rows) s ≡ 0
+    none = sym (q (k .rows) (k .done)) ∙ z
+
+    form : InForm p s
+    form = halfway-form p f bs d m s reads i fault k q z
+
+    row : 0 + s .row ≡ s .row
+    row = omega arith
+
+    xs : List ℕ
+    xs = survivingIn p f (setOf p p (s .kind) (s .number))
+
+    below : allBelow (p * (p + 2)) xs ≡ true
+    below = survivors-below p p f (s .kind) (s .number) (form .number)
+
+    next : stepsFrom p i bs ≡ s ∷ stepsFrom p (i + 1) bs
+    next = steps-next p i s bs h b
+
+-- a step that is refused
+pub halfway-refused : (p f : ℕ) (bs d m : List ℕ) (s : Step) (reads i fault : ℕ) → i < p → BytesOf bs i s → FaultIs p f d s fault → (fault ≡ 0 → ⊥) → Halfway p f bs d m reads i → StepsSay p f bs (record { answer = record { refusal = fault; place = i }; reads = 0 })
+halfway-refused p f bs d m s reads i fault h b q z k =
+    record {
+      refusal = sym (ap (λ (j : Judged). j .number) stop);
+      place = sym (ap (λ (j : Judged). j .place) stop);
+      reads = sym (ap (λ (j : Judged). pick (eqb (j .number) 0) (readCount p p f (stepsIn p bs)) 0) stop ∙ ap (λ (t : Bool). pick t (readCount p p f (stepsIn p bs)) 0) (ne-eqb fault 0 z));
+    }
+  where
+    same : fault ≡ stepFault p p f (k .rows) s
+    same = q (k .rows) (k .done)
+
+    stop : judge p p f (stepsIn p bs) ≡ judged fault i
+    stop =
+        sym (k .verdict)
+        ∙ ap (judgeFrom i p p f (k .rows)) (steps-next p i s bs h b)
+        ∙ judge-stop i p p f (k .rows) s (stepsFrom p (i + 1) bs) (λ e. z (same ∙ e))
+        ∙ ap (λ (n : ℕ). judged n i) (sym same)
+
+-- no step is refused
+pub halfway-end : (p f : ℕ) (bs d m : List ℕ) (reads i : ℕ) → p ≤ i → Halfway p f bs d m reads i → (a : Answer) → Answers 0 a → StepsSay p f bs (record { answer = a; reads = reads })
+unfolding stepsIn judgeFrom readFrom
+halfway-end p f bs d m reads i h k a n =
+    record {
+      refusal = n .refusal ∙ sym (ap (λ (j : Judged). j .number) over);
+      place = n .place ∙ sym (ap (λ (j : Judged). j .place) over);
+      reads = k .count ∙ ap length read ∙ sym (ap (λ (j : Judged). pick (eqb (j .number) 0) (readCount p p f (stepsIn p bs)) 0) over);
+    }
+  where
+    spent : p - i ≡ 0
+    spent = omega arith
+
+    none : stepsFrom p i bs ≡ []
+    none = ap (λ (n : ℕ). stepsIn n (drop (3 * i) bs)) spent
+
+    over : judge p p f (stepsIn p bs) ≡ judged 0 0
+    over = sym (k .verdict) ∙ ap (judgeFrom i p p f (k .rows)) none
+
+    read : k .cells ≡ cellsRead p p f (stepsIn p bs)
+    read = sym (ap (λ (ss : List Step). readFrom p p f ss (k .cells)) none) ∙ k .read

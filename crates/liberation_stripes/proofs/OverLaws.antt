@@ -1,0 +1,98 @@
+-- The XOR over a list of cells: of two lists joined, with one cell taken out, and of a set in its surviving and its lost cells.
+-- XOR is associative and commutative, so the order of the cells does not matter; zeros are its unit on cells of s bytes.
+use mathlib.Core.Path.{_≡_, refl, sym, ap, ap₂, _∙_}
+use mathlib.Core.Bool.{Bool, true, false, _&&_, _||_, not, and-false, false≢true}
+use mathlib.Core.List.{List, [], _∷_, _++_}
+use Prim.Native.Nat.{ℕ}
+use lib.Dec.{eqb}
+use lib.ListN.{length, replicate, length-replicate}
+use borrow.Author.Tests.{eqb-true, eq-eqb, not-true}
+use Rattle.laws.specs.Choice.{pick}
+use Rattle.laws.specs.Lists.{isIn, distinct}
+use Rattle.laws.specs.Xor.{xorL, allBytes}
+use Rattle.laws.proofs.Flags.{and-l, and-r, or-false-l, or-false-r}
+use Rattle.laws.proofs.TestLaws.{eqb-sym}
+use Rattle.laws.proofs.MemberLaws.{in-head, in-tail}
+use Rattle.laws.proofs.XorLaws.{xorL-assoc, xorL-swap, length-xorL, zero-xorL, xorL-bytes, zeros-bytes}
+use Rattle.liberation.specs.Sets.{place, rowAt, diskAt, lostIn, survivingIn}
+use Rattle.liberation.proofs.SetLaws.{place-of}
+use Rattle.liberation_stripes.specs.Stripes.{xorOver, without}
+
+-- every cell of xs has s bytes
+abbrev pub Long : ℕ → (ℕ → List ℕ) → List ℕ → Type 0
+Long s g xs = (x : ℕ) → isIn x xs ≡ true → length (g x) ≡ s
+
+pub over-long : (s : ℕ) (g : ℕ → List ℕ) (xs : List ℕ) → Long s g xs → length (xorOver s g xs) ≡ s
+unfolding xorOver
+over-long s g [] long = length-replicate s 0
+over-long s g (x ∷ xs) long =
+    let here : length (g x) ≡ s = long x (in-head x xs) in
+    length-xorL (g x) (xorOver s g xs) (here ∙ sym (over-long s g xs (λ y h. long y (in-tail y x xs h)))) ∙ here
+
+pub over-bytes : (s : ℕ) (g : ℕ → List ℕ) (xs : List ℕ) → allBytes (xorOver s g xs) ≡ true
+unfolding xorOver
+over-bytes s g [] = zeros-bytes s
+over-bytes s g (x ∷ xs) = xorL-bytes (g x) (xorOver s g xs)
+
+-- it depends on the cells of the list alone
+pub over-ext : (s : ℕ) (g h : ℕ → List ℕ) (xs : List ℕ) → ((x : ℕ) → isIn x xs ≡ true → g x ≡ h x) → xorOver s g xs ≡ xorOver s h xs
+unfolding xorOver
+over-ext s g h [] e = refl
+over-ext s g h (x ∷ xs) e = ap₂ xorL (e x (in-head x xs)) (over-ext s g h xs (λ y t. e y (in-tail y x xs t)))
+
+pub over-append : (s : ℕ) (g : ℕ → List ℕ) (xs ys : List ℕ) → Long s g ys → xorOver s g (xs ++ ys) ≡ xorL (xorOver s g xs) (xorOver s g ys)
+unfolding xorOver
+over-append s g [] ys long = sym (zero-xorL s (xorOver s g ys) (over-long s g ys long) (over-bytes s g ys))
+over-append s g (x ∷ xs) ys long = ap (xorL (g x)) (over-append s g xs ys long) ∙ sym (xorL-assoc (g x) (xorOver s g xs) (xorOver s g ys))
+
+-- the cells of a list but x
+pub in-without : (x y : ℕ) (xs : List ℕ) → isIn y (without x xs) ≡ (isIn y xs && not (eqb y x))
+unfolding without
+in-without x y [] = refl
+in-without x y (z ∷ xs) = go (eqb x z) (eqb y z) refl refl (in-without x y xs)
+  where
+    go : (b c : Bool) → eqb x z ≡ b → eqb y z ≡ c → isIn y (without x xs) ≡ (isIn y xs && not (eqb y x)) → isIn y (pick b (without x xs) (z ∷ without x xs)) ≡ ((c || isIn y xs) && not (eqb y x))
+    go true true e q rest = let w : eqb y x ≡ true = eq-eqb y x (eqb-true y z q ∙ sym (eqb-true x z e)) in rest ∙ ap (λ (t : Bool). isIn y xs && not t) w ∙ and-false (isIn y xs) ∙ sym (ap not w)
+    go true false e q rest = rest
+    go false true e q rest = ap (λ (t : Bool). t || isIn y (without x xs)) q ∙ sym (ap not (ap (λ (n : ℕ). eqb n x) (eqb-true y z q) ∙ eqb-sym z x ∙ e))
+    go false false e q rest = ap (λ (t : Bool). t || isIn y (without x xs)) q ∙ rest
+
+-- a list that lacks x
+without-absent : (x : ℕ) (xs : List ℕ) → isIn x xs ≡ false → without x xs ≡ xs
+unfolding without
+without-absent x [] h = refl
+without-absent x (y ∷ ys) h =
+    ap₂ (λ (b : Bool) (l : List ℕ). pick b l (y ∷ l)) (or-false-l (eqb x y) (isIn x ys) h) (without-absent x ys (or-false-r (eqb x y) (isIn x ys) h))
+
+-- one cell taken out
+pub over-without : (s : ℕ) (g : ℕ → List ℕ) (x : ℕ) (xs : List ℕ) → distinct xs ≡ true → isIn x xs ≡ true → xorOver s g xs ≡ xorL (g x) (xorOver s g (without x xs))
+unfolding xorOver without
+over-without s g x [] d h = absurd (false≢true h)
+over-without s g x (y ∷ ys) d h = go (eqb x y) refl h (λ t. over-without s g x ys (and-r (not (isIn y ys)) (distinct ys) d) t)
+  where
+    out : isIn y ys ≡ false
+    out = not-true (isIn y ys) (and-l (not (isIn y ys)) (distinct ys) d)
+
+    go : (b : Bool) → eqb x y ≡ b → (b || isIn x ys) ≡ true → (isIn x ys ≡ true → xorOver s g ys ≡ xorL (g x) (xorOver s g (without x ys))) → xorL (g y) (xorOver s g ys) ≡ xorL (g x) (xorOver s g (pick b (without x ys) (y ∷ without x ys)))
+    go true e t rest =
+        let q : x ≡ y = eqb-true x y e in
+        sym (ap₂ (λ (n : ℕ) (l : List ℕ). xorL (g n) (xorOver s g l)) q (without-absent x ys (ap (λ (n : ℕ). isIn n ys) q ∙ out)))
+    go false e t rest = ap (xorL (g y)) (rest t) ∙ xorL-swap (g y) (g x) (xorOver s g (without x ys))
+
+-- the cells on other disks than f, and those on f by their rows
+pub over-split : (s p f : ℕ) (g : ℕ → List ℕ) (xs : List ℕ) → xorOver s g xs ≡ xorL (xorOver s g (survivingIn p f xs)) (xorOver s (λ r. g (place p r f)) (lostIn p f xs))
+unfolding xorOver survivingIn lostIn
+over-split s p f g [] = sym (zero-xorL s (replicate s 0) (length-replicate s 0) (zeros-bytes s))
+over-split s p f g (x ∷ xs) = ap (xorL (g x)) (over-split s p f g xs) ∙ go (eqb (diskAt p x) f) refl
+  where
+    alive : List ℕ
+    alive = xorOver s g (survivingIn p f xs)
+
+    lost : List ℕ
+    lost = xorOver s (λ r. g (place p r f)) (lostIn p f xs)
+
+    go : (b : Bool) → eqb (diskAt p x) f ≡ b → xorL (g x) (xorL alive lost) ≡ xorL (xorOver s g (pick b (survivingIn p f xs) (x ∷ survivingIn p f xs))) (xorOver s (λ r. g (place p r f)) (pick b (rowAt p x ∷ lostIn p f xs) (lostIn p f xs)))
+    go true e =
+        let q : x ≡ place p (rowAt p x) f = sym (place-of p x) ∙ ap (place p (rowAt p x)) (eqb-true (diskAt p x) f e) in
+        ap (λ (n : ℕ). xorL (g n) (xorL alive lost)) q ∙ xorL-swap (g (place p (rowAt p x) f)) alive lost
+    go false e = sym (xorL-assoc (g x) alive lost)

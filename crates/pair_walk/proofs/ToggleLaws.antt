@@ -1,0 +1,105 @@
+-- Marks toggled for the surviving cells of sets, set by set and row by row of the start. A lost cell is none of them, so its mark is as it was.
+use mathlib.Core.Path.{_≡_, refl, sym, ap, ap₂, subst, _∙_}
+use mathlib.Core.Bool.{true, false}
+use mathlib.Core.Logic.{⊎-elim}
+use mathlib.Core.List.{List, [], _∷_, _++_}
+use Prim.Native.Nat.{ℕ, zero, suc, _+_, _-_, _*_, _≤_, _<_}
+use native.Mathlib.Omega.{arith}
+use lib.Bits.{bitXor}
+use lib.Dec.{eqb}
+use lib.ListN.{length, getD, take, length-set}
+use lib.Seq.{getD-set-other}
+use borrow.Author.Tests.{eqb-false}
+use Rattle.laws.specs.Lists.{isIn, allBelow}
+use Rattle.laws.proofs.Flags.{or-false-l, or-false-r}
+use Rattle.laws.proofs.ListLaws.{below-at}
+use Rattle.laws.proofs.Modulo.{lt-or-le}
+use Rattle.liberation.specs.Sets.{rowSet, diagonalSet}
+use Rattle.liberation.specs.Plans.{diagonalOf}
+use Rattle.liberation_pairs.specs.Pairs.{nextRow, startSets}
+use Rattle.offsets.specs.Offsets.{scaled, Pushed}
+use Rattle.odd.specs.Toggled.{toggled, toggledAll}
+use Rattle.stripes.specs.Cells.{survivors}
+use Rattle.stripes.proofs.SetLists.{survivors-none, survivors-append, survivors-swap}
+use Rattle.pair_walk.specs.Disks.{Toggling}
+
+toggled-append : (xs ys ms : List ℕ) → toggledAll (xs ++ ys) ms ≡ toggledAll ys (toggledAll xs ms)
+unfolding toggledAll
+toggled-append [] ys ms = refl
+toggled-append (x ∷ xs) ys ms = toggled-append xs ys (toggled x ms)
+
+pub toggled-long : (xs ms : List ℕ) → length (toggledAll xs ms) ≡ length ms
+unfolding toggledAll
+toggled-long [] ms = refl
+toggled-long (x ∷ xs) ms = toggled-long xs (toggled x ms) ∙ length-set ms x (bitXor (getD ms x 0) 1)
+
+-- the mark of a place that is not in the list
+pub toggled-other : (d : ℕ) (xs ms : List ℕ) → isIn d xs ≡ false → getD (toggledAll xs ms) d 0 ≡ getD ms d 0
+unfolding toggledAll
+toggled-other d [] ms h = refl
+toggled-other d (x ∷ xs) ms h = toggled-other d xs (toggled x ms) (or-false-r (eqb d x) (isIn d xs) h) ∙ getD-set-other ms x d (bitXor (getD ms x 0) 1) 0 (eqb-false d x (or-false-l (eqb d x) (isIn d xs) h))
+
+-- cells of one byte
+scaled-one : (xs : List ℕ) → scaled 1 xs ≡ xs
+unfolding scaled
+scaled-one [] = refl
+scaled-one (x ∷ xs) = let e : x * 1 ≡ x = omega arith in ap₂ (λ (y : ℕ) (ys : List ℕ). y ∷ ys) e (scaled-one xs)
+
+-- the two disks in order: l is the smaller one
+module _ (p x y l : ℕ) (e : l ≡ y - (y - x)) where
+  pub in-order : (l ≤ x + y - l) × (l ≤ x) × (l ≤ y)
+  in-order = (omega arith, omega arith, omega arith)
+
+  pub ordered-survivors : (xs : List ℕ) → survivors p l (x + y - l) xs ≡ survivors p x y xs
+  ordered-survivors xs = ⊎-elim low high (lt-or-le x y)
+    where
+      low : x < y → survivors p l (x + y - l) xs ≡ survivors p x y xs
+      low h =
+          let a : l ≡ x = omega arith in
+          let b : x + y - l ≡ y = omega arith in
+          ap₂ (λ (i j : ℕ). survivors p i j xs) a b
+
+      high : y ≤ x → survivors p l (x + y - l) xs ≡ survivors p x y xs
+      high h =
+          let a : l ≡ y = omega arith in
+          let b : x + y - l ≡ x = omega arith in
+          ap₂ (λ (i j : ℕ). survivors p i j xs) a b ∙ survivors-swap p y x xs
+
+-- the places that were pushed for a set
+pub set-places : {old at : List ℕ} {n : ℕ} (p x y l : ℕ) (xs : List ℕ) → l ≡ y - (y - x) → Pushed old at 0 n (scaled 1 (survivors p l (x + y - l) xs)) → take n at ≡ survivors p x y xs
+set-places p x y l xs e u = u .list ∙ scaled-one (survivors p l (x + y - l) xs) ∙ ordered-survivors p x y l e xs
+
+-- they have marks
+pub places-marked : (n : ℕ) (at xs : List ℕ) → at ≡ xs → allBelow n xs ≡ true → (i : ℕ) → i < length at → getD at i 0 < n
+places-marked n at xs e b = subst (λ (l : List ℕ). (i : ℕ) → i < length l → getD l i 0 < n) (sym e) (λ i h. below-at n i xs b h)
+
+-- marks and a list that are as long
+pub still-toggling : {p x y : ℕ} {ms₀ at₀ : List ℕ} (ms at : List ℕ) → Toggling p x y ms₀ at₀ → length ms ≡ length ms₀ → length at ≡ length at₀ → Toggling p x y ms at
+still-toggling ms at q e f = record { widest = q .widest; one = q .one; other = q .other; marks = e ∙ q .marks; room = f ∙ q .room }
+
+-- the loop over the rows of the start
+module _ (p x y : ℕ) where
+  abbrev pub rowsRest : ℕ → ℕ → List ℕ → List ℕ
+  rowsRest n r ms = toggledAll (survivors p x y (startSets n p p x y r)) ms
+
+  -- the surviving cells of xs have made u of ms, and those of ys are still to come
+  then : (xs ys ms u : List ℕ) → u ≡ toggledAll (survivors p x y xs) ms → toggledAll (survivors p x y ys) u ≡ toggledAll (survivors p x y (xs ++ ys)) ms
+  then xs ys ms u e =
+      ap (toggledAll (survivors p x y ys)) e
+      ∙ sym (toggled-append (survivors p x y xs) (survivors p x y ys) ms)
+      ∙ sym (ap (λ (l : List ℕ). toggledAll l ms) (survivors-append p x y xs ys))
+
+  pub rows-turn : (n r : ℕ) (ms u v : List ℕ) → 0 < n → u ≡ toggledAll (survivors p x y (rowSet p p r)) ms → v ≡ toggledAll (survivors p x y (diagonalSet p p (diagonalOf p x r))) u → rowsRest (n - 1) (nextRow p x y r) v ≡ rowsRest n r ms
+  unfolding startSets
+  rows-turn zero r ms u v h e q = absurd (omega arith)
+  rows-turn (suc n) r ms u v h e q =
+      let m : suc n - 1 ≡ n = omega arith in
+      let rest : List ℕ = startSets n p p x y (nextRow p x y r) in
+      ap (λ (i : ℕ). rowsRest i (nextRow p x y r) v) m
+      ∙ then (diagonalSet p p (diagonalOf p x r)) rest u v q
+      ∙ then (rowSet p p r) (diagonalSet p p (diagonalOf p x r) ++ rest) ms u e
+
+  pub rows-last : (n r : ℕ) (ms : List ℕ) → n ≤ 0 → rowsRest n r ms ≡ ms
+  unfolding startSets toggledAll
+  rows-last zero r ms h = ap (λ (l : List ℕ). toggledAll l ms) (survivors-none p x y)
+  rows-last (suc n) r ms h = absurd (omega arith)

@@ -1,0 +1,53 @@
+-- `comes_to_one`: each turn tries one multiple. The invariant: 1 is among those still to come exactly if it is among all.
+use mathlib.Core.Path.{_≡_, refl, sym, _∙_}
+use Prim.Native.Nat.{_+_, _-_, _/_, _<_}
+use native.Mathlib.Omega.{arith}
+use native.Mathlib.Nat.{mod-lt}
+use borrow.Author.Needs.{needs}
+use Rattle.liberation_pairs.specs.Pairs.{comesToOne}
+use Rattle.pair_walk.proofs.RoleLaws.{one-found, one-turn, one-none}
+use Rattle.pair_walk.proofs.comes_to_one.Statement.{statement}
+use Rattle.pair_walk.proofs.comes_to_one.Tie as tie
+
+abbrev Inv-loop : tie.InvT-loop
+Inv-loop width gap left₀ at₀ left at = (at < width) × (comesToOne left width gap at ≡ comesToOne ((width - 1) / 2) width gap gap)
+
+abbrev μ-loop : tie.MeasureT-loop
+μ-loop width gap left₀ at₀ left at = left
+
+loop-holds : tie.Need-loop-holds Inv-loop μ-loop
+loop-holds c = (c .pre .1, refl)
+
+returns : tie.Need-returns Inv-loop μ-loop
+returns c =
+    let l = c .before .before .loop in
+    let a = c .before .before .before .args in
+    sym (one-found (l .left) (a .width) (a .gap) (l .at) (c .before .loop-test .taken) (c .if1 .taken)) ∙ l .inv .1
+
+loop-again : tie.Need-loop-again Inv-loop μ-loop
+loop-again c =
+    let l = c .before .before .loop in
+    let a = c .before .before .before .args in
+    (mod-lt (l .at + a .gap) (omega arith), one-turn (l .left) (a .width) (a .gap) (l .at) (c .before .loop-test .taken) (c .if1 .left) ∙ l .inv .1)
+
+returns-2 : tie.Need-returns-2 Inv-loop μ-loop
+returns-2 c =
+    let l = c .before .loop in
+    let a = c .before .before .args in
+    sym (one-none (l .left) (a .width) (a .gap) (l .at) (c .loop-test .left)) ∙ l .inv .1
+
+pub comes-to-one-spec : {M : Type 1} → statement M
+comes-to-one-spec =
+    tie.close
+    (tie.spec
+    Inv-loop
+    μ-loop
+    (λ c. search needs)
+    loop-holds
+    returns
+    (λ c. search needs)
+    (λ c. search needs)
+    (λ c. search needs)
+    (λ c. search needs)
+    loop-again
+    returns-2)

@@ -1,0 +1,151 @@
+-- `start`: the first cell is a cell of the stripe on a lost disk, so it is none of the surviving cells. Their marks are toggled from no mark at all, and the odd ones are gathered.
+use mathlib.Core.Path.{_≡_, sym, ap, _∙_}
+use mathlib.Core.List.{List, [], _++_}
+use Prim.Native.Nat.{ℕ, _+_, _*_, _≤_}
+use native.Mathlib.Nat.{mul-le-mul}
+use native.Mathlib.Omega.{arith}
+use lib.ListN.{length, take, drop, replicate, length-replicate, length-append}
+use lib.Seq.{take-at, length-take-le}
+use borrow.Author.Needs.{needs}
+use Rattle.liberation_pairs.specs.Pairs.{startSets}
+use Rattle.liberation.proofs.MarkLists.{take-marks, no-cells, cells-most}
+use Rattle.odd.specs.Toggled.{toggledAll}
+use Rattle.odd.specs.Listed.{Marked}
+use Rattle.stripes.specs.Cells.{survivors}
+use Rattle.pair_walk.proofs.DiskLaws.{first-range, start-marked, start-done}
+use Rattle.pair_walk.proofs.start.Statement.{statement}
+use Rattle.pair_walk.proofs.start.Tie as tie
+
+extra-row-requires-2 : tie.Need-extra-row-requires-2
+extra-row-requires-2 c κs =
+    let z = c .before .before .before in
+    let a = z .args in
+    let g = first-range (a .width) (a .x) (a .y) (z .pre .1) (c .before .first-disk .result) (c .before .first-disk .ensures) in
+    (z .pre .0 .widest, z .pre .1 .odd, g .0, g .1)
+
+-- the stripe has few cells
+few : (c : tie.After-start-count) → let a = c .before .before .before .before .before .args in a .width * (a .width + 2) ≤ 1023
+few c = let z = c .before .before .before .before .before in cells-most (z .args .width) (z .pre .0 .widest)
+
+mul-cells : tie.Need-mul-cells
+mul-cells c = omega (arith, few c)
+
+-- none of them is marked
+none : (c : tie.After-no-marks) → let a = c .before .before .before .before .before .before .args in take (a .width * (a .width + 2)) (c .no-marks .result) ≡ replicate (a .width * (a .width + 2)) 0
+none c =
+    let a = c .before .before .before .before .before .before .args in
+    let n = a .width * (a .width + 2) in
+    ap (take n) (c .no-marks .ensures) ∙ take-marks n 1023 0 [] (few (c .before)) ∙ sym (no-cells n 0)
+
+marks-long : (c : tie.After-no-marks) → let a = c .before .before .before .before .before .before .args in length (take (a .width * (a .width + 2)) (c .no-marks .result)) ≡ a .width * (a .width + 2)
+marks-long c = let a = c .before .before .before .before .before .before .args in ap length (none c) ∙ length-replicate {A = ℕ} (a .width * (a .width + 2)) 0
+
+array-borrow-prefix-marks : tie.Need-array-borrow-prefix-marks
+array-borrow-prefix-marks c =
+    let l : length (c .before .no-marks .result) ≡ 1023 = search needs in
+    omega (arith, few (c .before .before))
+
+slice-aggregate-toggle-sets : tie.Need-slice-aggregate-toggle-sets
+slice-aggregate-toggle-sets c = sym (marks-long (c .before .before))
+
+toggle-sets-requires : tie.Need-toggle-sets-requires
+toggle-sets-requires c κs =
+    let k = c .before .before .before .before in
+    let o = k .before .before .before .before .before in
+    (record { widest = o .pre .0 .widest; one = o .pre .1 .high; other = o .pre .1 .other; marks = marks-long (c .before .before .before); room = search needs }, k .before .extra-row2 .ensures .1)
+
+-- the marks of all cells of the stripe, after the start's sets
+abbrev marks : (v : tie.After-toggle-sets) → List ℕ
+marks v =
+    let m = v .before .before .before .before in
+    let a = m .before .before .before .before .before .before .args in
+    let n = a .width * (a .width + 2) in
+    take n (v .toggle-sets .last .1 .1 .1 .1 .1 .0 ++ drop n (m .no-marks .result))
+
+toggled-long : (v : tie.After-toggle-sets) → let a = v .before .before .before .before .before .before .before .before .before .before .args in length (v .toggle-sets .last .1 .1 .1 .1 .1 .0) ≡ a .width * (a .width + 2)
+toggled-long v = v .toggle-sets .kept .1 .1 .1 .1 .1 .0 ∙ marks-long (v .before .before .before .before)
+
+made : (v : tie.After-toggle-sets) → let k = v .before .before .before .before .before in let a = k .before .before .before .before .before .args in marks v ≡ toggledAll (survivors (a .width) (a .x) (a .y) (startSets (k .start-count .result) (a .width) (a .width) (a .x) (a .y) (k .before .extra-row2 .result))) (replicate (a .width * (a .width + 2)) 0)
+made v =
+    let m = v .before .before .before .before in
+    let k = m .before in
+    let a = k .before .before .before .before .before .args in
+    let n = a .width * (a .width + 2) in
+    take-at (v .toggle-sets .last .1 .1 .1 .1 .1 .0) (drop n (m .no-marks .result)) n (toggled-long v)
+    ∙ v .toggle-sets .ensures
+    ∙ ap (toggledAll (survivors (a .width) (a .x) (a .y) (startSets (k .start-count .result) (a .width) (a .width) (a .x) (a .y) (k .before .extra-row2 .result)))) (none m)
+
+ready : (v : tie.After-toggle-sets) → let k = v .before .before .before .before .before in let a = k .before .before .before .before .before .args in Marked (a .size) (k .before .before .before .first-disk .result * a .width + k .before .before .extra-row .result) (marks v) (a .stripe .now)
+ready v =
+    let k = v .before .before .before .before .before in
+    let f = k .before .before .before .first-disk in
+    let r = k .before .before .extra-row in
+    let q = k .before .extra-row2 in
+    let n = k .start-count in
+    let o = k .before .before .before .before .before in
+    let a = o .args in
+    start-marked (a .width) (a .x) (a .y) (o .pre .1) (a .size) (f .result) (r .result) (q .result) (n .result) (marks v) (a .stripe .now) (o .pre .0) (f .ensures) (r .ensures .0) (q .ensures .0) (n .ensures) (made v) (few k)
+
+-- the first cell's place is a small number
+low : (k : tie.After-start-count) → k .before .before .before .first-disk .result * k .before .before .before .before .before .args .width ≤ 31 * 31
+low k =
+    let o = k .before .before .before .before .before in
+    let a = o .args in
+    let f = k .before .before .before .first-disk in
+    let h : f .result ≤ 31 = omega (arith, first-range (a .width) (a .x) (a .y) (o .pre .1) (f .result) (f .ensures), o .pre .0 .widest) in
+    mul-le-mul h (o .pre .0 .widest)
+
+mul-gather-odd : tie.Need-mul-gather-odd
+mul-gather-odd c = omega (arith, low (c .before .before .before .before .before .before .before .before))
+
+add-gather-odd : tie.Need-add-gather-odd
+add-gather-odd c =
+    let k = c .before .before .before .before .before .before .before .before in
+    omega (arith, low k, k .before .before .extra-row .ensures .1, k .before .before .before .before .before .pre .0 .widest)
+
+array-share-prefix-marks : tie.Need-array-share-prefix-marks
+array-share-prefix-marks c = simp length-append (omega (arith, toggled-long (c .before .before .before)))
+
+slice-aggregate-gather-odd : tie.Need-slice-aggregate-gather-odd
+slice-aggregate-gather-odd c = sym (length-take-le _ _ (simp length-append (omega (arith, toggled-long (c .before .before .before .before)))))
+
+gather-odd-requires : tie.Need-gather-odd-requires
+gather-odd-requires c κs = (ready (c .before .before .before .before .before), search needs, search needs)
+
+returns : tie.Need-returns
+returns c =
+    let g = c .before .before .before .gather-odd in
+    let v = c .before .before .before .before .before .before .before .before .before in
+    let k = v .before .before .before .before .before in
+    let f = k .before .before .before .first-disk in
+    let r = k .before .before .extra-row in
+    let q = k .before .extra-row2 in
+    let n = k .start-count in
+    let o = k .before .before .before .before .before in
+    let a = o .args in
+    start-done (a .width) (a .x) (a .y) (o .pre .1) (a .size) (f .result) (r .result) (q .result) (n .result) (marks v) (a .stripe .now) (o .pre .0) (f .ensures) (r .ensures .0) (q .ensures .0) (n .ensures) (made v) (g .last .0) (g .ensures)
+
+pub start-spec : {M : Type 1} → statement M
+start-spec =
+    tie.close
+    (tie.spec
+    (λ c κs. search needs)
+    (λ c κs. search needs)
+    extra-row-requires-2
+    (λ c κs. search needs)
+    (λ c. search needs)
+    mul-cells
+    (λ c κs. search needs)
+    (λ c κs. search needs)
+    array-borrow-prefix-marks
+    slice-aggregate-toggle-sets
+    (λ c. search needs)
+    toggle-sets-requires
+    mul-gather-odd
+    add-gather-odd
+    array-share-prefix-marks
+    slice-aggregate-gather-odd
+    (λ c. search needs)
+    gather-odd-requires
+    (λ c. search needs)
+    returns)

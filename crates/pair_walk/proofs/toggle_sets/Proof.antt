@@ -1,0 +1,91 @@
+-- `toggle_sets`: each turn toggles for the two sets of a row. The invariant: the rows still to come, toggled in the marks as they are, give what all rows give in the marks as they were.
+use mathlib.Core.Path.{_≡_, refl, sym, _∙_}
+use Prim.Native.Nat.{_+_, _-_, _<_}
+use native.Mathlib.Nat.{mod-lt}
+use native.Mathlib.Omega.{arith}
+use lib.ListN.{length}
+use borrow.Author.Needs.{needs}
+use Rattle.liberation.specs.Plans.{diagonalOf}
+use Rattle.liberation_pairs.specs.Pairs.{startSets}
+use Rattle.odd.specs.Toggled.{toggledAll}
+use Rattle.stripes.specs.Cells.{survivors}
+use Rattle.pair_walk.proofs.ToggleLaws.{rowsRest, rows-turn, rows-last, still-toggling}
+use Rattle.pair_walk.proofs.toggle_sets.Statement.{statement}
+use Rattle.pair_walk.proofs.toggle_sets.Tie as tie
+
+abbrev Inv-loop : tie.InvT-loop
+Inv-loop count width x y row marks₀ at₀ left₀ on₀ marks at left on = (on < width) × (length marks ≡ length marks₀) × (length at ≡ length at₀) × (rowsRest width x y left on marks ≡ toggledAll (survivors width x y (startSets count width width x y row)) marks₀)
+
+abbrev μ-loop : tie.MeasureT-loop
+μ-loop count width x y row marks₀ at₀ left₀ on₀ marks at left on = left
+
+loop-holds : tie.Need-loop-holds Inv-loop μ-loop
+loop-holds c = (c .before .before .pre .1, refl, refl, refl)
+
+toggle-set-requires : tie.Need-toggle-set-requires Inv-loop μ-loop
+toggle-set-requires c κs =
+    let l = c .before .before .before .loop in
+    let o = c .before .before .before .before .before .before in
+    (still-toggling (l .marks) (l .at) (o .pre .0) (l .inv .1) (l .inv .2), l .inv .0)
+
+-- the diagonal's number
+numbered : (c : tie.In-loop Inv-loop μ-loop) → let a = c .before .before .before .before .args in diagonalOf (a .width) (a .x) (c .before .loop .on) < a .width
+numbered c = let a = c .before .before .before .before .args in mod-lt (c .before .loop .on + a .width - a .x) (omega arith)
+
+toggle-set-requires-2 : tie.Need-toggle-set-requires-2 Inv-loop μ-loop
+toggle-set-requires-2 c κs =
+    let v = c .before .before .before .before .before .before in
+    let i = v .before .before .before in
+    let l = i .before .loop in
+    let o = i .before .before .before .before in
+    (still-toggling (v .toggle-set .last .1 .1 .1 .1 .1 .0) (v .toggle-set .last .1 .1 .1 .1 .1 .1 .0) (o .pre .0) (v .toggle-set .kept .1 .1 .1 .1 .1 .0 ∙ l .inv .1) (v .toggle-set .kept .1 .1 .1 .1 .1 .1 .0 ∙ l .inv .2), numbered i)
+
+add-on : tie.Need-add-on Inv-loop μ-loop
+add-on c =
+    let i = c .before .before .before .before .before .before .before .before .before .before .before .before .before .before in
+    omega (arith, numbered i, i .before .before .before .before .pre .0 .widest)
+
+loop-again : tie.Need-loop-again Inv-loop μ-loop
+loop-again c =
+    let w = c .before .before .before .before in
+    let v = w .before .before .before .before .before .before .before in
+    let l = v .before .before .before .before .loop in
+    let a = v .before .before .before .before .before .before .before .args in (
+      mod-lt (diagonalOf (a .width) (a .x) (l .on) + a .y) (omega arith),
+      w .toggle-set2 .kept .1 .1 .1 .1 .1 .0 ∙ v .toggle-set .kept .1 .1 .1 .1 .1 .0 ∙ l .inv .1,
+      w .toggle-set2 .kept .1 .1 .1 .1 .1 .1 .0 ∙ v .toggle-set .kept .1 .1 .1 .1 .1 .1 .0 ∙ l .inv .2,
+      rows-turn (a .width) (a .x) (a .y) (l .left) (l .on) (l .marks) (v .toggle-set .last .1 .1 .1 .1 .1 .0) (w .toggle-set2 .last .1 .1 .1 .1 .1 .0) (omega arith) (v .toggle-set .ensures) (w .toggle-set2 .ensures) ∙ l .inv .3,
+    )
+
+same-length : tie.Need-same-length Inv-loop μ-loop
+same-length c = c .before .loop .inv .1
+
+same-length-2 : tie.Need-same-length-2 Inv-loop μ-loop
+same-length-2 c = c .before .loop .inv .2
+
+returns : tie.Need-returns Inv-loop μ-loop
+returns c =
+    let l = c .before .loop in
+    let a = c .before .before .before .before .args in
+    sym (rows-last (a .width) (a .x) (a .y) (l .left) (l .on) (l .marks) (omega arith)) ∙ l .inv .3
+
+pub toggle-sets-spec : {M : Type 1} → statement M
+toggle-sets-spec =
+    tie.close
+    (tie.spec
+    Inv-loop
+    μ-loop
+    loop-holds
+    toggle-set-requires
+    (λ c. search needs)
+    (λ c. search needs)
+    (λ c. search needs)
+    toggle-set-requires-2
+    add-on
+    (λ c. search needs)
+    (λ c. search needs)
+    (λ c. search needs)
+    loop-again
+    same-length
+    same-length-2
+    returns)

@@ -1,0 +1,15 @@
+-- `with_row_parity`: one disk after the other.
+use borrow.Author.Needs.{needs}
+use Rattle.pair_walk.proofs.DiskLaws.{row-done}
+use Rattle.pair_walk.proofs.with_row_parity.Statement.{statement}
+use Rattle.pair_walk.proofs.with_row_parity.Tie as tie
+
+returns : tie.Need-returns
+returns c =
+    let w = c .before .before in
+    let v = w .before .before .before .before in
+    let a = v .before .before .before .args in
+    row-done (a .width) (a .size) (a .disk) (a .stripe .now) (v .up-diagonals .last .1 .1 .1 .0) (w .solve-rows .last .1 .1 .1 .1 .0) (v .up-diagonals .ensures) (w .solve-rows .ensures)
+
+pub with-row-parity-spec : {M : Type 1} → statement M
+with-row-parity-spec = tie.close (tie.spec (λ c κs. search needs) (λ c κs. search needs) (λ c. search needs) returns)

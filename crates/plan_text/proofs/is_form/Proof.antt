@@ -1,0 +1,56 @@
+-- `is_form`: a number of 100 or more has no place in the form; else the input is compared with that of its two numbers.
+use mathlib.Core.Path.{sym, ap₂, _∙_}
+use native.Mathlib.Omega.{arith}
+use lib.ListN.{take}
+use lib.Seq.{length-take-le}
+use borrow.Author.Needs.{needs}
+use Rattle.plan_text.specs.Text.{inputOf}
+use Rattle.plan_text.proofs.WriteLaws.{wrote-long, wrote-front}
+use Rattle.plan_text.proofs.FormLaws.{no-form-first, no-form-second, form-same}
+use Rattle.plan_text.proofs.is_form.Tie as tie
+use Rattle.plan_text.proofs.is_form.Statement.{statement}
+
+returns : tie.Need-returns
+returns c =
+    let k = c .before .before in
+    sym (no-form-first (k .args .text .now) (omega (arith, k .pre .0, c .if1 .taken)))
+
+returns-2 : tie.Need-returns-2
+returns-2 c =
+    let k = c .before .before .before in
+    sym (no-form-second (k .args .text .now) (omega (arith, k .pre .1, c .if2 .taken)))
+
+slice-aggregate-put-input : tie.Need-slice-aggregate-put-input
+slice-aggregate-put-input c = search needs
+
+put-input-requires : tie.Need-put-input-requires
+put-input-requires c κs = search needs
+
+array-share-prefix-expected : tie.Need-array-share-prefix-expected
+array-share-prefix-expected c = search needs
+
+slice-aggregate-same : tie.Need-slice-aggregate-same
+slice-aggregate-same c = let k = c .before .before .put-input in sym (length-take-le (k .result) (k .last .0) (omega (arith, k .ensures .fits, wrote-long (k .ensures))))
+
+same-requires : tie.Need-same-requires
+same-requires c κs = search needs
+
+returns-3 : tie.Need-returns-3
+returns-3 c =
+    let q = c .before .before .before .before .before .before .before .before in
+    let k = c .before .before .before .put-input in
+    form-same (q .args .text .now) (take (k .result) (k .last .0)) (c .same .result) (omega (arith, q .pre .0)) (omega (arith, q .pre .1))
+    (wrote-front (k .ensures) ∙ ap₂ inputOf (q .pre .0) (q .pre .1)) (c .same .ensures .0) (c .same .ensures .1)
+
+pub is-form-spec : {M : Type 1} → statement M
+is-form-spec =
+    tie.close
+    (tie.spec
+    returns
+    returns-2
+    slice-aggregate-put-input
+    put-input-requires
+    array-share-prefix-expected
+    slice-aggregate-same
+    same-requires
+    returns-3)

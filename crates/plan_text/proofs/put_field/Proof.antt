@@ -1,0 +1,22 @@
+-- `put_field`: the digits, of which there are at most two, and the byte behind them.
+use native.Mathlib.Omega.{arith}
+use borrow.Author.Needs.{needs}
+use Rattle.plan_text.proofs.WriteLaws.{wrote-more}
+use Rattle.plan_text.proofs.TextLaws.{digits-most}
+use Rattle.plan_text.proofs.put_field.Tie as tie
+use Rattle.plan_text.proofs.put_field.Statement.{statement}
+
+put-number-requires : tie.Need-put-number-requires
+put-number-requires c κs = search needs
+
+put-byte-requires : tie.Need-put-byte-requires
+put-byte-requires c κs = omega (arith, c .before .before .before .put-number .ensures .ends, digits-most (c .before .before .before .before .before .before .args .n))
+
+same-length : tie.Need-same-length
+same-length c = search needs
+
+returns : tie.Need-returns
+returns c = wrote-more (c .before .before .before .before .before .before .put-number .ensures) (c .before .before .put-byte .ensures)
+
+pub put-field-spec : {M : Type 1} → statement M
+put-field-spec = tie.close (tie.spec put-number-requires put-byte-requires same-length returns)

@@ -1,0 +1,44 @@
+-- `put_input`: the names line and the two numbers, one behind the other, are the input.
+use native.Mathlib.Omega.{arith}
+use borrow.Author.Needs.{needs}
+use Rattle.plan_text.proofs.WriteLaws.{wrote-more, wrote-same}
+use Rattle.plan_text.proofs.TextLaws.{input-fields, field-most}
+use Rattle.plan_text.proofs.put_input.Tie as tie
+use Rattle.plan_text.proofs.put_input.Statement.{statement}
+
+slice-aggregate-put : tie.Need-slice-aggregate-put
+slice-aggregate-put c = search needs
+
+put-requires : tie.Need-put-requires
+put-requires c κs = search needs
+
+put-field-requires : tie.Need-put-field-requires
+put-field-requires c κs = search needs
+
+put-field-requires-2 : tie.Need-put-field-requires-2
+put-field-requires-2 c κs =
+    let b = c .before .before .before in
+    let a = b .before .before .before .before in
+    omega (arith, a .put .ensures .ends, b .put-field .ensures .ends, field-most (a .before .before .before .before .args .first) 44)
+
+same-length : tie.Need-same-length
+same-length c = search needs
+
+returns : tie.Need-returns
+returns c =
+    let d = c .before .before in
+    let b = d .before .before .before .before in
+    let a = b .before .before .before .before in
+    let x = a .before .before .before .before .args in
+    wrote-same (input-fields (x .first) (x .second)) (wrote-more (wrote-more (a .put .ensures) (b .put-field .ensures)) (d .put-field2 .ensures))
+
+pub put-input-spec : {M : Type 1} → statement M
+put-input-spec =
+    tie.close
+    (tie.spec
+    slice-aggregate-put
+    put-requires
+    put-field-requires
+    put-field-requires-2
+    same-length
+    returns)

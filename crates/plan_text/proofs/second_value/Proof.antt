@@ -1,0 +1,25 @@
+-- `second_value`: the number begins behind the first comma, which is the second or the third byte of the values line.
+use mathlib.Core.Path.{sym, _∙_}
+use borrow.Author.Needs.{needs}
+use Rattle.plan_text.proofs.TextLaws.{second-near, second-far}
+use Rattle.plan_text.proofs.second_value.Tie as tie
+use Rattle.plan_text.proofs.second_value.Statement.{statement}
+
+byte-at-requires : tie.Need-byte-at-requires
+byte-at-requires c κs = search needs
+
+value-requires : tie.Need-value-requires
+value-requires c κs = search needs
+
+value-requires-2 : tie.Need-value-requires-2
+value-requires-2 c κs = search needs
+
+returns : tie.Need-returns
+returns c = c .value .ensures ∙ second-near (c .before .before .before .before .args .text .now) (sym (c .before .before .byte-at .ensures) ∙ c .before .if1 .taken)
+
+returns-2 : tie.Need-returns-2
+returns-2 c = c .value2 .ensures ∙ second-far (c .before .before .before .before .args .text .now) (λ q. c .before .if1 .left (c .before .before .byte-at .ensures ∙ q))
+
+pub second-value-spec : {M : Type 1} → statement M
+second-value-spec =
+    tie.close (tie.spec byte-at-requires value-requires value-requires-2 returns returns-2)

@@ -1,0 +1,54 @@
+-- `value`: the two bytes from the place on, read as one digit or as two.
+use mathlib.Core.Path.{sym, ap, ap₂, _∙_}
+use Prim.Native.Nat.{ℕ, _+_, _-_, _*_}
+use borrow.Author.Needs.{needs}
+use Rattle.plan_text.proofs.TextLaws.{value-one, value-two}
+use Rattle.plan_text.proofs.value.Tie as tie
+use Rattle.plan_text.proofs.value.Statement.{statement}
+
+byte-at-requires : tie.Need-byte-at-requires
+byte-at-requires c κs = search needs
+
+digit-requires : tie.Need-digit-requires
+digit-requires c κs = search needs
+
+add-byte-at : tie.Need-add-byte-at
+add-byte-at c = search needs
+
+byte-at-requires-2 : tie.Need-byte-at-requires-2
+byte-at-requires-2 c κs = search needs
+
+mul-result : tie.Need-mul-result
+mul-result c = search needs
+
+digit-requires-2 : tie.Need-digit-requires-2
+digit-requires-2 c κs = search needs
+
+add-result : tie.Need-add-result
+add-result c = search needs
+
+returns : tie.Need-returns
+returns c =
+    let a = c .before .before .before .before .before .args in
+    c .before .before .digit .ensures ∙ ap (λ (x : ℕ). x - 48) (c .before .before .before .byte-at .ensures) ∙ value-one (a .text .now) (a .at) (a .stop) (sym (c .before .byte-at2 .ensures) ∙ c .if1 .taken)
+
+returns-2 : tie.Need-returns-2
+returns-2 c =
+    let a = c .before .before .before .before .before .before .args in
+    let e = c .before .before .byte-at2 .ensures in
+    ap₂ (λ (x y : ℕ). 10 * x + y) (c .before .before .before .digit .ensures ∙ ap (λ (x : ℕ). x - 48) (c .before .before .before .before .byte-at .ensures)) (c .digit2 .ensures ∙ ap (λ (x : ℕ). x - 48) e)
+    ∙ value-two (a .text .now) (a .at) (a .stop) (λ q. c .before .if1 .left (e ∙ q))
+
+pub value-spec : {M : Type 1} → statement M
+value-spec =
+    tie.close
+    (tie.spec
+    byte-at-requires
+    digit-requires
+    add-byte-at
+    byte-at-requires-2
+    mul-result
+    digit-requires-2
+    add-result
+    returns
+    returns-2)

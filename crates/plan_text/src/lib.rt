@@ -1,0 +1,265 @@
+// The printed plan as text: the input's form, the plan's lines or a refusal.
+ghost use mathlib.Core.Path.{_≡_};
+ghost use mathlib.Core.Bool.{true};
+ghost use mathlib.Core.List.{[], _∷_, _++_};
+ghost use Prim.Native.Nat.{_+_, _-_, _*_, _≤_, _<_};
+ghost use lib.ListN.{length, getD, drop, replicate};
+ghost use Rattle.liberation.specs.Sets.{isWidth};
+ghost use Rattle.liberation.specs.Plans.{step, planOf, marksFrom};
+ghost use Rattle.planner.specs.Records.{Holds};
+ghost use Rattle.plan_text.specs.Text.{digitsOf, letterOf, lineOf, newFrom, linesFrom, planText, refusedLine, inputOf, valueTo, firstValue, secondValue, isForm};
+ghost use Rattle.plan_text.specs.Writing.{Wrote};
+ghost use Rattle.plan_text.specs.Says.{TextIs, TextSays};
+use planner::Steps;
+
+// A printed text: its bytes, zeros after them, and how many they are.
+// There is room for a head line of 24 bytes and 31 lines of 14: four numbers of two digits, four commas, a letter and LF. The longest text has 433.
+pub struct Text {
+    pub bytes: [u8; 458],
+    pub length: usize,
+}
+
+// Puts one byte at a place, and says where it ends, as every function does that puts something.
+fn put_byte(out: &mut [u8], at: usize, byte: u8) -> usize
+    requires { ⌜ at < length (now out) ⌝ }
+    ensures { λ r. ⌜ Wrote (now (out .entry)) (now (out .exit)) at r (byte ∷ []) ⌝ }
+{
+    out[at] = byte;
+    at + 1
+}
+
+// Puts a text.
+fn put(out: &mut [u8], at: usize, text: &[u8]) -> usize
+    requires { ⌜ at + length (now text) ≤ length (now out) ⌝ }
+    ensures { λ r. ⌜ Wrote (now (out .entry)) (now (out .exit)) at r (now (text .entry)) ⌝ }
+{
+    let mut i = 0;
+    while i < text.len() {
+        out[at + i] = text[i];
+        i += 1;
+    }
+    at + i
+}
+
+// Puts a number below 100 in decimal.
+fn put_number(out: &mut [u8], at: usize, n: usize) -> usize
+    requires { ⌜ (n < 100) × (at + 2 ≤ length (now out)) ⌝ }
+    ensures { λ r. ⌜ Wrote (now (out .entry)) (now (out .exit)) at r (digitsOf n) ⌝ }
+{
+    if n < 10 {
+        return put_byte(out, at, 48 + n as u8);
+    }
+    let next = put_byte(out, at, 48 + (n / 10) as u8);
+    put_byte(out, next, 48 + (n % 10) as u8)
+}
+
+// Puts a number and the byte that ends its field.
+fn put_field(out: &mut [u8], at: usize, n: usize, stop: u8) -> usize
+    requires { ⌜ (n < 100) × (at + 3 ≤ length (now out)) ⌝ }
+    ensures { λ r. ⌜ Wrote (now (out .entry)) (now (out .exit)) at r (digitsOf n ++ (stop ∷ [])) ⌝ }
+{
+    let next = put_number(out, at, n);
+    put_byte(out, next, stop)
+}
+
+// Puts the letter of a set's kind and a comma.
+fn put_kind(out: &mut [u8], at: usize, kind: usize) -> usize
+    requires { ⌜ at + 2 ≤ length (now out) ⌝ }
+    ensures { λ r. ⌜ Wrote (now (out .entry)) (now (out .exit)) at r (letterOf kind ∷ (44 ∷ [])) ⌝ }
+{
+    if kind == 0 {
+        put(out, at, b"R,")
+    } else {
+        put(out, at, b"D,")
+    }
+}
+
+// Puts the line of a step.
+fn put_line(
+    out: &mut [u8],
+    at: usize,
+    index: usize,
+    row: usize,
+    kind: usize,
+    number: usize,
+    new: usize,
+) -> usize
+    requires { ⌜ (index < 100) × (row < 100) × (number < 100) × (new < 100) × (at + 14 ≤ length (now out)) ⌝ }
+    ensures { λ r. ⌜ Wrote (now (out .entry)) (now (out .exit)) at r (lineOf index (step row kind number) new) ⌝ }
+{
+    let second = put_field(out, at, index, 44);
+    let third = put_field(out, second, row, 44);
+    let fourth = put_kind(out, third, kind);
+    let fifth = put_field(out, fourth, number, 44);
+    put_field(out, fifth, new, 10)
+}
+
+// Puts the line of a refusal.
+fn put_refusal(out: &mut [u8], at: usize, number: usize) -> usize
+    requires { ⌜ (number < 100) × (at + 11 ≤ length (now out)) ⌝ }
+    ensures { λ r. ⌜ Wrote (now (out .entry)) (now (out .exit)) at r (refusedLine number) ⌝ }
+{
+    let next = put(out, at, b"refused,");
+    put_field(out, next, number, 10)
+}
+
+// Puts the input for two numbers.
+fn put_input(out: &mut [u8], at: usize, first: usize, second: usize) -> usize
+    requires { ⌜ (first < 100) × (second < 100) × (at + 13 ≤ length (now out)) ⌝ }
+    ensures { λ r. ⌜ Wrote (now (out .entry)) (now (out .exit)) at r (inputOf first second) ⌝ }
+{
+    let values = put(out, at, b"p,lost\n");
+    let comma = put_field(out, values, first, 44);
+    put_field(out, comma, second, 10)
+}
+
+// The byte at a place, 0 past the end.
+fn byte_at(text: &[u8], at: usize) -> u8
+    ensures { λ r. ⌜ r ≡ getD (now (text .entry)) at 0 ⌝ }
+{
+    if at < text.len() { text[at] } else { 0 }
+}
+
+// The value of a digit, 0 for a byte below the digits.
+fn digit(byte: u8) -> usize
+    ensures { λ r. ⌜ r ≡ byte - 48 ⌝ }
+{
+    if byte < 48 { 0 } else { (byte - 48) as usize }
+}
+
+// The number from a place on, of one digit if the byte `stop` follows it, else of two.
+fn value(text: &[u8], at: usize, stop: u8) -> usize
+    requires { ⌜ at < 100 ⌝ }
+    ensures { λ r. ⌜ r ≡ valueTo stop (drop at (now (text .entry))) ⌝ }
+{
+    let first = digit(byte_at(text, at));
+    let next = byte_at(text, at + 1);
+    if next == stop {
+        first
+    } else {
+        10 * first + digit(next)
+    }
+}
+
+// The first number of the values line.
+fn first_value(text: &[u8]) -> usize
+    ensures { λ r. ⌜ r ≡ firstValue (now (text .entry)) ⌝ }
+{
+    value(text, 7, 44)
+}
+
+// The second number of the values line.
+fn second_value(text: &[u8]) -> usize
+    ensures { λ r. ⌜ r ≡ secondValue (now (text .entry)) ⌝ }
+{
+    if byte_at(text, 8) == 44 {
+        value(text, 9, 10)
+    } else {
+        value(text, 10, 10)
+    }
+}
+
+// Is the input of its form? The two numbers are those that stand in it, and the input has to be theirs, byte for byte.
+fn is_form(text: &[u8], first: usize, second: usize) -> bool
+    requires { ⌜ (first ≡ firstValue (now text)) × (second ≡ secondValue (now text)) ⌝ }
+    ensures { λ r. ⌜ r ≡ isForm (now (text .entry)) ⌝ }
+{
+    if first >= 100 {
+        return false;
+    }
+    if second >= 100 {
+        return false;
+    }
+    let mut expected = [0u8; 13];
+    let n = put_input(&mut expected, 0, first, second);
+    check::same(text, &expected[..n])
+}
+
+// Puts the lines of a plan's steps. A cell that a step reads is marked, so that the next steps count it no more.
+fn put_steps(
+    out: &mut [u8],
+    at: usize,
+    width: usize,
+    disk: usize,
+    steps: Steps,
+    marks: &mut [u8],
+) -> usize
+    requires { ⌜ (isWidth width ≡ true) × (disk ≤ width + 1) × Holds (planOf width width disk) steps × (now marks ≡ marksFrom (width * (width + 2)) 0 []) × (at + 14 * width ≤ length (now out)) ⌝ }
+    ensures { λ r. ⌜ Wrote (now (out .entry)) (now (out .exit)) at r (linesFrom 0 (planOf width width disk) (newFrom width disk [] (planOf width width disk))) ⌝ }
+{
+    let rows = steps.rows;
+    let kinds = steps.kinds;
+    let numbers = steps.numbers;
+    let mut next = at;
+    let mut i = 0;
+    while i < width {
+        let kind = kinds[i] as usize;
+        let number = numbers[i] as usize;
+        let new = sets::mark_set(width, width, disk, kind, number, marks);
+        next = put_line(out, next, i, rows[i] as usize, kind, number, new as usize);
+        i += 1;
+    }
+    next
+}
+
+// Puts a whole plan: the head line and a line for each step.
+fn put_plan(out: &mut [u8], at: usize, width: usize, disk: usize, steps: Steps) -> usize
+    requires { ⌜ (isWidth width ≡ true) × (disk ≤ width + 1) × Holds (planOf width width disk) steps × (at + 458 ≤ length (now out)) ⌝ }
+    ensures { λ r. ⌜ Wrote (now (out .entry)) (now (out .exit)) at r (planText width disk) ⌝ }
+{
+    let lines = put(out, at, b"step,row,set,number,new\n");
+    let n = width * (width + 2);
+    let mut marks = sets::no_marks();
+    put_steps(out, lines, width, disk, steps, &mut marks[..n])
+}
+
+// A buffer with no text yet.
+fn no_text() -> [u8; 458]
+    ensures { λ r. ⌜ r ≡ replicate 458 0 ⌝ }
+{
+    [0; 458]
+}
+
+// The text of a refusal.
+fn refusal_text(number: usize) -> Text
+    requires { ⌜ number < 100 ⌝ }
+    ensures { λ r. ⌜ TextIs (refusedLine number) r ⌝ }
+{
+    let mut bytes = no_text();
+    let length = put_refusal(&mut bytes, 0, number);
+    Text {
+        bytes: bytes,
+        length: length,
+    }
+}
+
+// The text of a plan.
+fn steps_text(width: usize, disk: usize, steps: Steps) -> Text
+    requires { ⌜ (isWidth width ≡ true) × (disk ≤ width + 1) × Holds (planOf width width disk) steps ⌝ }
+    ensures { λ r. ⌜ TextIs (planText width disk) r ⌝ }
+{
+    let mut bytes = no_text();
+    let length = put_plan(&mut bytes, 0, width, disk, steps);
+    Text {
+        bytes: bytes,
+        length: length,
+    }
+}
+
+// What the plan program prints for an input. Refusals: 12 first, then 1, 3.
+pub fn plan_text(input: &[u8]) -> Text
+    ensures { λ r. ⌜ TextSays (now (input .entry)) r ⌝ }
+{
+    let width = first_value(input);
+    let disk = second_value(input);
+    if !is_form(input, width, disk) {
+        return refusal_text(12);
+    }
+    let plan = planner::plan_disk(width, disk);
+    let answer = plan.answer;
+    if answer.refusal != 0 {
+        return refusal_text(answer.refusal as usize);
+    }
+    let steps = plan.steps;
+    steps_text(width, disk, steps)
+}

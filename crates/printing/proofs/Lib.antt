@@ -1,7 +1,0 @@
--- Laws of the printed plan.
-pub mod WriteLaws
-pub mod TextLaws
-pub mod FormLaws
-pub mod NewLaws
-pub mod LineLaws
-pub mod HoldsLaws

@@ -1,5 +1,0 @@
--- The laws behind the functions: a step's other lost cells, the step, the steps in order, the promise.
-pub mod LostLaws
-pub mod StepLaws
-pub mod FollowLaws
-pub mod SaysLaws

@@ -1,0 +1,57 @@
+-- The promise of `rebuild_one`: its refusals 1, 2, 3 and 5 in this order, which leave the column as it was, and the accepted call.
+use mathlib.Core.Path.{_≡_, sym, ap, ap₂, _∙_}
+use mathlib.Core.Bool.{Bool, true, not}
+use mathlib.Core.List.{List}
+use Prim.Native.Nat.{ℕ, _+_, _*_, _≤_, _<_}
+use lib.Dec.{eqb}
+use borrow.Author.Tests.{eqb-true, not-false}
+use Rattle.laws.specs.Choice.{firstOf, when}
+use Rattle.laws.specs.Xor.{allBytes}
+use Rattle.laws.proofs.ChoiceLaws.{first-none, when-none, pick-refused, pick-done}
+use Rattle.liberation.specs.Sets.{isWidth, numbersFault}
+use Rattle.liberation.proofs.FaultLaws.{numbers-of}
+use Rattle.liberation_stripes.specs.Stripes.{stripeLong, rebuilt}
+use Rattle.refusals.specs.declared.Answer.{Answer}
+use Rattle.refusals.specs.Answers.{Answers}
+use Rattle.refusals.proofs.AnswerLaws.{answers-as}
+use Rattle.rebuild_one.specs.Says.{lengthsFault, oneFault, OneSays}
+
+-- the refusal from the tests of the lengths, where numbers and disk are accepted
+pub lengths-are : (p s f n m : ℕ) (a b : Bool) → numbersFault p p s f ≡ 0 → eqb n (stripeLong p p s) ≡ a → eqb m (p * s) ≡ b → firstOf (when (not a) 5) (when (not b) 5) ≡ lengthsFault p s f n m
+lengths-are p s f n m a b z x y =
+    sym (ap (λ (u : ℕ). firstOf u (firstOf (when (not (eqb n (stripeLong p p s))) 5) (when (not (eqb m (p * s))) 5))) z ∙ ap₂ (λ (u v : Bool). firstOf (when (not u) 5) (when (not v) 5)) x y)
+
+-- none of the refusals: all is within the limits and the lengths are those required
+pub record Fit (p s f n m : ℕ) : Type 0 where
+  pub width : isWidth p ≡ true
+  pub some : 0 < s
+  pub small : s ≤ 4096
+  pub disk : f ≤ p + 1
+  pub stripe : n ≡ stripeLong p p s
+  pub column : m ≡ p * s
+
+pub fault-none : (p s f n m : ℕ) → lengthsFault p s f n m ≡ 0 → Fit p s f n m
+fault-none p s f n m e =
+    let a : Bool = eqb n (stripeLong p p s) in
+    let b : Bool = eqb m (p * s) in
+    let w = first-none (numbersFault p p s f) (firstOf (when (not a) 5) (when (not b) 5)) e in
+    let v = first-none (when (not a) 5) (when (not b) 5) (w .1) in
+    let q = numbers-of p p s f (w .0) in
+    record {
+      width = q .0;
+      some = q .1;
+      small = q .2;
+      disk = q .3;
+      stripe = eqb-true n (stripeLong p p s) (not-false a (when-none (not a) 4 (v .0)));
+      column = eqb-true m (p * s) (not-false b (when-none (not b) 4 (v .1)));
+    }
+
+-- a refusal
+pub refused : (p s f n : ℕ) (t o : List ℕ) (r : Answer) → n ≡ oneFault p s f t o → (n ≡ 0 → ⊥) → Answers n r → allBytes t ≡ true → OneSays p s f t o o r
+refused p s f n t o r e z a b =
+    record { answer = answers-as n (oneFault p s f t o) r e a; column = pick-refused n (oneFault p s f t o) (rebuilt p p s f t) o e z; bytes = b }
+
+-- the accepted call
+pub accepted : (p s f : ℕ) (t o o′ : List ℕ) (r : Answer) → oneFault p s f t o ≡ 0 → o′ ≡ rebuilt p p s f t → Answers 0 r → allBytes t ≡ true → OneSays p s f t o o′ r
+accepted p s f t o o′ r z e a b =
+    record { answer = answers-as 0 (oneFault p s f t o) r (sym z) a; column = e ∙ pick-done (oneFault p s f t o) (rebuilt p p s f t) o z; bytes = b }

@@ -1,0 +1,125 @@
+-- `follow`: each turn does the next step of our plan. The invariant: the steps still to come, on the stripe with the column as it stands, give what all steps give.
+use mathlib.Core.Path.{_≡_, sym, ap, _∙_}
+use mathlib.Core.List.{List}
+use Prim.Native.Nat.{ℕ, _-_, _≤_}
+use native.Mathlib.Omega.{arith}
+use lib.ListN.{getD}
+use borrow.Author.Needs.{needs}
+use Rattle.liberation.specs.Plans.{planOf}
+use Rattle.liberation.proofs.Widths.{width-odd, width-most}
+use Rattle.liberation.proofs.RecordLaws.{StepAt, step-at, plan-length, plan-number}
+use Rattle.xor.proofs.SourceLaws.{bytes-all}
+use Rattle.rebuild_one.proofs.FollowLaws.{Stepping, stepping-start, stepping-turn, stepping-end, plan-passed}
+use Rattle.rebuild_one.proofs.follow.Statement.{statement}
+use Rattle.rebuild_one.proofs.follow.Tie as tie
+
+abbrev Inv-loop : tie.InvT-loop
+Inv-loop width size disk stripe column₀ rows kinds numbers i₀ column i = Stepping width size disk stripe column₀ column i
+
+abbrev μ-loop : tie.MeasureT-loop
+μ-loop width size disk stripe column₀ rows kinds numbers i₀ column i = width - i
+
+small : (c : tie.In-loop Inv-loop μ-loop) → let z = c .before .before .before .before .before .before .before in z .args .width ≤ 31
+small c = let z = c .before .before .before .before .before .before .before in width-most (z .args .width) (z .pre .0 .0 .width)
+
+-- the step of this turn
+this : (c : tie.In-loop Inv-loop μ-loop) → let a = c .before .before .before .before .before .before .before .args in StepAt (planOf (a .width) (a .width) (a .disk)) (c .before .loop .i)
+this c =
+    let z = c .before .before .before .before .before .before .before in
+    step-at _ _ (omega (arith, plan-length (z .args .width) (z .args .disk) (z .pre .0 .0 .width) (z .pre .0 .0 .disk)))
+
+-- and where the arrays have it
+row : (c : tie.In-loop Inv-loop μ-loop) → getD (c .before .before .before .before .before .before .before .args .steps .rows) (c .before .loop .i) 0 ≡ this c .this .row
+row c = ap (λ (x : List ℕ). getD x (c .before .loop .i) 0) (c .before .before .before .before .before .before .before .pre .0 .0 .held .rows) ∙ this c .held (λ s. s .row)
+
+kind : (c : tie.In-loop Inv-loop μ-loop) → getD (c .before .before .before .before .before .before .before .args .steps .kinds) (c .before .loop .i) 0 ≡ this c .this .kind
+kind c = ap (λ (x : List ℕ). getD x (c .before .loop .i) 0) (c .before .before .before .before .before .before .before .pre .0 .0 .held .kinds) ∙ this c .held (λ s. s .kind)
+
+number : (c : tie.In-loop Inv-loop μ-loop) → getD (c .before .before .before .before .before .before .before .args .steps .numbers) (c .before .loop .i) 0 ≡ this c .this .number
+number c = ap (λ (x : List ℕ). getD x (c .before .loop .i) 0) (c .before .before .before .before .before .before .before .pre .0 .0 .held .numbers) ∙ this c .held (λ s. s .number)
+
+loop-holds : tie.Need-loop-holds Inv-loop μ-loop
+loop-holds c = stepping-start _ _ _ _ _ (c .before .before .before .before .before .pre .1 .1)
+
+array-read-row : tie.Need-array-read-row Inv-loop μ-loop
+array-read-row c = omega (arith, small c)
+
+cast-row : tie.Need-cast-row Inv-loop μ-loop
+cast-row c = search needs
+
+array-read-kind : tie.Need-array-read-kind Inv-loop μ-loop
+array-read-kind c = omega (arith, small c)
+
+cast-kind : tie.Need-cast-kind Inv-loop μ-loop
+cast-kind c = search needs
+
+array-read-number : tie.Need-array-read-number Inv-loop μ-loop
+array-read-number c = omega (arith, small c)
+
+cast-number : tie.Need-cast-number Inv-loop μ-loop
+cast-number c = search needs
+
+rebuild-cell-requires : tie.Need-rebuild-cell-requires Inv-loop μ-loop
+rebuild-cell-requires c κs =
+    let t = c .before in
+    let z = t .before .before .before .before .before .before .before in
+    let a = z .args in
+    let w = z .pre .0 .0 .width in
+    let d = z .pre .0 .0 .disk in
+    let passed = plan-passed (a .width) (a .disk) (t .before .loop .i) w d (this t) (t .loop-test .taken) in
+    record {
+      within = record { widest = small t; disks = omega arith; numbered = omega (arith, number t, plan-number (a .width) (a .disk) (t .before .loop .i) w d (this t) (t .loop-test .taken)) };
+      odd = width-odd (a .width) w;
+      rows = omega (arith, row t, passed .0);
+      own = rw (row t, kind t, number t) (passed .1);
+      disk = d;
+      size = z .pre .0 .1;
+      stripe = z .pre .1 .0;
+      column = t .before .loop .inv .long;
+    }
+
+add-i : tie.Need-add-i Inv-loop μ-loop
+add-i c = search needs
+
+loop-less : tie.Need-loop-less Inv-loop μ-loop
+loop-less c = search needs
+
+loop-again : tie.Need-loop-again Inv-loop μ-loop
+loop-again c =
+    let m = c .before .before .rebuild-cell in
+    let t = c .before .before .before .before in
+    let l = t .before .loop in
+    let a = t .before .before .before .before .before .before .before .args in
+    stepping-turn (a .width) (a .size) (a .disk) (a .stripe .now) (a .column .now) (l .column) (m .last .1 .1 .1 .1 .1 .1 .1 .0) (l .i) (this t) (t .loop-test .taken) (m .kept .1 .1 .1 .1 .1 .1 .1 .0) (rw (row t, kind t, number t) at (m .ensures)) (l .inv)
+
+same-length : tie.Need-same-length Inv-loop μ-loop
+same-length c = let z = c .before .before .before .before .before .before .before in c .before .loop .inv .long ∙ sym (z .pre .1 .1)
+
+returns : tie.Need-returns Inv-loop μ-loop
+returns c =
+    let l = c .before .loop in
+    let k = c .before .before .before .before .before in
+    let z = k .before .before in
+    let a = z .args in
+    stepping-end (a .width) (a .size) (a .disk) (z .pre .0 .0 .width) (z .pre .0 .0 .disk) (a .stripe .now) (a .column .now) (l .column) (l .i) (omega arith) (z .pre .1 .0) (z .pre .1 .1)
+    (bytes-all (a .stripe .now) (k .before .shared-slice-known .given)) (bytes-all (a .column .now) (k .slice-known .given)) (l .inv)
+
+pub follow-spec : {M : Type 1} → statement M
+follow-spec =
+    tie.close
+    (tie.spec
+    Inv-loop
+    μ-loop
+    loop-holds
+    array-read-row
+    cast-row
+    array-read-kind
+    cast-kind
+    array-read-number
+    cast-number
+    rebuild-cell-requires
+    add-i
+    loop-less
+    loop-again
+    same-length
+    returns)

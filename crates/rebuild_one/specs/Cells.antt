@@ -1,0 +1,30 @@
+-- One step of a rebuild: what a caller of the functions over one step has to show.
+use mathlib.Core.Path.{_≡_}
+use mathlib.Core.Bool.{true}
+use mathlib.Core.List.{List}
+use Prim.Native.Nat.{ℕ, _+_, _*_, _%_, _≤_, _<_}
+use lib.ListN.{length}
+use Rattle.laws.specs.Lists.{isIn}
+use Rattle.liberation.specs.Sets.{isWidth, setOf, lostIn}
+use Rattle.liberation.specs.Plans.{planOf}
+use Rattle.liberation_stripes.specs.Stripes.{stripeLong}
+use Rattle.sets.specs.Limits.{Within}
+use Rattle.planner.specs.declared.Steps.{Steps}
+use Rattle.planner.specs.Records.{Holds}
+
+-- a step for disk f of a stripe t, with a lent column: the set holds the lost cell of the row
+pub record Ready (p s f row kind number : ℕ) (t col : List ℕ) : Type 0 where
+  pub within : Within p p number
+  pub odd : p % 2 ≡ 1
+  pub rows : row < p
+  pub own : isIn row (lostIn p f (setOf p p kind number)) ≡ true
+  pub disk : f ≤ p + 1
+  pub size : s ≤ 4096
+  pub stripe : length t ≡ stripeLong p p s
+  pub column : length col ≡ p * s
+
+-- the steps of our plan for disk f
+pub record Ours (p f : ℕ) (steps : Steps) : Type 0 where
+  pub width : isWidth p ≡ true
+  pub disk : f ≤ p + 1
+  pub held : Holds (planOf p p f) steps

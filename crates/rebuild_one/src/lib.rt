@@ -1,0 +1,120 @@
+// The rebuild of one lost disk: our plan's steps, one after another, from a lent stripe into a lent column. Each cell goes to its own stretch of the column.
+use planner::Steps;
+use refusals::Answer;
+ghost use mathlib.Core.Path.{_≡_};
+ghost use mathlib.Core.Bool.{true};
+ghost use mathlib.Core.List.{[], _∷_};
+ghost use Prim.Native.Nat.{_+_, _*_, _%_, _≤_, _<_};
+ghost use lib.Dec.{ltb};
+ghost use lib.ListN.{length};
+ghost use Rattle.laws.specs.Choice.{pick};
+ghost use Rattle.laws.specs.Lists.{isIn};
+ghost use Rattle.liberation.specs.Sets.{place, setOf, lostIn};
+ghost use Rattle.liberation_stripes.specs.Stripes.{withColumn, without, solved, stripeLong, rebuilt};
+ghost use Rattle.sets.specs.Limits.{Within};
+ghost use Rattle.rebuild_one.specs.Cells.{Ready, Ours};
+ghost use Rattle.rebuild_one.specs.Says.{lengthsFault, OneSays};
+
+// The row of the set's other cell on the lost disk, the width if there is none. Only a diagonal whose extra cell is on that disk has two cells there: the extra one and an ordinary one.
+fn other_row(width: usize, disk: usize, row: usize, kind: usize, number: usize) -> usize
+    requires { ⌜ Within width width number × (width % 2 ≡ 1) × (row < width) × (isIn row (lostIn width disk (setOf width width kind number)) ≡ true) ⌝ }
+    ensures { λ r. ⌜ without row (lostIn width disk (setOf width width kind number)) ≡ pick (ltb r width) (r ∷ []) [] ⌝ }
+{
+    if kind == 0 {
+        return width;
+    }
+    if number == 0 {
+        return width;
+    }
+    if sets::extra_disk(width, number) != disk {
+        return width;
+    }
+    let extra = width - 1 - number;
+    if extra != row {
+        return extra;
+    }
+    offsets::row_on(width, number, disk)
+}
+
+// One step: the lost disk's cell of this row becomes the XOR of the set's other cells. The surviving ones come from the stripe; another lost one, which an earlier step has rebuilt, from the column.
+fn rebuild_cell(
+    width: usize,
+    size: usize,
+    disk: usize,
+    row: usize,
+    kind: usize,
+    number: usize,
+    stripe: &[u8],
+    column: &mut [u8],
+)
+    requires { ⌜ Ready width size disk row kind number (now stripe) (now column) ⌝ }
+    ensures { λ _. ⌜ withColumn width size disk (now (column .exit)) (now (stripe .entry)) ≡ solved size (place width row disk) (setOf width width kind number) (withColumn width size disk (now (column .entry)) (now (stripe .entry))) ⌝ }
+{
+    let mut at = offsets::no_offsets();
+    let n = stripes::surviving(width, width, size, kind, number, disk, disk, &mut at);
+    let start = row * size;
+    let end = start + size;
+    xor::gather(&mut column[start..end], stripe, &at[..n]);
+    let other = other_row(width, disk, row, kind, number);
+    if other < width {
+        at[0] = start;
+        at[1] = other * size;
+        xor_within::gather_within(column, start, size, &at[..2]);
+    }
+}
+
+// The steps of our plan, in order.
+fn follow(width: usize, size: usize, disk: usize, steps: Steps, stripe: &[u8], column: &mut [u8])
+    requires { ⌜ Ours width disk steps × (size ≤ 4096) ⌝ }
+    requires { ⌜ (length (now stripe) ≡ stripeLong width width size) × (length (now column) ≡ width * size) ⌝ }
+    ensures { λ _. ⌜ now (column .exit) ≡ rebuilt width width size disk (now (stripe .entry)) ⌝ }
+{
+    let rows = steps.rows;
+    let kinds = steps.kinds;
+    let numbers = steps.numbers;
+    let mut i = 0;
+    while i < width {
+        let row = rows[i] as usize;
+        let kind = kinds[i] as usize;
+        let number = numbers[i] as usize;
+        rebuild_cell(width, size, disk, row, kind, number, stripe, column);
+        i += 1;
+    }
+}
+
+// The refusal of a call on a stripe and a column of these many bytes, 0 for none.
+pub fn one_fault(width: usize, size: usize, disk: usize, stripe: usize, column: usize) -> u8
+    ensures { λ r. ⌜ r ≡ lengthsFault width size disk stripe column ⌝ }
+{
+    let fault = refusals::numbers_fault(width, width, size, disk);
+    if fault != 0 {
+        return fault;
+    }
+    if stripe != (width + 2) * (width * size) {
+        return 5;
+    }
+    if column != width * size {
+        return 5;
+    }
+    0
+}
+
+// Rebuilds one lost disk into the column. Refusals: 1, 2, 3, 5; a refused call leaves the column as it was.
+pub fn rebuild_one(
+    width: usize,
+    size: usize,
+    disk: usize,
+    stripe: &[u8],
+    column: &mut [u8],
+) -> Answer
+    ensures { λ r. ⌜ OneSays width size disk (now (stripe .entry)) (now (column .entry)) (now (column .exit)) r ⌝ }
+{
+    let refusal = one_fault(width, size, disk, stripe.len(), column.len());
+    if refusal != 0 {
+        return refusals::answered(refusal);
+    }
+    let plan = planner::plan_steps(width, disk);
+    let steps = plan.steps;
+    follow(width, size, disk, steps, stripe, column);
+    refusals::answered(0)
+}

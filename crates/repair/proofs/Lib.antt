@@ -1,2 +1,0 @@
--- The refusals, and the promise from what was refused or done.
-pub mod RefusalLaws

@@ -1,0 +1,110 @@
+-- Refusals 1, 2 and 5 of a call on a stripe, and the promises of the calls from what was refused or done.
+use mathlib.Core.Path.{_≡_, refl, sym, ap, ap₂, _∙_}
+use mathlib.Core.Bool.{Bool, true, false, _&&_, _||_, not}
+use mathlib.Core.List.{List}
+use Prim.Native.Nat.{ℕ, suc, _+_, _*_, _≤_, _<_}
+use native.Mathlib.Nat.{mul-le-mul}
+use native.Mathlib.Omega.{arith}
+use lib.Dec.{eqb, ltb}
+use lib.ListN.{length}
+use borrow.Author.Tests.{ne-eqb, eq-eqb, ltb-false, eqb-true, not-false}
+use Rattle.laws.specs.Choice.{pick, when, firstOf}
+use Rattle.laws.specs.Sums.{allTo}
+use Rattle.laws.specs.Xor.{allBytes}
+use Rattle.laws.proofs.Flags.{or-false-r}
+use Rattle.laws.proofs.ChoiceLaws.{first-none, first-kept, first-assoc, pick-refused, pick-done, and-refused, and-done}
+use Rattle.liberation.specs.Sets.{isWidth, widthFault, longFault, sizeFault, numbersFault}
+use Rattle.liberation.specs.Plans.{Step, allOf}
+use Rattle.liberation.proofs.Widths.{width-least, width-most}
+use Rattle.liberation.proofs.FaultLaws.{width-of, size-of, long-of, numbers-of, numbers-first}
+use Rattle.liberation.proofs.ParityPlans.{plan-row-parity, plan-diagonal-parity}
+use Rattle.refusals.specs.declared.Answer.{Answer}
+use Rattle.refusals.specs.Answers.{Answers}
+use Rattle.refusals.proofs.AnswerLaws.{answers-as}
+use Rattle.liberation_stripes.specs.Stripes.{stripeLong, encoded, followed, clean, setClean}
+use Rattle.stripes.specs.Cells.{Sized}
+use Rattle.stripes.specs.Says.{stripeFault, EncodeSays, CheckSays}
+
+-- the refusal from the test of the length, where the numbers are accepted
+pub fault-is : (p s n : ℕ) (e : Bool) → numbersFault p p s 0 ≡ 0 → eqb n (stripeLong p p s) ≡ e → when (not e) 5 ≡ firstOf (widthFault p) (firstOf (sizeFault s) (when (not (eqb n (stripeLong p p s))) 5))
+fault-is p s n e z q =
+    sym
+    (sym (first-assoc (widthFault p) (sizeFault s) (when (not (eqb n (stripeLong p p s))) 5))
+    ∙ ap₂ (λ (a : ℕ) (b : Bool). firstOf a (when (not b) 5)) (sym (numbers-first p p s) ∙ z) q)
+
+-- and where they are not
+pub fault-first : (p s n m : ℕ) → m ≡ numbersFault p p s 0 → (m ≡ 0 → ⊥) → m ≡ firstOf (widthFault p) (firstOf (sizeFault s) (when (not (eqb n (stripeLong p p s))) 5))
+fault-first p s n m e z = first-kept m (firstOf (widthFault p) (sizeFault s)) (when (not (eqb n (stripeLong p p s))) 5) (e ∙ numbers-first p p s) z ∙ first-assoc (widthFault p) (sizeFault s) (when (not (eqb n (stripeLong p p s))) 5)
+
+-- a stripe within the limits has few enough bytes to count
+bytes-most : (p s : ℕ) → p ≤ 31 → s ≤ 4096 → (p * s ≤ 126976) × ((p + 2) * (p * s) ≤ 4190208)
+bytes-most p s h k =
+    let l : p * s ≤ 31 * 4096 = mul-le-mul h k in
+    let m : p + 2 ≤ 33 = omega arith in
+    (omega arith, omega (arith, mul-le-mul m l))
+
+pub numbers-most : (p s f : ℕ) → numbersFault p p s f ≡ 0 → (p ≤ 31) × (p * s ≤ 126976) × ((p + 2) * (p * s) ≤ 4190208)
+numbers-most p s f e =
+    let q = numbers-of p p s f e in
+    let w = width-most p (q .0) in
+    let b = bytes-most p s w (q .2) in
+    (w, b .0, b .1)
+
+-- no refusal: the stripe is within the limits
+pub fault-none : (p s : ℕ) (t : List ℕ) → stripeFault p s t ≡ 0 → Sized p p s t
+fault-none p s t e =
+    let w = first-none (widthFault p) (firstOf (sizeFault s) (longFault (stripeLong p p s) t)) e in
+    let v = first-none (sizeFault s) (longFault (stripeLong p p s) t) (w .1) in
+    record {
+      widest = width-most p (width-of p (w .0));
+      disks = omega arith;
+      small = size-of s (v .0) .1;
+      long = long-of (stripeLong p p s) t (v .1);
+    }
+
+-- and has rows
+pub fault-some : (p s : ℕ) (t : List ℕ) → stripeFault p s t ≡ 0 → 0 < p
+fault-some p s t e =
+    let w = first-none (widthFault p) (firstOf (sizeFault s) (longFault (stripeLong p p s) t)) e in
+    omega (arith, width-least p (width-of p (w .0)))
+
+pub encode-refused : (p s n : ℕ) (t : List ℕ) (r : Answer) → n ≡ stripeFault p s t → (n ≡ 0 → ⊥) → Answers n r → allBytes t ≡ true → EncodeSays p s t t r
+encode-refused p s n t r e z a b =
+    record {
+      answer = answers-as n (stripeFault p s t) r e a;
+      stripe = pick-refused n (stripeFault p s t) (encoded p p s t) t e z;
+      bytes = b;
+    }
+
+-- P by the row sets, then Q by the diagonal sets
+both-kinds : (p s : ℕ) (t u v : List ℕ) → u ≡ followed p p s p (allOf p 0 0) t → v ≡ followed p p s (p + 1) (allOf p 1 0) u → v ≡ encoded p p s t
+unfolding encoded
+both-kinds p s t u v e q =
+    let o : p + 1 ≡ suc p = omega arith in
+    q
+    ∙ ap₂ (λ (f : ℕ) (l : List ℕ). followed p p s f (allOf p 1 0) l) o e
+    ∙ sym (ap₂ (λ (x y : List Step). followed p p s (suc p) y (followed p p s p x t)) (plan-row-parity p p) (plan-diagonal-parity p p))
+
+pub encode-done : (p s : ℕ) (t u v : List ℕ) (r : Answer) → stripeFault p s t ≡ 0 → u ≡ followed p p s p (allOf p 0 0) t → v ≡ followed p p s (p + 1) (allOf p 1 0) u → Answers 0 r → allBytes t ≡ true → EncodeSays p s t v r
+encode-done p s t u v r z e q a b =
+    record {
+      answer = answers-as 0 (stripeFault p s t) r (sym z) a;
+      stripe = both-kinds p s t u v e q ∙ pick-done (stripeFault p s t) (encoded p p s t) t z;
+      bytes = b;
+    }
+
+pub check-refused : (p s n : ℕ) (t : List ℕ) (a : Answer) → n ≡ stripeFault p s t → (n ≡ 0 → ⊥) → Answers n a → CheckSays p s t (record { answer = a; clean = false })
+check-refused p s n t a e z k = record { answer = answers-as n (stripeFault p s t) a e k; clean = and-refused n (stripeFault p s t) (clean p p s t) e z }
+
+-- not refused
+pub check-done : (p s : ℕ) (t : List ℕ) (a : Answer) (b : Bool) → stripeFault p s t ≡ 0 → Answers 0 a → b ≡ clean p p s t → CheckSays p s t (record { answer = a; clean = b })
+check-done p s t a b z k e = record { answer = answers-as 0 (stripeFault p s t) a (sym z) k; clean = e ∙ and-done (stripeFault p s t) (clean p p s t) z }
+
+-- clean if the sets of both kinds are: a row set is not, or the diagonal sets decide
+pub clean-rows : (p k s : ℕ) (t : List ℕ) (b : Bool) → b ≡ allTo p (λ i. setClean p k s t 0 i) → b ≡ false → false ≡ clean p k s t
+unfolding clean
+clean-rows p k s t b e f = sym (ap (λ (x : Bool). x && allTo p (λ i. setClean p k s t 1 i)) (sym e ∙ f))
+
+pub clean-both : (p k s : ℕ) (t : List ℕ) (b d : Bool) → b ≡ allTo p (λ i. setClean p k s t 0 i) → b ≡ true → d ≡ allTo p (λ i. setClean p k s t 1 i) → d ≡ clean p k s t
+unfolding clean
+clean-both p k s t b d e f q = q ∙ sym (ap (λ (x : Bool). x && allTo p (λ i. setClean p k s t 1 i)) (sym e ∙ f))

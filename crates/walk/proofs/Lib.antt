@@ -1,5 +1,0 @@
--- The laws behind the functions: marks toggled for the cells of sets, which disk the walk starts from, its steps, the first cell and the order of the disks.
-pub mod ToggleLaws
-pub mod RoleLaws
-pub mod StepLaws
-pub mod DiskLaws
