@@ -117,7 +117,7 @@ pub extern "C" fn cuzhaveli_step_run(
 ) -> Answer
     ensures { λ r. ⌜ StepSays (now (run .entry)) (now (run .exit)) which (now (stripe .entry)) (now (column .entry)) (now (column .exit)) r ⌝ }
 {
-    let r = runs::stepped(*run, which, stripe, column);
+    let r = runs::step_run(*run, which, stripe, column);
     *run = r.run;
     r.answer
 }
@@ -127,7 +127,7 @@ pub extern "C" fn cuzhaveli_step_run(
 pub extern "C" fn cuzhaveli_run_progress(run: &Run) -> Progress
     ensures { λ r. ⌜ ProgressSays (now (run .entry)) r ⌝ }
 {
-    runs::progress_of(*run)
+    runs::run_progress(*run)
 }
 
 // The bill of bytes read, with the rates of the three bands.

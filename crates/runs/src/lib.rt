@@ -75,7 +75,7 @@ fn step_fault(run: Run, which: u64, stripe: usize, column: usize) -> u8
 }
 
 // A step by value: rebuilds stripe `which` into the column and gives the record moved on by one. Refusals: 1, 2, 3, 5, 10; they leave column and record as they were.
-pub fn stepped(run: Run, which: u64, stripe: &[u8], column: &mut [u8]) -> RunAnswer
+pub fn step_run(run: Run, which: u64, stripe: &[u8], column: &mut [u8]) -> RunAnswer
     ensures { λ r. ⌜ StepSays run (r .run) which (now (stripe .entry)) (now (column .entry)) (now (column .exit)) (r .answer) ⌝ }
 {
     let number = step_fault(run, which, stripe.len(), column.len());
@@ -95,7 +95,7 @@ pub fn stepped(run: Run, which: u64, stripe: &[u8], column: &mut [u8]) -> RunAns
 }
 
 // How far a run is. Refusals: 1, 2, 3.
-pub fn progress_of(run: Run) -> Progress
+pub fn run_progress(run: Run) -> Progress
     ensures { λ r. ⌜ ProgressSays run r ⌝ }
 {
     let fault = refusals::numbers_fault(run.width, run.width, run.size, run.disk);

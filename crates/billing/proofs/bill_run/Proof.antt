@@ -5,8 +5,8 @@ use Rattle.billing.proofs.RunLaws.{bytes-fit, run-refused, run-billed}
 use Rattle.billing.proofs.bill_run.Statement.{statement}
 use Rattle.billing.proofs.bill_run.Tie as tie
 
-progress-of-requires : tie.Need-progress-of-requires
-progress-of-requires c κs = search needs
+run-progress-requires : tie.Need-run-progress-requires
+run-progress-requires c κs = search needs
 
 refused-bill-requires : tie.Need-refused-bill-requires
 refused-bill-requires c κs = search needs
@@ -14,14 +14,14 @@ refused-bill-requires c κs = search needs
 returns : tie.Need-returns
 returns c =
     let i = c .before in
-    let g = i .before .before .before .progress-of in
+    let g = i .before .before .before .run-progress in
     let a = i .before .before .before .before .args in
     run-refused (a .run) (a .first) (a .second) (a .third) (g .result) (c .refused-bill .result) (g .ensures) (i .if1 .taken) (c .refused-bill .ensures)
 
 mul-bill-bytes : tie.Need-mul-bill-bytes
 mul-bill-bytes c =
     let i = c .before in
-    let g = i .before .before .before .progress-of in
+    let g = i .before .before .before .run-progress in
     omega (arith, bytes-fit (i .before .before .before .before .args .run) (g .result) (g .ensures) (i .if1 .left))
 
 bill-bytes-requires : tie.Need-bill-bytes-requires
@@ -30,9 +30,9 @@ bill-bytes-requires c κs = search needs
 returns-2 : tie.Need-returns-2
 returns-2 c =
     let i = c .before .before in
-    let g = i .before .before .before .progress-of in
+    let g = i .before .before .before .run-progress in
     let a = i .before .before .before .before .args in
     run-billed (a .run) (g .result) (g .ensures) (i .if1 .left) (a .first) (a .second) (a .third) (c .bill-bytes .result) (c .bill-bytes .ensures)
 
 pub bill-run-spec : {M : Type 1} → statement M
-bill-run-spec = tie.close (tie.spec progress-of-requires refused-bill-requires returns mul-bill-bytes bill-bytes-requires returns-2)
+bill-run-spec = tie.close (tie.spec run-progress-requires refused-bill-requires returns mul-bill-bytes bill-bytes-requires returns-2)

@@ -1,12 +1,12 @@
--- `progress_of`: a refusal, else whether the run is over and next × our plan's count, a product that fits.
+-- `run_progress`: a refusal, else whether the run is over and next × our plan's count, a product that fits.
 use mathlib.Core.Path.{_≡_, refl, sym, ap, _∙_}
 use Prim.Native.Nat.{ℕ, _*_, _^_, _<_}
 use native.Mathlib.Omega.{arith}
 use borrow.Author.Needs.{needs}
 use Rattle.runs.specs.Runs.{runFault}
 use Rattle.runs.proofs.RunRefusals.{progress-refused, reads-are, progress-done, product-fits}
-use Rattle.runs.proofs.progress_of.Statement.{statement}
-use Rattle.runs.proofs.progress_of.Tie as tie
+use Rattle.runs.proofs.run_progress.Statement.{statement}
+use Rattle.runs.proofs.run_progress.Tie as tie
 
 numbers-fault-requires : tie.Need-numbers-fault-requires
 numbers-fault-requires c κs = search needs
@@ -51,5 +51,5 @@ returns-2 c =
     let z : runFault x ≡ 0 = sym (e .before .numbers-fault .ensures) ∙ e .if1 .left in
     progress-done x (n .answered2 .result) _ (x .next * r .reads) z (n .answered2 .ensures) (small c) refl (ap (λ (n : ℕ). x .next * n) (reads-are x r z (i .plan-disk .ensures)))
 
-pub progress-of-spec : {M : Type 1} → statement M
-progress-of-spec = tie.close (tie.spec numbers-fault-requires answered-requires returns plan-disk-requires answered-requires-2 cast-t7 cast-t8 mul-t9 returns-2)
+pub run-progress-spec : {M : Type 1} → statement M
+run-progress-spec = tie.close (tie.spec numbers-fault-requires answered-requires returns plan-disk-requires answered-requires-2 cast-t7 cast-t8 mul-t9 returns-2)

@@ -1,12 +1,12 @@
--- `stepped`: a refusal leaves record and column; else the stripe is rebuilt into the column and the record moves on by one.
+-- `step_run`: a refusal leaves record and column; else the stripe is rebuilt into the column and the record moves on by one.
 use mathlib.Core.Path.{_≡_, sym, _∙_}
 use native.Mathlib.Omega.{arith}
 use borrow.Author.Needs.{needs}
 use Rattle.xor.proofs.SourceLaws.{bytes-all}
 use Rattle.runs.specs.Runs.{stepFault}
 use Rattle.runs.proofs.RunRefusals.{not-over, step-refused, step-done}
-use Rattle.runs.proofs.stepped.Statement.{statement}
-use Rattle.runs.proofs.stepped.Tie as tie
+use Rattle.runs.proofs.step_run.Statement.{statement}
+use Rattle.runs.proofs.step_run.Tie as tie
 
 -- past the refusals
 passed : (c : tie.Else1) → let a = c .before .before .before .before .args in stepFault (a .run) (a .which) (a .stripe .now) (a .column .now) ≡ 0
@@ -44,5 +44,5 @@ returns-2 c =
     let a = i .before .before .before .before .args in
     step-done (a .run) (a .which) (a .stripe .now) (a .column .now) (r .rebuild-one .last .1 .1 .1 .1 .0) (r .rebuild-one .result) (passed i) (r .rebuild-one .ensures)
 
-pub stepped-spec : {M : Type 1} → statement M
-stepped-spec = tie.close (tie.spec step-fault-requires answered-requires returns rebuild-one-requires add-moved same-length returns-2)
+pub step-run-spec : {M : Type 1} → statement M
+step-run-spec = tie.close (tie.spec step-fault-requires answered-requires returns rebuild-one-requires add-moved same-length returns-2)
