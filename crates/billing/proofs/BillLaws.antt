@@ -4,8 +4,8 @@ use mathlib.Core.Bool.{Bool, true, false, _||_}
 use Prim.Native.Nat.{ℕ, _+_, _-_, _*_, _/_, _^_, _≤_, _<_}
 use native.Mathlib.Nat.{mul-le-mul-left, mod-lt, div-add-mod'}
 use native.Mathlib.Omega.{arith}
-use lib.Dec.{eqb, leb, ltb}
-use borrow.Author.Tests.{leb-true, leb-false, ltb-false, ne-eqb}
+use lib.Dec.{leb, ltb}
+use borrow.Author.Tests.{leb-true, leb-false, ltb-false}
 use Rattle.laws.specs.Choice.{pick, when, firstOf}
 use Rattle.laws.proofs.Flags.{or-false-l, or-false-r}
 use Rattle.laws.proofs.ChoiceLaws.{first-none, when-none, pick-refused, pick-done}

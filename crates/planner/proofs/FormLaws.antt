@@ -1,5 +1,5 @@
 -- The record of an accepted plan holds the defined plan, and so does the record put into the judge's form, three bytes a step; the ones of the read list are as many as the count says.
-use mathlib.Core.Path.{_≡_, sym, _∙_}
+use mathlib.Core.Path.{_≡_, _∙_}
 use mathlib.Core.Bool.{true}
 use mathlib.Core.List.{List}
 use Prim.Native.Nat.{ℕ, _+_, _*_, _≤_}

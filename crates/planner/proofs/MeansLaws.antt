@@ -2,8 +2,8 @@
 use mathlib.Core.Path.{_≡_, refl, sym, ap, subst, _∙_}
 use mathlib.Core.Bool.{Bool, true, false}
 use mathlib.Core.Logic.{⊎-elim}
-use mathlib.Core.List.{List, [], _∷_}
-use Prim.Native.Nat.{ℕ, zero, suc, _+_, _*_, _≤_, _<_}
+use mathlib.Core.List.{List}
+use Prim.Native.Nat.{ℕ, zero, suc, _+_, _*_, _≤_}
 use native.Mathlib.Omega.{arith}
 use lib.Count.{ones}
 use lib.Dec.{eqb}
@@ -13,7 +13,7 @@ use Rattle.laws.specs.Sums.{total, onesIn}
 use Rattle.laws.proofs.ChoiceLaws.{first-none}
 use Rattle.laws.proofs.Modulo.{lt-or-le}
 use Rattle.liberation.specs.Sets.{isWidth, planFault, longFault}
-use Rattle.liberation.specs.Plans.{Step, planOf, routeWord, cellsRead, readCount, marksFrom, readList}
+use Rattle.liberation.specs.Plans.{planOf, routeWord, cellsRead, readCount, marksFrom, readList}
 use Rattle.liberation.specs.Claims.{diagonalsUsed}
 use Rattle.liberation.proofs.Widths.{width-least, width-odd}
 use Rattle.liberation.proofs.FaultLaws.{plan-of}

@@ -1,5 +1,5 @@
 -- The promise of `rebuild_one`: its refusals 1, 2, 3 and 5 in this order, which leave the column as it was, and the accepted call.
-use mathlib.Core.Path.{_≡_, sym, ap, ap₂, _∙_}
+use mathlib.Core.Path.{_≡_, sym, _∙_}
 use mathlib.Core.Bool.{Bool, true, not}
 use mathlib.Core.List.{List}
 use Prim.Native.Nat.{ℕ, _+_, _*_, _≤_, _<_}
@@ -15,11 +15,6 @@ use Rattle.refusals.specs.declared.Answer.{Answer}
 use Rattle.refusals.specs.Answers.{Answers}
 use Rattle.refusals.proofs.AnswerLaws.{answers-as}
 use Rattle.rebuild_one.specs.Says.{lengthsFault, oneFault, OneSays}
-
--- the refusal from the tests of the lengths, where numbers and disk are accepted
-pub lengths-are : (p s f n m : ℕ) (a b : Bool) → numbersFault p p s f ≡ 0 → eqb n (stripeLong p p s) ≡ a → eqb m (p * s) ≡ b → firstOf (when (not a) 5) (when (not b) 5) ≡ lengthsFault p s f n m
-lengths-are p s f n m a b z x y =
-    sym (ap (λ (u : ℕ). firstOf u (firstOf (when (not (eqb n (stripeLong p p s))) 5) (when (not (eqb m (p * s))) 5))) z ∙ ap₂ (λ (u v : Bool). firstOf (when (not u) 5) (when (not v) 5)) x y)
 
 -- none of the refusals: all is within the limits and the lengths are those required
 pub record Fit (p s f n m : ℕ) : Type 0 where

@@ -90,13 +90,11 @@ pub fn one_fault(width: usize, size: usize, disk: usize, stripe: usize, column: 
     if fault != 0 {
         return fault;
     }
-    if stripe != (width + 2) * (width * size) {
-        return 5;
+    let short = refusals::length_fault(stripe, (width + 2) * (width * size));
+    if short != 0 {
+        return short;
     }
-    if column != width * size {
-        return 5;
-    }
-    0
+    refusals::length_fault(column, width * size)
 }
 
 // Rebuilds one lost disk into the column. Refusals: 1, 2, 3, 5; a refused call leaves the column as it was.

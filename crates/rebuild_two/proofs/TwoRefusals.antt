@@ -1,6 +1,6 @@
 -- Refusals 1 to 5 of `rebuild_two`, and its promise from what was refused or done.
-use mathlib.Core.Path.{_≡_, sym, ap, ap₂, _∙_}
-use mathlib.Core.Bool.{Bool, true, not}
+use mathlib.Core.Path.{_≡_, sym, _∙_}
+use mathlib.Core.Bool.{true, not}
 use mathlib.Core.List.{List}
 use Prim.Native.Nat.{ℕ, _+_, _%_, _≤_}
 use native.Mathlib.Omega.{arith}
@@ -19,14 +19,6 @@ use Rattle.liberation_stripes.specs.Stripes.{stripeLong}
 use Rattle.liberation_pairs.specs.Pairs.{pairSolved}
 use Rattle.stripes.specs.Cells.{Sized}
 use Rattle.rebuild_two.specs.Says.{twoFault, TwoSays}
-
--- the refusal from the tests after the numbers and the first disk, which are accepted
-pub fault-is : (p s a b n : ℕ) (g e m : Bool) → numbersFault p p s a ≡ 0 → ltb (p + 1) b ≡ g → eqb a b ≡ e → eqb n (stripeLong p p s) ≡ m
-    → firstOf (when g 3) (firstOf (when e 4) (when (not m) 5)) ≡ firstOf (numbersFault p p s a) (firstOf (diskFault p b) (firstOf (when (eqb a b) 4) (when (not (eqb n (stripeLong p p s))) 5)))
-fault-is p s a b n g e m z eg ee em =
-    sym
-    (ap₂ (λ (i : ℕ) (j : Bool). firstOf i (firstOf (when j 3) (firstOf (when (eqb a b) 4) (when (not (eqb n (stripeLong p p s))) 5)))) z eg
-    ∙ ap₂ (λ (i j : Bool). firstOf (when g 3) (firstOf (when i 4) (when (not j) 5))) ee em)
 
 -- what a call that is not refused has
 pub record Accepted (p s a b : ℕ) (t : List ℕ) : Type 0 where

@@ -16,16 +16,14 @@ fn two_fault(width: usize, size: usize, first: usize, second: usize, long: usize
     if fault != 0 {
         return fault;
     }
-    if width + 1 < second {
-        return 3;
+    let other = refusals::disk_fault(width, second);
+    if other != 0 {
+        return other;
     }
     if first == second {
         return 4;
     }
-    if long != (width + 2) * (width * size) {
-        return 5;
-    }
-    0
+    refusals::length_fault(long, (width + 2) * (width * size))
 }
 
 // Rebuilds two lost disks in place. Refusals: 1 to 5; a refused call leaves the stripe as it was.

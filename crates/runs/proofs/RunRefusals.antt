@@ -1,6 +1,6 @@
 -- The promises of opening, stepping and reading a run, from what was refused or done.
-use mathlib.Core.Path.{_≡_, refl, sym, ap, ap₂, _∙_}
-use mathlib.Core.Bool.{Bool, true, false, _&&_, _||_, not}
+use mathlib.Core.Path.{_≡_, sym, ap, ap₂, _∙_}
+use mathlib.Core.Bool.{Bool, true, false, _||_, not}
 use mathlib.Core.Logic.{⊎-elim}
 use mathlib.Core.List.{List}
 use Prim.Native.Nat.{ℕ, suc, _+_, _*_, _≤_, _<_, _^_}
@@ -26,7 +26,7 @@ use Rattle.planner.specs.declared.Plan.{Plan}
 use Rattle.planner.specs.Says.{PlanSays}
 use Rattle.rebuild_one.specs.Says.{lengthsFault, oneFault, OneSays}
 use Rattle.runs.specs.declared.Run.{Run}
-use Rattle.runs.specs.Runs.{opened, noRun, isOver, cellsSoFar, runFault, nextFault, stepLengthsFault, stepFault, stepOk, moved, runColumn, OpenSays, StepSays, ProgressSays}
+use Rattle.runs.specs.Runs.{opened, noRun, isOver, cellsSoFar, runFault, nextFault, stepLengthsFault, stepFault, moved, runColumn, OpenSays, StepSays, ProgressSays}
 
 pub open-refused : (p s f n m : ℕ) (a : Answer) → m ≡ numbersFault p p s f → (m ≡ 0 → ⊥) → Answers m a → OpenSays p s f n (record { answer = a; run = noRun })
 open-refused p s f n m a e z k =

@@ -1,19 +1,17 @@
 -- Refusals 1, 2 and 5 of a call on a stripe, and the promises of the calls from what was refused or done.
-use mathlib.Core.Path.{_≡_, refl, sym, ap, ap₂, _∙_}
-use mathlib.Core.Bool.{Bool, true, false, _&&_, _||_, not}
+use mathlib.Core.Path.{_≡_, sym, ap, ap₂, _∙_}
+use mathlib.Core.Bool.{Bool, true, false, _&&_, not}
 use mathlib.Core.List.{List}
 use Prim.Native.Nat.{ℕ, suc, _+_, _*_, _≤_, _<_}
 use native.Mathlib.Nat.{mul-le-mul}
 use native.Mathlib.Omega.{arith}
-use lib.Dec.{eqb, ltb}
+use lib.Dec.{eqb}
 use lib.ListN.{length}
-use borrow.Author.Tests.{ne-eqb, eq-eqb, ltb-false, eqb-true, not-false}
-use Rattle.laws.specs.Choice.{pick, when, firstOf}
+use Rattle.laws.specs.Choice.{when, firstOf}
 use Rattle.laws.specs.Sums.{allTo}
 use Rattle.laws.specs.Xor.{allBytes}
-use Rattle.laws.proofs.Flags.{or-false-r}
-use Rattle.laws.proofs.ChoiceLaws.{first-none, first-kept, first-assoc, pick-refused, pick-done, and-refused, and-done}
-use Rattle.liberation.specs.Sets.{isWidth, widthFault, longFault, sizeFault, numbersFault}
+use Rattle.laws.proofs.ChoiceLaws.{first-none, first-kept, first-next, first-assoc, pick-refused, pick-done, and-refused, and-done}
+use Rattle.liberation.specs.Sets.{widthFault, longFault, sizeFault, numbersFault}
 use Rattle.liberation.specs.Plans.{Step, allOf}
 use Rattle.liberation.proofs.Widths.{width-least, width-most}
 use Rattle.liberation.proofs.FaultLaws.{width-of, size-of, long-of, numbers-of, numbers-first}
@@ -25,12 +23,9 @@ use Rattle.liberation_stripes.specs.Stripes.{stripeLong, encoded, followed, cle
 use Rattle.stripes.specs.Cells.{Sized}
 use Rattle.stripes.specs.Says.{stripeFault, EncodeSays, CheckSays}
 
--- the refusal from the test of the length, where the numbers are accepted
-pub fault-is : (p s n : ℕ) (e : Bool) → numbersFault p p s 0 ≡ 0 → eqb n (stripeLong p p s) ≡ e → when (not e) 5 ≡ firstOf (widthFault p) (firstOf (sizeFault s) (when (not (eqb n (stripeLong p p s))) 5))
-fault-is p s n e z q =
-    sym
-    (sym (first-assoc (widthFault p) (sizeFault s) (when (not (eqb n (stripeLong p p s))) 5))
-    ∙ ap₂ (λ (a : ℕ) (b : Bool). firstOf a (when (not b) 5)) (sym (numbers-first p p s) ∙ z) q)
+-- the refusal is that of the length where the numbers are accepted
+pub fault-last : (p s n m : ℕ) → numbersFault p p s 0 ≡ 0 → m ≡ when (not (eqb n (stripeLong p p s))) 5 → m ≡ firstOf (widthFault p) (firstOf (sizeFault s) (when (not (eqb n (stripeLong p p s))) 5))
+fault-last p s n m z e = first-next m (firstOf (widthFault p) (sizeFault s)) (when (not (eqb n (stripeLong p p s))) 5) (sym (numbers-first p p s) ∙ z) e ∙ first-assoc (widthFault p) (sizeFault s) (when (not (eqb n (stripeLong p p s))) 5)
 
 -- and where they are not
 pub fault-first : (p s n m : ℕ) → m ≡ numbersFault p p s 0 → (m ≡ 0 → ⊥) → m ≡ firstOf (widthFault p) (firstOf (sizeFault s) (when (not (eqb n (stripeLong p p s))) 5))

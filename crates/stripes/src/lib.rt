@@ -289,10 +289,7 @@ fn stripe_fault(width: usize, size: usize, long: usize) -> u8
     if fault != 0 {
         return fault;
     }
-    if long != (width + 2) * (width * size) {
-        return 5;
-    }
-    0
+    refusals::length_fault(long, (width + 2) * (width * size))
 }
 
 // Writes P and Q of a stripe. Refusals: 1, 2, 5; a refused call leaves the stripe as it was.

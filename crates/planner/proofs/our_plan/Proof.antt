@@ -1,5 +1,5 @@
 -- `our_plan`: a data disk takes its routes' steps, P all row sets, Q all diagonals.
-use mathlib.Core.Path.{sym, _∙_}
+use mathlib.Core.Path.{_∙_}
 use native.Mathlib.Omega.{arith}
 use borrow.Author.Needs.{needs}
 use Rattle.liberation.proofs.Widths.{width-most}

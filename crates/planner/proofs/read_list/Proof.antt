@@ -1,5 +1,5 @@
 -- `read_list`: refusals 1, 3 and 5 in this order leave the list as it was; else it is cleared, and the cells that our plan reads are marked.
-use mathlib.Core.Path.{_≡_, refl, sym, ap, _∙_}
+use mathlib.Core.Path.{_≡_, sym, ap, _∙_}
 use mathlib.Core.Bool.{true}
 use Prim.Native.Nat.{ℕ, _+_, _≤_}
 use native.Mathlib.Omega.{arith}

@@ -1,14 +1,11 @@
 -- `one_fault`: refusals 1, 2 and 3, then 5 for the stripe and for the column.
-use mathlib.Core.Path.{_≡_, refl, sym, _∙_}
-use mathlib.Core.Bool.{true, false}
+use mathlib.Core.Path.{_≡_, sym, _∙_}
 use Prim.Native.Nat.{_+_, _*_, _≤_}
 use native.Mathlib.Omega.{arith}
-use borrow.Author.Tests.{eq-eqb, ne-eqb}
 use borrow.Author.Needs.{needs}
-use Rattle.laws.proofs.ChoiceLaws.{first-kept}
+use Rattle.laws.proofs.ChoiceLaws.{first-kept, first-next}
 use Rattle.liberation.specs.Sets.{numbersFault}
 use Rattle.stripes.proofs.StripeRefusals.{numbers-most}
-use Rattle.rebuild_one.proofs.OneRefusals.{lengths-are}
 use Rattle.rebuild_one.proofs.one_fault.Statement.{statement}
 use Rattle.rebuild_one.proofs.one_fault.Tie as tie
 
@@ -29,34 +26,38 @@ returns c =
     let a = c .before .before .args in
     first-kept (f .result) (numbersFault (a .width) (a .width) (a .size) (a .disk)) _ (f .ensures) (c .if1 .taken)
 
-add-if2 : tie.Need-add-if2
-add-if2 c = omega (arith, most c)
+add-length-fault : tie.Need-add-length-fault
+add-length-fault c = omega (arith, most c)
 
-mul-if2 : tie.Need-mul-if2
-mul-if2 c = omega (arith, most c)
+mul-length-fault : tie.Need-mul-length-fault
+mul-length-fault c = omega (arith, most c)
 
-mul-if2-2 : tie.Need-mul-if2-2
-mul-if2-2 c = omega (arith, most c)
+mul-length-fault-2 : tie.Need-mul-length-fault-2
+mul-length-fault-2 c = omega (arith, most c)
+
+length-fault-requires : tie.Need-length-fault-requires
+length-fault-requires c κs = search needs
 
 returns-2 : tie.Need-returns-2
 returns-2 c =
-    let a = c .before .before .before .args in
-    lengths-are (a .width) (a .size) (a .disk) (a .stripe) (a .column) false _ (fine (c .before)) (ne-eqb (a .stripe) _ (c .if2 .taken)) refl
+    let k = c .before in
+    let e = k .before in
+    let a = e .before .before .args in
+    first-next _ (numbersFault (a .width) (a .width) (a .size) (a .disk)) _ (fine e) (first-kept _ _ _ (k .length-fault .ensures) (c .if2 .taken))
 
-mul-if3 : tie.Need-mul-if3
-mul-if3 c = omega (arith, most (c .before))
+mul-length-fault-3 : tie.Need-mul-length-fault-3
+mul-length-fault-3 c = omega (arith, most (c .before .before))
+
+length-fault-requires-2 : tie.Need-length-fault-requires-2
+length-fault-requires-2 c κs = search needs
 
 returns-3 : tie.Need-returns-3
 returns-3 c =
-    let e = c .before in
-    let a = e .before .before .before .args in
-    lengths-are (a .width) (a .size) (a .disk) (a .stripe) (a .column) true false (fine (e .before)) (eq-eqb (a .stripe) _ (e .if2 .left)) (ne-eqb (a .column) _ (c .if3 .taken))
-
-returns-4 : tie.Need-returns-4
-returns-4 c =
-    let e = c .before in
-    let a = e .before .before .before .args in
-    lengths-are (a .width) (a .size) (a .disk) (a .stripe) (a .column) true true (fine (e .before)) (eq-eqb (a .stripe) _ (e .if2 .left)) (eq-eqb (a .column) _ (c .if3 .left))
+    let i = c .before in
+    let k = i .before in
+    let e = k .before in
+    let a = e .before .before .args in
+    first-next _ (numbersFault (a .width) (a .width) (a .size) (a .disk)) _ (fine e) (first-next _ _ _ (sym (k .length-fault .ensures) ∙ i .if2 .left) (c .length-fault2 .ensures))
 
 pub one-fault-spec : {M : Type 1} → statement M
-one-fault-spec = tie.close (tie.spec numbers-fault-requires returns add-if2 mul-if2 mul-if2-2 returns-2 mul-if3 returns-3 returns-4)
+one-fault-spec = tie.close (tie.spec numbers-fault-requires returns add-length-fault mul-length-fault mul-length-fault-2 length-fault-requires returns-2 mul-length-fault-3 length-fault-requires-2 returns-3)

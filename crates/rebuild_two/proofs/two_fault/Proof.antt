@@ -1,14 +1,16 @@
 -- `two_fault`: refusals 1, 2 and 3 for the first disk, 3 for the second, then 4 and 5.
-use mathlib.Core.Path.{_≡_, refl, sym, _∙_}
-use mathlib.Core.Bool.{true, false}
-use Prim.Native.Nat.{_+_, _*_, _≤_}
+use mathlib.Core.Path.{_≡_, sym, ap, _∙_}
+use mathlib.Core.Bool.{Bool, not}
+use Prim.Native.Nat.{ℕ, _+_, _*_, _≤_}
 use native.Mathlib.Omega.{arith}
-use borrow.Author.Tests.{eq-eqb, ne-eqb, lt-ltb, le-ltb}
+use lib.Dec.{eqb}
+use borrow.Author.Tests.{eq-eqb, ne-eqb}
 use borrow.Author.Needs.{needs}
-use Rattle.laws.proofs.ChoiceLaws.{first-kept}
-use Rattle.liberation.specs.Sets.{numbersFault}
+use Rattle.laws.proofs.ChoiceLaws.{first-kept, first-next}
+use Rattle.laws.specs.Choice.{when, firstOf}
+use Rattle.liberation.specs.Sets.{numbersFault, diskFault}
+use Rattle.liberation_stripes.specs.Stripes.{stripeLong}
 use Rattle.stripes.proofs.StripeRefusals.{numbers-most}
-use Rattle.rebuild_two.proofs.TwoRefusals.{fault-is}
 use Rattle.rebuild_two.proofs.two_fault.Statement.{statement}
 use Rattle.rebuild_two.proofs.two_fault.Tie as tie
 
@@ -29,40 +31,48 @@ returns c =
     let a = c .before .before .args in
     first-kept (f .result) (numbersFault (a .width) (a .width) (a .size) (a .first)) _ (f .ensures) (c .if1 .taken)
 
-add-if2 : tie.Need-add-if2
-add-if2 c = omega (arith, most c)
+disk-fault-requires : tie.Need-disk-fault-requires
+disk-fault-requires c κs = search needs
 
 returns-2 : tie.Need-returns-2
 returns-2 c =
-    let a = c .before .before .before .args in
-    fault-is (a .width) (a .size) (a .first) (a .second) (a .long) true _ _ (fine (c .before)) (lt-ltb (a .width + 1) (a .second) (c .if2 .taken)) refl refl
+    let k = c .before in
+    let e = k .before in
+    let a = e .before .before .args in
+    first-next _ (numbersFault (a .width) (a .width) (a .size) (a .first)) _ (fine e) (first-kept _ _ _ (k .disk-fault .ensures) (c .if2 .taken))
+
+-- past refusal 3 for the second disk, what follows decides
+after : (c : tie.Else2) (n m : ℕ) → let a = c .before .before .before .before .args in n ≡ m → n ≡ firstOf (numbersFault (a .width) (a .width) (a .size) (a .first)) (firstOf (diskFault (a .width) (a .second)) m)
+after c n m q =
+    let k = c .before in
+    let e = k .before in
+    let a = e .before .before .args in
+    first-next n (numbersFault (a .width) (a .width) (a .size) (a .first)) (firstOf (diskFault (a .width) (a .second)) m) (fine e) (first-next n (diskFault (a .width) (a .second)) m (sym (k .disk-fault .ensures) ∙ c .if2 .left) q)
 
 returns-3 : tie.Need-returns-3
 returns-3 c =
-    let e = c .before .before in
-    let a = e .before .before .args in
-    fault-is (a .width) (a .size) (a .first) (a .second) (a .long) false true _ (fine e) (le-ltb (a .width + 1) (a .second) (c .before .if2 .left)) (eq-eqb (a .first) (a .second) (c .if3 .taken)) refl
+    let e = c .before in
+    let a = e .before .before .before .before .args in
+    after e 4 _ (sym (ap (λ (b : Bool). firstOf (when b 4) (when (not (eqb (a .long) (stripeLong (a .width) (a .width) (a .size)))) 5)) (eq-eqb (a .first) (a .second) (c .if3 .taken))))
 
-add-if4 : tie.Need-add-if4
-add-if4 c = omega (arith, most (c .before .before))
+add-length-fault : tie.Need-add-length-fault
+add-length-fault c = omega (arith, most (c .before .before .before))
 
-mul-if4 : tie.Need-mul-if4
-mul-if4 c = omega (arith, most (c .before .before))
+mul-length-fault : tie.Need-mul-length-fault
+mul-length-fault c = omega (arith, most (c .before .before .before))
 
-mul-if4-2 : tie.Need-mul-if4-2
-mul-if4-2 c = omega (arith, most (c .before .before))
+mul-length-fault-2 : tie.Need-mul-length-fault-2
+mul-length-fault-2 c = omega (arith, most (c .before .before .before))
+
+length-fault-requires : tie.Need-length-fault-requires
+length-fault-requires c κs = search needs
 
 returns-4 : tie.Need-returns-4
 returns-4 c =
-    let e = c .before .before .before in
-    let a = e .before .before .args in
-    fault-is (a .width) (a .size) (a .first) (a .second) (a .long) false false false (fine e) (le-ltb (a .width + 1) (a .second) (c .before .before .if2 .left)) (ne-eqb (a .first) (a .second) (c .before .if3 .left)) (ne-eqb (a .long) _ (c .if4 .taken))
-
-returns-5 : tie.Need-returns-5
-returns-5 c =
-    let e = c .before .before .before in
-    let a = e .before .before .args in
-    fault-is (a .width) (a .size) (a .first) (a .second) (a .long) false false true (fine e) (le-ltb (a .width + 1) (a .second) (c .before .before .if2 .left)) (ne-eqb (a .first) (a .second) (c .before .if3 .left)) (eq-eqb (a .long) _ (c .if4 .left))
+    let t = c .before in
+    let e = t .before in
+    let a = e .before .before .before .before .args in
+    after e (c .length-fault .result) _ (first-next (c .length-fault .result) (when (eqb (a .first) (a .second)) 4) _ (ap (λ (b : Bool). when b 4) (ne-eqb (a .first) (a .second) (t .if3 .left))) (c .length-fault .ensures))
 
 pub two-fault-spec : {M : Type 1} → statement M
 two-fault-spec =
@@ -70,11 +80,11 @@ two-fault-spec =
     (tie.spec
     numbers-fault-requires
     returns
-    add-if2
+    disk-fault-requires
     returns-2
     returns-3
-    add-if4
-    mul-if4
-    mul-if4-2
-    returns-4
-    returns-5)
+    add-length-fault
+    mul-length-fault
+    mul-length-fault-2
+    length-fault-requires
+    returns-4)

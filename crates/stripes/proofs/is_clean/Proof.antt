@@ -1,5 +1,4 @@
 -- `is_clean`: the sets of both kinds, the diagonals only where all rows are clean.
-use mathlib.Core.Path.{_≡_}
 use borrow.Author.Tests.{not-true, not-false}
 use borrow.Author.Needs.{needs}
 use Rattle.stripes.proofs.StripeRefusals.{clean-rows, clean-both}

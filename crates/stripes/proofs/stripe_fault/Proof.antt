@@ -1,12 +1,10 @@
 -- `stripe_fault`: refusals 1 and 2, then 5.
 use mathlib.Core.Path.{_≡_, sym, _∙_}
-use mathlib.Core.Bool.{true, false}
 use Prim.Native.Nat.{_+_, _*_, _≤_}
 use native.Mathlib.Omega.{arith}
 use borrow.Author.Needs.{needs}
-use borrow.Author.Tests.{eq-eqb, ne-eqb}
 use Rattle.liberation.specs.Sets.{numbersFault}
-use Rattle.stripes.proofs.StripeRefusals.{fault-is, fault-first, numbers-most}
+use Rattle.stripes.proofs.StripeRefusals.{fault-first, fault-last, numbers-most}
 use Rattle.stripes.proofs.stripe_fault.Statement.{statement}
 use Rattle.stripes.proofs.stripe_fault.Tie as tie
 
@@ -27,24 +25,23 @@ returns c =
     let a = c .before .before .args in
     fault-first (a .width) (a .size) (a .long) (f .result) (f .ensures) (c .if1 .taken)
 
-add-if2 : tie.Need-add-if2
-add-if2 c = omega (arith, most c)
+add-length-fault : tie.Need-add-length-fault
+add-length-fault c = omega (arith, most c)
 
-mul-if2 : tie.Need-mul-if2
-mul-if2 c = omega (arith, most c)
+mul-length-fault : tie.Need-mul-length-fault
+mul-length-fault c = omega (arith, most c)
 
-mul-if2-2 : tie.Need-mul-if2-2
-mul-if2-2 c = omega (arith, most c)
+mul-length-fault-2 : tie.Need-mul-length-fault-2
+mul-length-fault-2 c = omega (arith, most c)
+
+length-fault-requires : tie.Need-length-fault-requires
+length-fault-requires c κs = search needs
 
 returns-2 : tie.Need-returns-2
 returns-2 c =
-    let a = c .before .before .before .args in
-    fault-is (a .width) (a .size) (a .long) false (fine (c .before)) (ne-eqb (a .long) _ (c .if2 .taken))
-
-returns-3 : tie.Need-returns-3
-returns-3 c =
-    let a = c .before .before .before .args in
-    fault-is (a .width) (a .size) (a .long) true (fine (c .before)) (eq-eqb (a .long) _ (c .if2 .left))
+    let e = c .before in
+    let a = e .before .before .args in
+    fault-last (a .width) (a .size) (a .long) (c .length-fault .result) (fine e) (c .length-fault .ensures)
 
 pub stripe-fault-spec : {M : Type 1} → statement M
-stripe-fault-spec = tie.close (tie.spec numbers-fault-requires returns add-if2 mul-if2 mul-if2-2 returns-2 returns-3)
+stripe-fault-spec = tie.close (tie.spec numbers-fault-requires returns add-length-fault mul-length-fault mul-length-fault-2 length-fault-requires returns-2)
