@@ -13,7 +13,7 @@ ghost use Rattle.liberation.specs.Sets.{place, setOf, lostIn};
 ghost use Rattle.liberation_stripes.specs.Stripes.{withColumn, without, solved, stripeLong, rebuilt};
 ghost use Rattle.sets.specs.Limits.{Within};
 ghost use Rattle.rebuild_one.specs.Cells.{Ready, Ours};
-ghost use Rattle.rebuild_one.specs.Says.{lengthsFault, OneSays};
+ghost use Rattle.rebuild_one.specs.Says.{lengthsFault, oneFault, OneSays};
 
 // The row of the set's other cell on the lost disk, the width if there is none. Only a diagonal whose extra cell is on that disk has two cells there: the extra one and an ordinary one.
 fn other_row(width: usize, disk: usize, row: usize, kind: usize, number: usize) -> usize
@@ -97,6 +97,16 @@ pub fn one_fault(width: usize, size: usize, disk: usize, stripe: usize, column: 
     refusals::length_fault(column, width * size)
 }
 
+// Makes our plan and follows it, where a call on these slices is not refused: for callers that have tested that.
+pub fn rebuild_column(width: usize, size: usize, disk: usize, stripe: &[u8], column: &mut [u8])
+    requires { ⌜ oneFault width size disk (now stripe) (now column) ≡ 0 ⌝ }
+    ensures { λ _. ⌜ now (column .exit) ≡ rebuilt width width size disk (now (stripe .entry)) ⌝ }
+{
+    let plan = planner::plan_steps(width, disk);
+    let steps = plan.steps;
+    follow(width, size, disk, steps, stripe, column);
+}
+
 // Rebuilds one lost disk into the column. Refusals: 1, 2, 3, 5; a refused call leaves the column as it was.
 pub fn rebuild_one(
     width: usize,
@@ -111,8 +121,6 @@ pub fn rebuild_one(
     if refusal != 0 {
         return refusals::answered(refusal);
     }
-    let plan = planner::plan_steps(width, disk);
-    let steps = plan.steps;
-    follow(width, size, disk, steps, stripe, column);
+    rebuild_column(width, size, disk, stripe, column);
     refusals::answered(0)
 }

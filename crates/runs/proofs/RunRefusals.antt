@@ -62,22 +62,25 @@ step-refused x i n t o a e z k b =
       bytes = b;
     }
 
--- no refusal: the rebuild of one disk is accepted, and its answer is the step's
-pub step-done : (x : Run) (i : ℕ) (t o o′ : List ℕ) (a : Answer) → stepFault x i t o ≡ 0 → OneSays (x .width) (x .size) (x .disk) t o o′ a → StepSays x (moved x) i t o o′ a
-step-done x i t o o′ a z k =
-    let one : oneFault (x .width) (x .size) (x .disk) t o ≡ 0 = first-none (oneFault (x .width) (x .size) (x .disk) t o) (nextFault x i) z .0 in
+-- no refusal: the rebuild of one disk is not refused either
+pub step-fits : (x : Run) (i : ℕ) (t o : List ℕ) → stepFault x i t o ≡ 0 → oneFault (x .width) (x .size) (x .disk) t o ≡ 0
+step-fits x i t o z = first-none (oneFault (x .width) (x .size) (x .disk) t o) (nextFault x i) z .0
+
+-- and the stripe is rebuilt
+pub step-done : (x : Run) (i : ℕ) (t o o′ : List ℕ) (a : Answer) → stepFault x i t o ≡ 0 → o′ ≡ runColumn x t → Answers 0 a → allBytes t ≡ true → StepSays x (moved x) i t o o′ a
+step-done x i t o o′ a z e k b =
     record {
-      answer = answers-as (oneFault (x .width) (x .size) (x .disk) t o) (stepFault x i t o) a (one ∙ sym z) (k .answer);
+      answer = answers-as 0 (stepFault x i t o) a (sym z) k;
       run = pick-done (stepFault x i t o) (moved x) x z;
-      column = k .column ∙ ap (λ (n : ℕ). pick (eqb n 0) (runColumn x t) o) (one ∙ sym z);
-      bytes = k .bytes;
+      column = e ∙ pick-done (stepFault x i t o) (runColumn x t) o z;
+      bytes = b;
     }
 
 -- "and rebuilds that stripe": an accepted step is an accepted rebuild of the record's disk, so all that holds of rebuilds holds of steps
 pub step-rebuilds : (x x′ : Run) (i : ℕ) (t o o′ : List ℕ) (a : Answer) → StepSays x x′ i t o o′ a → a .refusal ≡ 0 → OneSays (x .width) (x .size) (x .disk) t o o′ a
 step-rebuilds x x′ i t o o′ a k z =
     let e : stepFault x i t o ≡ 0 = answers-none (stepFault x i t o) a (k .answer) z in
-    let one : oneFault (x .width) (x .size) (x .disk) t o ≡ 0 = first-none (oneFault (x .width) (x .size) (x .disk) t o) (nextFault x i) e .0 in
+    let one = step-fits x i t o e in
     record {
       answer = answers-as (stepFault x i t o) (oneFault (x .width) (x .size) (x .disk) t o) a (e ∙ sym one) (k .answer);
       column = k .column ∙ ap (λ (n : ℕ). pick (eqb n 0) (runColumn x t) o) (e ∙ sym one);

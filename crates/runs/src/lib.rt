@@ -85,11 +85,11 @@ pub fn step_run(run: Run, which: u64, stripe: &[u8], column: &mut [u8]) -> RunAn
             run: run,
         };
     }
-    let answer = rebuild_one::rebuild_one(run.width, run.size, run.disk, stripe, column);
+    rebuild_one::rebuild_column(run.width, run.size, run.disk, stripe, column);
     let mut moved = run;
     moved.next = run.next + 1;
     RunAnswer {
-        answer: answer,
+        answer: refusals::answered(0),
         run: moved,
     }
 }

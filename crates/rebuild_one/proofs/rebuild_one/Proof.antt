@@ -1,13 +1,10 @@
--- `rebuild_one`: a refusal leaves the column as it was; else our plan is made and followed.
+-- `rebuild_one`: a refusal leaves the column as it was; else the disk is rebuilt.
 use mathlib.Core.Path.{_≡_, sym, _∙_}
 use mathlib.Core.Bool.{true}
-use lib.ListN.{length}
 use Rattle.laws.specs.Xor.{allBytes}
-use Rattle.liberation.proofs.FaultLaws.{plan-none}
-use Rattle.planner.proofs.PlanAnswers.{held-as, planned-is}
 use Rattle.xor.proofs.SourceLaws.{bytes-all}
 use Rattle.rebuild_one.specs.Says.{oneFault}
-use Rattle.rebuild_one.proofs.OneRefusals.{Fit, fault-none, refused, accepted}
+use Rattle.rebuild_one.proofs.OneRefusals.{refused, accepted}
 use borrow.Author.Needs.{needs}
 use Rattle.rebuild_one.proofs.rebuild_one.Statement.{statement}
 use Rattle.rebuild_one.proofs.rebuild_one.Tie as tie
@@ -15,10 +12,6 @@ use Rattle.rebuild_one.proofs.rebuild_one.Tie as tie
 -- past the refusals
 passed : (c : tie.Else1) → let a = c .before .before .before .before .args in oneFault (a .width) (a .size) (a .disk) (a .stripe .now) (a .column .now) ≡ 0
 passed c = sym (c .before .one-fault .ensures) ∙ c .if1 .left
-
--- so all is within the limits
-fit : (c : tie.Else1) → let a = c .before .before .before .before .args in Fit (a .width) (a .size) (a .disk) (length (a .stripe .now)) (length (a .column .now))
-fit c = let a = c .before .before .before .before .args in fault-none (a .width) (a .size) (a .disk) (length (a .stripe .now)) (length (a .column .now)) (passed c)
 
 -- the lent stripe is bytes
 bytes : (c : tie.After-shared-slice-known) → allBytes (c .before .args .stripe .now) ≡ true
@@ -37,16 +30,8 @@ returns c =
     let a = i .before .before .before .before .args in
     refused (a .width) (a .size) (a .disk) (f .result) (a .stripe .now) (a .column .now) (c .answered .result) (f .ensures) (i .if1 .taken) (c .answered .ensures) (bytes (i .before .before .before))
 
-plan-steps-requires : tie.Need-plan-steps-requires
-plan-steps-requires c κs = search needs
-
-follow-requires : tie.Need-follow-requires
-follow-requires c κs =
-    let e = c .before .before .before in
-    let a = e .before .before .before .before .args in
-    let q = fit e in
-    let planned = planned-is (a .width) (a .disk) (plan-none (a .width) (a .width) (a .disk) (q .width) (q .disk)) in
-    ((record { width = q .width; disk = q .disk; held = held-as _ _ _ planned (c .before .before .plan-steps .ensures .steps) }, q .small), (q .stripe, q .column))
+rebuild-column-requires : tie.Need-rebuild-column-requires
+rebuild-column-requires c κs = passed (c .before)
 
 answered-requires-2 : tie.Need-answered-requires-2
 answered-requires-2 c κs = search needs
@@ -57,9 +42,9 @@ same-length c = search needs
 returns-2 : tie.Need-returns-2
 returns-2 c =
     let g = c .before .before .before in
-    let i = g .before .before .before .before in
+    let i = g .before .before in
     let a = i .before .before .before .before .args in
-    accepted (a .width) (a .size) (a .disk) (a .stripe .now) (a .column .now) (g .follow .last .1 .1 .1 .1 .1 .0) (c .answered2 .result) (passed i) (g .follow .ensures) (c .answered2 .ensures) (bytes (i .before .before .before))
+    accepted (a .width) (a .size) (a .disk) (a .stripe .now) (a .column .now) (g .rebuild-column .last .1 .1 .1 .1 .0) (c .answered2 .result) (passed i) (g .rebuild-column .ensures) (c .answered2 .ensures) (bytes (i .before .before .before))
 
 pub rebuild-one-spec : {M : Type 1} → statement M
-rebuild-one-spec = tie.close (tie.spec one-fault-requires answered-requires returns plan-steps-requires follow-requires answered-requires-2 same-length returns-2)
+rebuild-one-spec = tie.close (tie.spec one-fault-requires answered-requires returns rebuild-column-requires answered-requires-2 same-length returns-2)

@@ -1,0 +1,34 @@
+-- `rebuild_column`: our plan is made, which is not refused, and followed.
+use mathlib.Core.Path.{_≡_}
+use lib.ListN.{length}
+use Rattle.liberation.proofs.FaultLaws.{plan-none}
+use Rattle.planner.proofs.PlanAnswers.{held-as, planned-is}
+use Rattle.rebuild_one.proofs.OneRefusals.{Fit, fault-none}
+use borrow.Author.Needs.{needs}
+use Rattle.rebuild_one.proofs.rebuild_column.Statement.{statement}
+use Rattle.rebuild_one.proofs.rebuild_column.Tie as tie
+
+-- all is within the limits
+fit : (c : tie.Start) → let a = c .args in Fit (a .width) (a .size) (a .disk) (length (a .stripe .now)) (length (a .column .now))
+fit c = let a = c .args in fault-none (a .width) (a .size) (a .disk) (length (a .stripe .now)) (length (a .column .now)) (c .pre)
+
+plan-steps-requires : tie.Need-plan-steps-requires
+plan-steps-requires c κs = search needs
+
+follow-requires : tie.Need-follow-requires
+follow-requires c κs =
+    let d = c .before .before in
+    let z = d .before .before .before in
+    let a = z .args in
+    let q = fit z in
+    let planned = planned-is (a .width) (a .disk) (plan-none (a .width) (a .width) (a .disk) (q .width) (q .disk)) in
+    ((record { width = q .width; disk = q .disk; held = held-as _ _ _ planned (d .plan-steps .ensures .steps) }, q .small), (q .stripe, q .column))
+
+same-length : tie.Need-same-length
+same-length c = search needs
+
+returns : tie.Need-returns
+returns c = search needs
+
+pub rebuild-column-spec : {M : Type 1} → statement M
+rebuild-column-spec = tie.close (tie.spec plan-steps-requires follow-requires same-length returns)
