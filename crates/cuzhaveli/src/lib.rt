@@ -37,7 +37,7 @@ pub extern "C" fn cuzhaveli_read_list(width: usize, disk: usize, list: &mut [u8]
 // The judge of a plan of 3 × p bytes.
 #[no_mangle]
 pub extern "C" fn cuzhaveli_judge_plan(width: usize, disk: usize, plan: &[u8]) -> Judged
-    ensures { λ r. ⌜ JudgeSays width disk (now (plan .entry)) r ⌝ }
+    ensures { λ r. ⌜ JudgeSays width width disk (now (plan .entry)) r ⌝ }
 {
     judge::judge_plan(width, disk, plan)
 }

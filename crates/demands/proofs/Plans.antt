@@ -33,13 +33,13 @@ pub record Compared (p f : ℕ) (bs : List ℕ) (r : Plan) (j : Judged) : Type 0
 pub our-reads : (p f : ℕ) (r : Plan) → PlanSays p f r → r .answer .refusal ≡ 0 → r .reads ≡ readCount p p f (planOf p p f)
 our-reads p f r k z = let m = plan-means p f r k z in m .count ∙ ap (readCount p p f) (m .steps)
 
-pub compared : (p f : ℕ) (bs : List ℕ) (r : Plan) (j : Judged) → f < p → PlanSays p f r → JudgeSays p f bs j → j .answer .refusal ≡ 0 → Compared p f bs r j
+pub compared : (p f : ℕ) (bs : List ℕ) (r : Plan) (j : Judged) → f < p → PlanSays p f r → JudgeSays p p f bs j → j .answer .refusal ≡ 0 → Compared p f bs r j
 compared p f bs r j l k d z =
-    let a = zero-accepts p f bs j d z in
+    let a = zero-accepts p p f bs j d z in
     let best = plans-best p f (a .width) l in
     let ss = stepsIn p bs in
     let ours : r .reads ≡ readCount p p f (planOf p p f) = our-reads p f r k (k .answer .refusal ∙ plan-none p p f (a .width) (a .disk)) in
-    let theirs : j .reads ≡ readCount p p f ss = zero-counts p f bs j d z in
+    let theirs : j .reads ≡ readCount p p f ss = zero-counts p p f bs j d z in
     record {
       least = omega (arith, ours, theirs, best .least ss (a .accepts));
       equally = ap₂ eqb theirs ours ∙ best .equally ss (a .accepts);
@@ -51,25 +51,25 @@ pub record Priced (p f : ℕ) (bs : List ℕ) (j : Judged) : Type 0 where
   pub few : diagonalsUsed p (stepsIn p bs) ≤ p
   pub price : j .reads + diagonalsUsed p (stepsIn p bs) * (p - diagonalsUsed p (stepsIn p bs)) ≡ p * p + (loneExtras p p f (stepsIn p bs) + when (byExtra p p f (stepsIn p bs)) 1)
 
-pub priced : (p f : ℕ) (bs : List ℕ) (j : Judged) → f < p → JudgeSays p f bs j → j .answer .refusal ≡ 0 → Priced p f bs j
+pub priced : (p f : ℕ) (bs : List ℕ) (j : Judged) → f < p → JudgeSays p p f bs j → j .answer .refusal ≡ 0 → Priced p f bs j
 priced p f bs j l d z =
-    let a = zero-accepts p f bs j d z in
+    let a = zero-accepts p p f bs j d z in
     let ss = stepsIn p bs in
     let q = plans-best p f (a .width) l .price ss (a .accepts) in
-    record { few = q .few; price = ap (λ (n : ℕ). n + diagonalsUsed p ss * (p - diagonalsUsed p ss)) (zero-counts p f bs j d z) ∙ q .price }
+    record { few = q .few; price = ap (λ (n : ℕ). n + diagonalsUsed p ss * (p - diagonalsUsed p ss)) (zero-counts p p f bs j d z) ∙ q .price }
 
--- "rearranging a plan's steps into another accepted plan changes neither its count nor any byte its steps rebuild, on dirty stripes too", whatever disk is lost
-pub record Unchanged (p f : ℕ) (bs cs : List ℕ) (j q : Judged) : Type 0 where
+-- "rearranging a plan's steps into another accepted plan changes neither its count nor any byte its steps rebuild, on dirty stripes too", whatever disk is lost and however many data disks there are
+pub record Unchanged (p k f : ℕ) (bs cs : List ℕ) (j q : Judged) : Type 0 where
   pub count : j .reads ≡ q .reads
-  pub bytes : (s : ℕ) (t : List ℕ) → isStripe p p s t ≡ true → followed p p s f (stepsIn p bs) t ≡ followed p p s f (stepsIn p cs) t
+  pub bytes : (s : ℕ) (t : List ℕ) → isStripe p k s t ≡ true → followed p k s f (stepsIn p bs) t ≡ followed p k s f (stepsIn p cs) t
 
-pub rearranged : (p f : ℕ) (bs cs : List ℕ) (j q : Judged) → JudgeSays p f bs j → j .answer .refusal ≡ 0 → JudgeSays p f cs q → q .answer .refusal ≡ 0 → Rearranged (stepsIn p bs) (stepsIn p cs) → Unchanged p f bs cs j q
-rearranged p f bs cs j q d z e y r =
-    let a = zero-accepts p f bs j d z .accepts in
-    let b = zero-accepts p f cs q e y .accepts in
+pub rearranged : (p k f : ℕ) (bs cs : List ℕ) (j q : Judged) → JudgeSays p k f bs j → j .answer .refusal ≡ 0 → JudgeSays p k f cs q → q .answer .refusal ≡ 0 → Rearranged (stepsIn p bs) (stepsIn p cs) → Unchanged p k f bs cs j q
+rearranged p k f bs cs j q d z e y r =
+    let a = zero-accepts p k f bs j d z .accepts in
+    let b = zero-accepts p k f cs q e y .accepts in
     record {
-      count = zero-counts p f bs j d z ∙ count-same p p f (stepsIn p bs) (stepsIn p cs) a b r ∙ sym (zero-counts p f cs q e y);
-      bytes = λ s t h. bytes-same p p s f (stepsIn p bs) (stepsIn p cs) a b r t h;
+      count = zero-counts p k f bs j d z ∙ count-same p k f (stepsIn p bs) (stepsIn p cs) a b r ∙ sym (zero-counts p k f cs q e y);
+      bytes = λ s t h. bytes-same p k s f (stepsIn p bs) (stepsIn p cs) a b r t h;
     }
 
 -- The judge accepts the record of the planner's accepted answer put into its form, with the planner's count.
@@ -77,14 +77,14 @@ pub record OwnAccepted (r : Plan) (j : Judged) : Type 0 where
   pub refusal : j .answer .refusal ≡ 0
   pub reads : j .reads ≡ r .reads
 
-pub own-accepted : (p f : ℕ) (r : Plan) (j : Judged) → PlanSays p f r → r .answer .refusal ≡ 0 → JudgeSays p f (formOf p r) j → OwnAccepted r j
+pub own-accepted : (p f : ℕ) (r : Plan) (j : Judged) → PlanSays p f r → r .answer .refusal ≡ 0 → JudgeSays p p f (formOf p r) j → OwnAccepted r j
 own-accepted p f r j k z d =
     let m = plan-means p f r k z in
     let bs : List ℕ = formOf p r in
     let e : stepsIn p bs ≡ planOf p p f = plan-form p f r k z in
-    let a : Acceptable p f bs = record { width = m .width; disk = m .disk; long = length-of p r; accepts = ap (accepted p p f) e ∙ plan-accepted p f (m .width) (m .disk) } in
-    let y : j .answer .refusal ≡ 0 = accepts-zero p f bs j d a in
-    record { refusal = y; reads = zero-counts p f bs j d y ∙ ap (λ (ss : List Step). readCount p p f ss) e ∙ sym (our-reads p f r k z) }
+    let a : Acceptable p p f bs = record { width = m .width; disk = m .disk; long = length-of p r; accepts = ap (accepted p p f) e ∙ plan-accepted p f (m .width) (m .disk) } in
+    let y : j .answer .refusal ≡ 0 = accepts-zero p p f bs j d a in
+    record { refusal = y; reads = zero-counts p p f bs j d y ∙ ap (λ (ss : List Step). readCount p p f ss) e ∙ sym (our-reads p f r k z) }
 
 -- "Ours is (3p² + 1)/4."
 pub own-count : (p f : ℕ) (r : Plan) → f < p → PlanSays p f r → r .answer .refusal ≡ 0 → 4 * r .reads ≡ 3 * (p * p) + 1

@@ -17,11 +17,11 @@ use Rattle.judge.specs.declared.Judged.{Judged}
 use Rattle.judge.specs.Says.{formFault, JudgeSays}
 
 -- the bytes bs are an accepted plan for lost disk f
-pub record Acceptable (p f : ℕ) (bs : List ℕ) : Type 0 where
+pub record Acceptable (p k f : ℕ) (bs : List ℕ) : Type 0 where
   pub width : isWidth p ≡ true
-  pub disk : f ≤ p + 1
+  pub disk : f ≤ k + 1
   pub long : length bs ≡ 3 * p
-  pub accepts : accepted p p f (stepsIn p bs) ≡ true
+  pub accepts : accepted p k f (stepsIn p bs) ≡ true
 
 -- the bytes name n steps
 pub steps-long : (n : ℕ) (bs : List ℕ) → length (stepsIn n bs) ≡ n
@@ -29,32 +29,32 @@ unfolding stepsIn
 steps-long zero bs = refl
 steps-long (suc n) bs = ap suc (steps-long n (drop 3 bs))
 
-pub zero-accepts : (p f : ℕ) (bs : List ℕ) (r : Judged) → JudgeSays p f bs r → r .answer .refusal ≡ 0 → Acceptable p f bs
+pub zero-accepts : (p k f : ℕ) (bs : List ℕ) (r : Judged) → JudgeSays p k f bs r → r .answer .refusal ≡ 0 → Acceptable p k f bs
 unfolding accepted
-zero-accepts p f bs r s e =
+zero-accepts p k f bs r s e =
     record {
-      width = plan-of p p f (form .0) .0;
-      disk = plan-of p p f (form .0) .1;
+      width = plan-of p k f (form .0) .0;
+      disk = plan-of p k f (form .0) .1;
       long = long-of (3 * p) bs (form .1);
-      accepts = and-i (eqb (length (stepsIn p bs)) p) (eqb (judge p p f (stepsIn p bs) .number) 0) (eq-eqb (length (stepsIn p bs)) p (steps-long p bs)) (eq-eqb (judge p p f (stepsIn p bs) .number) 0 (all .1));
+      accepts = and-i (eqb (length (stepsIn p bs)) p) (eqb (judge p k f (stepsIn p bs) .number) 0) (eq-eqb (length (stepsIn p bs)) p (steps-long p bs)) (eq-eqb (judge p k f (stepsIn p bs) .number) 0 (all .1));
     }
   where
-    all : (formFault p f bs ≡ 0) × (judge p p f (stepsIn p bs) .number ≡ 0)
-    all = first-none (formFault p f bs) (judge p p f (stepsIn p bs) .number) (sym (s .refusal) ∙ e)
+    all : (formFault p k f bs ≡ 0) × (judge p k f (stepsIn p bs) .number ≡ 0)
+    all = first-none (formFault p k f bs) (judge p k f (stepsIn p bs) .number) (sym (s .refusal) ∙ e)
 
-    form : (planFault p p f ≡ 0) × (longFault (3 * p) bs ≡ 0)
-    form = first-none (planFault p p f) (longFault (3 * p) bs) (all .0)
+    form : (planFault p k f ≡ 0) × (longFault (3 * p) bs ≡ 0)
+    form = first-none (planFault p k f) (longFault (3 * p) bs) (all .0)
 
-pub accepts-zero : (p f : ℕ) (bs : List ℕ) (r : Judged) → JudgeSays p f bs r → Acceptable p f bs → r .answer .refusal ≡ 0
+pub accepts-zero : (p k f : ℕ) (bs : List ℕ) (r : Judged) → JudgeSays p k f bs r → Acceptable p k f bs → r .answer .refusal ≡ 0
 unfolding accepted
-accepts-zero p f bs r s a = s .refusal ∙ ap₂ firstOf form steps
+accepts-zero p k f bs r s a = s .refusal ∙ ap₂ firstOf form steps
   where
-    form : formFault p f bs ≡ 0
-    form = ap₂ firstOf (plan-none p p f (a .width) (a .disk)) (long-accepted (3 * p) bs (a .long))
+    form : formFault p k f bs ≡ 0
+    form = ap₂ firstOf (plan-none p k f (a .width) (a .disk)) (long-accepted (3 * p) bs (a .long))
 
-    steps : judge p p f (stepsIn p bs) .number ≡ 0
-    steps = eqb-true (judge p p f (stepsIn p bs) .number) 0 (and-r (eqb (length (stepsIn p bs)) p) (eqb (judge p p f (stepsIn p bs) .number) 0) (a .accepts))
+    steps : judge p k f (stepsIn p bs) .number ≡ 0
+    steps = eqb-true (judge p k f (stepsIn p bs) .number) 0 (and-r (eqb (length (stepsIn p bs)) p) (eqb (judge p k f (stepsIn p bs) .number) 0) (a .accepts))
 
 -- the count is that of the definition
-pub zero-counts : (p f : ℕ) (bs : List ℕ) (r : Judged) → JudgeSays p f bs r → r .answer .refusal ≡ 0 → r .reads ≡ readCount p p f (stepsIn p bs)
-zero-counts p f bs r s e = s .reads ∙ ap (λ (k : ℕ). pick (eqb k 0) (readCount p p f (stepsIn p bs)) 0) (sym (s .refusal) ∙ e)
+pub zero-counts : (p k f : ℕ) (bs : List ℕ) (r : Judged) → JudgeSays p k f bs r → r .answer .refusal ≡ 0 → r .reads ≡ readCount p k f (stepsIn p bs)
+zero-counts p k f bs r s e = s .reads ∙ ap (λ (n : ℕ). pick (eqb n 0) (readCount p k f (stepsIn p bs)) 0) (sym (s .refusal) ∙ e)

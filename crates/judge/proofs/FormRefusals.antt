@@ -13,25 +13,25 @@ use Rattle.judge.specs.declared.Judged.{Judged}
 use Rattle.judge.specs.Says.{formFault, judgeFault, JudgeSays, StepsSay}
 
 -- refused before any step
-pub form-refused : (p f n : ℕ) (bs : List ℕ) → n ≡ formFault p f bs → (n ≡ 0 → ⊥) → (a : Answer) → Answers n a → JudgeSays p f bs (record { answer = a; reads = 0 })
-form-refused p f n bs e z a k =
+pub form-refused : (p k f n : ℕ) (bs : List ℕ) → n ≡ formFault p k f bs → (n ≡ 0 → ⊥) → (a : Answer) → Answers n a → JudgeSays p k f bs (record { answer = a; reads = 0 })
+form-refused p k f n bs e z a g =
     record {
-      refusal = k .refusal ∙ fault;
-      place = k .place ∙ pick-refused n (formFault p f bs) (judge p p f (stepsIn p bs) .place) 0 e z;
-      reads = pick-refused n (judgeFault p f bs) (readCount p p f (stepsIn p bs)) 0 fault z;
+      refusal = g .refusal ∙ fault;
+      place = g .place ∙ pick-refused n (formFault p k f bs) (judge p k f (stepsIn p bs) .place) 0 e z;
+      reads = pick-refused n (judgeFault p k f bs) (readCount p k f (stepsIn p bs)) 0 fault z;
     }
   where
-    fault : n ≡ judgeFault p f bs
-    fault = first-kept n (formFault p f bs) (judge p p f (stepsIn p bs) .number) e z
+    fault : n ≡ judgeFault p k f bs
+    fault = first-kept n (formFault p k f bs) (judge p k f (stepsIn p bs) .number) e z
 
 -- the steps decide
-pub steps-decide : (p f : ℕ) (bs : List ℕ) (r : Judged) → formFault p f bs ≡ 0 → StepsSay p f bs r → JudgeSays p f bs r
-steps-decide p f bs r e s =
+pub steps-decide : (p k f : ℕ) (bs : List ℕ) (r : Judged) → formFault p k f bs ≡ 0 → StepsSay p k f bs r → JudgeSays p k f bs r
+steps-decide p k f bs r e s =
     record {
       refusal = s .refusal ∙ sym fault;
-      place = s .place ∙ pick-done (formFault p f bs) (judge p p f (stepsIn p bs) .place) 0 e;
-      reads = s .reads ∙ sym (ap (λ (k : ℕ). pick (eqb k 0) (readCount p p f (stepsIn p bs)) 0) fault);
+      place = s .place ∙ pick-done (formFault p k f bs) (judge p k f (stepsIn p bs) .place) 0 e;
+      reads = s .reads ∙ sym (ap (λ (n : ℕ). pick (eqb n 0) (readCount p k f (stepsIn p bs)) 0) fault);
     }
   where
-    fault : judgeFault p f bs ≡ judge p p f (stepsIn p bs) .number
-    fault = ap (λ (k : ℕ). firstOf k (judge p p f (stepsIn p bs) .number)) e
+    fault : judgeFault p k f bs ≡ judge p k f (stepsIn p bs) .number
+    fault = ap (λ (n : ℕ). firstOf n (judge p k f (stepsIn p bs) .number)) e

@@ -96,23 +96,23 @@ surviving-le p f (x ∷ xs) = go (eqb (diskAt p x) f) (surviving-le p f xs)
     go false h = omega arith
 
 -- The loop's state before step i: `d` has a byte a row rebuilt, `m` a byte a cell read.
-pub record Halfway (p f : ℕ) (bs d m : List ℕ) (reads i : ℕ) : Type 0 where
+pub record Halfway (p k f : ℕ) (bs d m : List ℕ) (reads i : ℕ) : Type 0 where
   pub within : i ≤ p
   pub rows : List ℕ
   pub cells : List ℕ
   pub done : d ≡ marksFrom 31 0 rows
-  pub marks : m ≡ marksFrom (p * (p + 2)) 0 cells
+  pub marks : m ≡ marksFrom (p * (k + 2)) 0 cells
   pub count : reads ≡ length cells
   pub few : reads ≤ 33 * i
-  pub verdict : judgeFrom i p p f rows (stepsFrom p i bs) ≡ judge p p f (stepsIn p bs)
-  pub read : readFrom p p f (stepsFrom p i bs) cells ≡ cellsRead p p f (stepsIn p bs)
+  pub verdict : judgeFrom i p k f rows (stepsFrom p i bs) ≡ judge p k f (stepsIn p bs)
+  pub read : readFrom p k f (stepsFrom p i bs) cells ≡ cellsRead p k f (stepsIn p bs)
 
 -- what `step_fault` says of the step
-abbrev pub FaultIs : ℕ → ℕ → List ℕ → Step → ℕ → Type 0
-FaultIs p f d s fault = (ds : List ℕ) → d ≡ marksFrom 31 0 ds → fault ≡ stepFault p p f ds s
+abbrev pub FaultIs : ℕ → ℕ → ℕ → List ℕ → Step → ℕ → Type 0
+FaultIs p k f d s fault = (ds : List ℕ) → d ≡ marksFrom 31 0 ds → fault ≡ stepFault p k f ds s
 
-pub halfway-start : (p f : ℕ) (bs d m : List ℕ) → d ≡ marksFrom 31 0 [] → m ≡ marksFrom (p * (p + 2)) 0 [] → Halfway p f bs d m 0 0
-halfway-start p f bs d m e q =
+pub halfway-start : (p k f : ℕ) (bs d m : List ℕ) → d ≡ marksFrom 31 0 [] → m ≡ marksFrom (p * (k + 2)) 0 [] → Halfway p k f bs d m 0 0
+halfway-start p k f bs d m e q =
     record {
       within = omega arith;
       rows = [];
@@ -121,8 +121,8 @@ halfway-start p f bs d m e q =
       marks = q;
       count = refl;
       few = omega arith;
-      verdict = ap (judgeFrom 0 p p f []) whole;
-      read = ap (λ (ss : List Step). readFrom p p f ss []) whole;
+      verdict = ap (judgeFrom 0 p k f []) whole;
+      read = ap (λ (ss : List Step). readFrom p k f ss []) whole;
     }
   where
     all : p - 0 ≡ p
@@ -132,76 +132,76 @@ halfway-start p f bs d m e q =
     none = omega arith
 
     whole : stepsFrom p 0 bs ≡ stepsIn p bs
-    whole = ap₂ (λ (n k : ℕ). stepsIn n (drop k bs)) all none
+    whole = ap₂ (λ (n j : ℕ). stepsIn n (drop j bs)) all none
 
 -- the marks are as long as at the start
-pub halfway-long : (p f : ℕ) (bs d m m₀ ys : List ℕ) (reads i : ℕ) → Halfway p f bs d m reads i → m₀ ≡ marksFrom (p * (p + 2)) 0 ys → length m ≡ length m₀
-halfway-long p f bs d m m₀ ys reads i k e = ap length (k .marks) ∙ length-marks (p * (p + 2)) 0 (k .cells) ∙ sym (ap length e ∙ length-marks (p * (p + 2)) 0 ys)
+pub halfway-long : (p k f : ℕ) (bs d m m₀ ys : List ℕ) (reads i : ℕ) → Halfway p k f bs d m reads i → m₀ ≡ marksFrom (p * (k + 2)) 0 ys → length m ≡ length m₀
+halfway-long p k f bs d m m₀ ys reads i v e = ap length (v .marks) ∙ length-marks (p * (k + 2)) 0 (v .cells) ∙ sym (ap length e ∙ length-marks (p * (k + 2)) 0 ys)
 
 -- a step that is not refused
-pub halfway-form : (p f : ℕ) (bs d m : List ℕ) (s : Step) (reads i fault : ℕ) → Halfway p f bs d m reads i → FaultIs p f d s fault → fault ≡ 0 → InForm p s
-halfway-form p f bs d m s reads i fault k q z = no-fault p p f (k .rows) s (sym (q (k .rows) (k .done)) ∙ z)
+pub halfway-form : (p k f : ℕ) (bs d m : List ℕ) (s : Step) (reads i fault : ℕ) → Halfway p k f bs d m reads i → FaultIs p k f d s fault → fault ≡ 0 → InForm p s
+halfway-form p k f bs d m s reads i fault v q z = no-fault p k f (v .rows) s (sym (q (v .rows) (v .done)) ∙ z)
 
-pub halfway-turn : (p f : ℕ) (bs d m m′ : List ℕ) (s : Step) (reads i fault fresh : ℕ) → p ≤ 31 → i < p → BytesOf bs i s → FaultIs p f d s fault → fault ≡ 0 → Halfway p f bs d m reads i → Marked m m′ (survivingIn p f (setOf p p (s .kind) (s .number))) fresh → Halfway p f bs (set d (s .row) 1) m′ (reads + fresh) (i + 1)
+pub halfway-turn : (p k f : ℕ) (bs d m m′ : List ℕ) (s : Step) (reads i fault fresh : ℕ) → p ≤ 31 → k ≤ p → i < p → BytesOf bs i s → FaultIs p k f d s fault → fault ≡ 0 → Halfway p k f bs d m reads i → Marked m m′ (survivingIn p f (setOf p k (s .kind) (s .number))) fresh → Halfway p k f bs (set d (s .row) 1) m′ (reads + fresh) (i + 1)
 unfolding readFrom
-halfway-turn p f bs d m m′ s reads i fault fresh w h b q z k r =
+halfway-turn p k f bs d m m′ s reads i fault fresh w g h b q z v r =
     record {
       within = omega arith;
-      rows = s .row ∷ k .rows;
-      cells = added xs (k .cells);
-      done = ap (λ (l : List ℕ). set l (s .row) 1) (k .done) ∙ mark-set 31 0 (s .row) (k .rows) (omega (arith, form .row)) ∙ ap (λ (n : ℕ). marksFrom 31 0 (n ∷ k .rows)) row;
-      marks = r .marks ∙ ap (λ (l : List ℕ). markAll l xs) (k .marks) ∙ marks-added (p * (p + 2)) xs (k .cells) below;
-      count = omega (arith, r .fresh, ap (λ (l : List ℕ). freshIn l xs) (k .marks), fresh-added (p * (p + 2)) xs (k .cells) below, k .count);
-      few = omega (arith, r .fresh, fresh-le m xs, surviving-le p f (setOf p p (s .kind) (s .number)), size-most p p (s .kind) (s .number), k .few);
-      verdict = ap (λ (n : ℕ). judgeFrom n p p f (s .row ∷ k .rows) (stepsFrom p (i + 1) bs)) (add-one i) ∙ sym (judge-next i p p f (k .rows) s (stepsFrom p (i + 1) bs) none) ∙ sym (ap (judgeFrom i p p f (k .rows)) next) ∙ k .verdict;
-      read = sym (ap (λ (ss : List Step). readFrom p p f ss (k .cells)) next) ∙ k .read;
+      rows = s .row ∷ v .rows;
+      cells = added xs (v .cells);
+      done = ap (λ (l : List ℕ). set l (s .row) 1) (v .done) ∙ mark-set 31 0 (s .row) (v .rows) (omega (arith, form .row)) ∙ ap (λ (n : ℕ). marksFrom 31 0 (n ∷ v .rows)) row;
+      marks = r .marks ∙ ap (λ (l : List ℕ). markAll l xs) (v .marks) ∙ marks-added (p * (k + 2)) xs (v .cells) below;
+      count = omega (arith, r .fresh, ap (λ (l : List ℕ). freshIn l xs) (v .marks), fresh-added (p * (k + 2)) xs (v .cells) below, v .count);
+      few = omega (arith, r .fresh, fresh-le m xs, surviving-le p f (setOf p k (s .kind) (s .number)), size-most p k (s .kind) (s .number), v .few);
+      verdict = ap (λ (n : ℕ). judgeFrom n p k f (s .row ∷ v .rows) (stepsFrom p (i + 1) bs)) (add-one i) ∙ sym (judge-next i p k f (v .rows) s (stepsFrom p (i + 1) bs) none) ∙ sym (ap (judgeFrom i p k f (v .rows)) next) ∙ v .verdict;
+      read = sym (ap (λ (ss : List Step). readFrom p k f ss (v .cells)) next) ∙ v .read;
     }
   where
-    none : stepFault p p f (k .rows) s ≡ 0
-    none = sym (q (k .rows) (k .done)) ∙ z
+    none : stepFault p k f (v .rows) s ≡ 0
+    none = sym (q (v .rows) (v .done)) ∙ z
 
     form : InForm p s
-    form = halfway-form p f bs d m s reads i fault k q z
+    form = halfway-form p k f bs d m s reads i fault v q z
 
     row : 0 + s .row ≡ s .row
     row = omega arith
 
     xs : List ℕ
-    xs = survivingIn p f (setOf p p (s .kind) (s .number))
+    xs = survivingIn p f (setOf p k (s .kind) (s .number))
 
-    below : allBelow (p * (p + 2)) xs ≡ true
-    below = survivors-below p p f (s .kind) (s .number) (form .number)
+    below : allBelow (p * (k + 2)) xs ≡ true
+    below = survivors-below p k f (s .kind) (s .number) (form .number)
 
     next : stepsFrom p i bs ≡ s ∷ stepsFrom p (i + 1) bs
     next = steps-next p i s bs h b
 
 -- a step that is refused
-pub halfway-refused : (p f : ℕ) (bs d m : List ℕ) (s : Step) (reads i fault : ℕ) → i < p → BytesOf bs i s → FaultIs p f d s fault → (fault ≡ 0 → ⊥) → Halfway p f bs d m reads i → StepsSay p f bs (record { answer = record { refusal = fault; place = i }; reads = 0 })
-halfway-refused p f bs d m s reads i fault h b q z k =
+pub halfway-refused : (p k f : ℕ) (bs d m : List ℕ) (s : Step) (reads i fault : ℕ) → i < p → BytesOf bs i s → FaultIs p k f d s fault → (fault ≡ 0 → ⊥) → Halfway p k f bs d m reads i → StepsSay p k f bs (record { answer = record { refusal = fault; place = i }; reads = 0 })
+halfway-refused p k f bs d m s reads i fault h b q z v =
     record {
       refusal = sym (ap (λ (j : Judged). j .number) stop);
       place = sym (ap (λ (j : Judged). j .place) stop);
-      reads = sym (ap (λ (j : Judged). pick (eqb (j .number) 0) (readCount p p f (stepsIn p bs)) 0) stop ∙ ap (λ (t : Bool). pick t (readCount p p f (stepsIn p bs)) 0) (ne-eqb fault 0 z));
+      reads = sym (ap (λ (j : Judged). pick (eqb (j .number) 0) (readCount p k f (stepsIn p bs)) 0) stop ∙ ap (λ (t : Bool). pick t (readCount p k f (stepsIn p bs)) 0) (ne-eqb fault 0 z));
     }
   where
-    same : fault ≡ stepFault p p f (k .rows) s
-    same = q (k .rows) (k .done)
+    same : fault ≡ stepFault p k f (v .rows) s
+    same = q (v .rows) (v .done)
 
-    stop : judge p p f (stepsIn p bs) ≡ judged fault i
+    stop : judge p k f (stepsIn p bs) ≡ judged fault i
     stop =
-        sym (k .verdict)
-        ∙ ap (judgeFrom i p p f (k .rows)) (steps-next p i s bs h b)
-        ∙ judge-stop i p p f (k .rows) s (stepsFrom p (i + 1) bs) (λ e. z (same ∙ e))
+        sym (v .verdict)
+        ∙ ap (judgeFrom i p k f (v .rows)) (steps-next p i s bs h b)
+        ∙ judge-stop i p k f (v .rows) s (stepsFrom p (i + 1) bs) (λ e. z (same ∙ e))
         ∙ ap (λ (n : ℕ). judged n i) (sym same)
 
 -- no step is refused
-pub halfway-end : (p f : ℕ) (bs d m : List ℕ) (reads i : ℕ) → p ≤ i → Halfway p f bs d m reads i → (a : Answer) → Answers 0 a → StepsSay p f bs (record { answer = a; reads = reads })
+pub halfway-end : (p k f : ℕ) (bs d m : List ℕ) (reads i : ℕ) → p ≤ i → Halfway p k f bs d m reads i → (a : Answer) → Answers 0 a → StepsSay p k f bs (record { answer = a; reads = reads })
 unfolding stepsIn judgeFrom readFrom
-halfway-end p f bs d m reads i h k a n =
+halfway-end p k f bs d m reads i h v a n =
     record {
       refusal = n .refusal ∙ sym (ap (λ (j : Judged). j .number) over);
       place = n .place ∙ sym (ap (λ (j : Judged). j .place) over);
-      reads = k .count ∙ ap length read ∙ sym (ap (λ (j : Judged). pick (eqb (j .number) 0) (readCount p p f (stepsIn p bs)) 0) over);
+      reads = v .count ∙ ap length read ∙ sym (ap (λ (j : Judged). pick (eqb (j .number) 0) (readCount p k f (stepsIn p bs)) 0) over);
     }
   where
     spent : p - i ≡ 0
@@ -210,8 +210,8 @@ halfway-end p f bs d m reads i h k a n =
     none : stepsFrom p i bs ≡ []
     none = ap (λ (n : ℕ). stepsIn n (drop (3 * i) bs)) spent
 
-    over : judge p p f (stepsIn p bs) ≡ judged 0 0
-    over = sym (k .verdict) ∙ ap (judgeFrom i p p f (k .rows)) none
+    over : judge p k f (stepsIn p bs) ≡ judged 0 0
+    over = sym (v .verdict) ∙ ap (judgeFrom i p k f (v .rows)) none
 
-    read : k .cells ≡ cellsRead p p f (stepsIn p bs)
-    read = sym (ap (λ (ss : List Step). readFrom p p f ss (k .cells)) none) ∙ k .read
+    read : v .cells ≡ cellsRead p k f (stepsIn p bs)
+    read = sym (ap (λ (ss : List Step). readFrom p k f ss (v .cells)) none) ∙ v .read

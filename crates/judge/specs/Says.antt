@@ -10,20 +10,20 @@ use Rattle.liberation.specs.Judging.{judge, stepsIn}
 use Rattle.judge.specs.declared.Judged.{Judged}
 
 -- refusals before any step is looked at
-abbrev pub formFault : ℕ → ℕ → List ℕ → ℕ
-formFault p f bs = firstOf (planFault p p f) (longFault (3 * p) bs)
+abbrev pub formFault : ℕ → ℕ → ℕ → List ℕ → ℕ
+formFault p k f bs = firstOf (planFault p k f) (longFault (3 * p) bs)
 
 -- all refusals
-abbrev pub judgeFault : ℕ → ℕ → List ℕ → ℕ
-judgeFault p f bs = firstOf (formFault p f bs) (judge p p f (stepsIn p bs) .number)
+abbrev pub judgeFault : ℕ → ℕ → ℕ → List ℕ → ℕ
+judgeFault p k f bs = firstOf (formFault p k f bs) (judge p k f (stepsIn p bs) .number)
 
-pub record JudgeSays (p f : ℕ) (bs : List ℕ) (r : Judged) : Type 0 where
-  pub refusal : r .answer .refusal ≡ judgeFault p f bs
-  pub place : r .answer .place ≡ pick (eqb (formFault p f bs) 0) (judge p p f (stepsIn p bs) .place) 0
-  pub reads : r .reads ≡ pick (eqb (judgeFault p f bs) 0) (readCount p p f (stepsIn p bs)) 0
+pub record JudgeSays (p k f : ℕ) (bs : List ℕ) (r : Judged) : Type 0 where
+  pub refusal : r .answer .refusal ≡ judgeFault p k f bs
+  pub place : r .answer .place ≡ pick (eqb (formFault p k f bs) 0) (judge p k f (stepsIn p bs) .place) 0
+  pub reads : r .reads ≡ pick (eqb (judgeFault p k f bs) 0) (readCount p k f (stepsIn p bs)) 0
 
 -- the same for a plan of the right form: refusals 6 to 9, or the read count
-pub record StepsSay (p f : ℕ) (bs : List ℕ) (r : Judged) : Type 0 where
-  pub refusal : r .answer .refusal ≡ judge p p f (stepsIn p bs) .number
-  pub place : r .answer .place ≡ judge p p f (stepsIn p bs) .place
-  pub reads : r .reads ≡ pick (eqb (judge p p f (stepsIn p bs) .number) 0) (readCount p p f (stepsIn p bs)) 0
+pub record StepsSay (p k f : ℕ) (bs : List ℕ) (r : Judged) : Type 0 where
+  pub refusal : r .answer .refusal ≡ judge p k f (stepsIn p bs) .number
+  pub place : r .answer .place ≡ judge p k f (stepsIn p bs) .place
+  pub reads : r .reads ≡ pick (eqb (judge p k f (stepsIn p bs) .number) 0) (readCount p k f (stepsIn p bs)) 0

@@ -29,9 +29,9 @@ take-marks zero k i ys h = refl
 take-marks (suc n) zero i ys h = absurd (omega arith)
 take-marks (suc n) (suc k) i ys h = ap (λ (l : List ℕ). when (isIn i ys) 1 ∷ l) (take-marks n k (suc i) ys (omega arith))
 
--- an array has no more cells than the widest
-pub cells-most : (p : ℕ) → p ≤ 31 → p * (p + 2) ≤ 1023
-cells-most p h = let l : p + 2 ≤ 33 = omega arith in mul-le-mul h l
+-- an array of k data disks has no more cells than the widest
+pub cells-most : (p k : ℕ) → p ≤ 31 → k ≤ p → p * (k + 2) ≤ 1023
+cells-most p k h n = let l : k + 2 ≤ 33 = omega arith in mul-le-mul h l
 
 -- a mark written: the cell joins ys
 same-from : (n i y : ℕ) (ys : List ℕ) → y < i → marksFrom n i (y ∷ ys) ≡ marksFrom n i ys

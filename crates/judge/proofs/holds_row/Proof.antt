@@ -13,11 +13,11 @@ use Rattle.judge.proofs.holds_row.Statement.{statement}
 use Rattle.judge.proofs.holds_row.Tie as tie
 
 abbrev Inv-loop : tie.InvT-loop
-Inv-loop width disk row kind number wanted size at₀ at =
-    (size ≡ length (setOf width width kind number)) × (isIn wanted (drop at (setOf width width kind number)) ≡ isIn wanted (setOf width width kind number))
+Inv-loop width disks disk row kind number wanted size at₀ at =
+    (size ≡ length (setOf width disks kind number)) × (isIn wanted (drop at (setOf width disks kind number)) ≡ isIn wanted (setOf width disks kind number))
 
 abbrev μ-loop : tie.MeasureT-loop
-μ-loop width disk row kind number wanted size at₀ at = size - at
+μ-loop width disks disk row kind number wanted size at₀ at = size - at
 
 mul-wanted : tie.Need-mul-wanted Inv-loop μ-loop
 mul-wanted c = let a = c .args in omega (arith, place-small (a .width) (a .row) (a .disk) (c .pre .0 .widest) (c .pre .1 .0) (omega (arith, c .pre .0)))
@@ -39,7 +39,7 @@ returns c =
     let a = c .before .before .before .before .before .args in
     let q = c .before .before .before .before .before .pre in
     let l = c .before .before .before .loop in
-    let xs = setOf (a .width) (a .width) (a .kind) (a .number) in
+    let xs = setOf (a .width) (a .disks) (a .kind) (a .number) in
     seek-here (place (a .width) (a .row) (a .disk)) (l .at) (c .before .set-cell .result) xs (omega (arith, l .inv .0)) (c .before .set-cell .ensures) (c .if1 .taken) (l .inv .1)
     ∙ sym (in-lost (a .width) (a .disk) (a .row) xs (q .1 .0))
 
@@ -54,14 +54,14 @@ loop-again c =
     let a = c .before .before .before .before .before .args in
     let l = c .before .before .before .loop in (
       l .inv .0,
-      seek-turn (place (a .width) (a .row) (a .disk)) (l .at) (c .before .set-cell .result) (setOf (a .width) (a .width) (a .kind) (a .number)) (omega (arith, l .inv .0)) (c .before .set-cell .ensures) (c .if1 .left) (l .inv .1),
+      seek-turn (place (a .width) (a .row) (a .disk)) (l .at) (c .before .set-cell .result) (setOf (a .width) (a .disks) (a .kind) (a .number)) (omega (arith, l .inv .0)) (c .before .set-cell .ensures) (c .if1 .left) (l .inv .1),
     )
 
 returns-2 : tie.Need-returns-2 Inv-loop μ-loop
 returns-2 c =
     let a = c .before .before .before .args in
     let l = c .before .loop in
-    let xs = setOf (a .width) (a .width) (a .kind) (a .number) in
+    let xs = setOf (a .width) (a .disks) (a .kind) (a .number) in
     seek-end (place (a .width) (a .row) (a .disk)) (l .at) xs (omega (arith, l .inv .0)) (l .inv .1) ∙ sym (in-lost (a .width) (a .disk) (a .row) xs (c .before .before .before .pre .1 .0))
 
 pub holds-row-spec : {M : Type 1} → statement M

@@ -30,7 +30,7 @@ array-read-result c = row-fits c
 returns-3 : tie.Need-returns-3
 returns-3 c = λ ds e.
     let a = c .before .before .args in
-    byte-none 31 (a .cell % a .width) (a .t5) ds e (row-fits c) ∙ sym (there-other (a .width) (a .disk) (a .row) (a .cell) ds (c .before .if1 .left) (c .if2 .left))
+    byte-none 31 (a .cell % a .width) (a .t6) ds e (row-fits c) ∙ sym (there-other (a .width) (a .disk) (a .row) (a .cell) ds (c .before .if1 .left) (c .if2 .left))
 
 pub is-missing-spec : {M : Type 1} → statement M
 is-missing-spec =

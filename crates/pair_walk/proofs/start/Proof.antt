@@ -25,7 +25,7 @@ extra-row-requires-2 c κs =
 
 -- the stripe has few cells
 few : (c : tie.After-start-count) → let a = c .before .before .before .before .before .args in a .width * (a .width + 2) ≤ 1023
-few c = let z = c .before .before .before .before .before in cells-most (z .args .width) (z .pre .0 .widest)
+few c = let z = c .before .before .before .before .before in cells-most (z .args .width) (z .args .width) (z .pre .0 .widest) (omega arith)
 
 mul-cells : tie.Need-mul-cells
 mul-cells c = omega (arith, few c)

@@ -17,7 +17,7 @@ use Rattle.plan_text.proofs.put_plan.Statement.{statement}
 cells : (c : tie.Start) → (c .args .width ≤ 31) × (c .args .width * (c .args .width + 2) ≤ 1023)
 cells c =
     let w = width-most (c .args .width) (c .pre .0) in
-    (w, cells-most (c .args .width) w)
+    (w, cells-most (c .args .width) (c .args .width) w (omega arith))
 
 all-marks : (c : tie.After-no-marks) → length (c .no-marks .result) ≡ 1023
 all-marks c = ap (λ (x : List ℕ). length x) (c .no-marks .ensures) ∙ length-marks 1023 0 []

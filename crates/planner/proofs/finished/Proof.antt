@@ -18,7 +18,7 @@ cells : (c : tie.After-s) → (c .before .args .width ≤ 31) × (c .before .arg
 cells c =
     let a = c .before .args in
     let w = width-most (a .width) (c .before .pre .0) in
-    (w, cells-most (a .width) w)
+    (w, cells-most (a .width) (a .width) w (omega arith))
 
 all-marks : (c : tie.After-no-marks) → length (c .no-marks .result) ≡ 1023
 all-marks c = ap (λ (x : List ℕ). length x) (c .no-marks .ensures) ∙ length-marks 1023 0 []

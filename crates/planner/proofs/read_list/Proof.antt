@@ -38,7 +38,7 @@ add-if2 : tie.Need-add-if2
 add-if2 c = omega (arith, width-most (c .before .before .before .args .width) (wide c .0))
 
 mul-if2 : tie.Need-mul-if2
-mul-if2 c = let a = c .before .before .before .args in omega (arith, cells-most (a .width) (width-most (a .width) (wide c .0)))
+mul-if2 c = let a = c .before .before .before .args in omega (arith, cells-most (a .width) (a .width) (width-most (a .width) (wide c .0)) (omega arith))
 
 answered-requires-2 : tie.Need-answered-requires-2
 answered-requires-2 c κs = search needs
