@@ -12,10 +12,10 @@ use Rattle.laws.specs.Choice.{pick}
 use Rattle.laws.specs.Xor.{xorL, allBytes}
 use Rattle.laws.proofs.ByteLaws.{bytes-take, bytes-drop}
 use Rattle.laws.proofs.Modulo.{lt-or-le}
-use Rattle.laws.proofs.XorLaws.{xorL-assoc, xorL-zeros, zero-xorL}
+use Rattle.laws.proofs.XorLaws.{xorL-zeros}
 use Rattle.xor.specs.Parts.{part, withPart, xorOffsets}
 use Rattle.xor.proofs.StoreLaws.{part-long}
-use Rattle.xor.proofs.BlockLaws.{Within, offsets-long, offsets-bytes}
+use Rattle.xor.proofs.BlockLaws.{Within, offsets-long, offsets-bytes, offsets-append}
 use Rattle.xor_within.specs.Beside.{Beside}
 use Rattle.xor_within.proofs.WithinLaws.{part-with, with-with, part-kept, offsets-same}
 use Rattle.offsets.specs.Offsets.{scaled}
@@ -53,11 +53,6 @@ odd-have P s x ms f =
 -- cell y ends where the next one begins
 next-cell : (s y n : ℕ) → y < n → y * s + s ≤ n * s
 next-cell s y n h = let k : y + 1 ≤ n = omega arith in omega (arith, mul-le-mul-right s k)
-
-offsets-append : (s : ℕ) (t a b : List ℕ) → Within s (length t) b → xorOffsets s t (a ++ b) ≡ xorL (xorOffsets s t a) (xorOffsets s t b)
-unfolding xorOffsets
-offsets-append s t [] b f = sym (zero-xorL s (xorOffsets s t b) (offsets-long s t b f) (offsets-bytes s t b))
-offsets-append s t (x ∷ a) b f = ap (xorL (part s x t)) (offsets-append s t a b f) ∙ sym (xorL-assoc (part s x t) (xorOffsets s t a) (xorOffsets s t b))
 
 module _ (s d : ℕ) (ms t : List ℕ) (m : Marked s d ms t) where
   -- cell d, and the odd cells, are in the stripe; the odd cells are apart from cell d

@@ -4,7 +4,7 @@ use mathlib.Core.Bool.{Bool, true, _&&_, not}
 use mathlib.Core.Logic.{_⊎_, inl, inr, ⊎-elim}
 use mathlib.Core.List.{List, _++_, append-nil}
 use Prim.Native.Nat.{ℕ, zero, suc, _+_, _-_, _*_, _≤_, _<_}
-use native.Mathlib.Nat.{mod-lt, mul-le-mul-right}
+use native.Mathlib.Nat.{mod-lt}
 use native.Mathlib.Omega.{arith}
 use lib.Dec.{eqb, leb}
 use lib.ListN.{length, getD, take, replicate}
@@ -24,7 +24,7 @@ use Rattle.xor.specs.Parts.{withPart, xorOffsets}
 use Rattle.xor.specs.Reach.{Reached}
 use Rattle.xor.proofs.BlockLaws.{offsets-long}
 use Rattle.xor.proofs.StoreLaws.{part-long}
-use Rattle.xor_within.specs.Beside.{Beside}
+use Rattle.xor_within.specs.Beside.{Apart}
 use Rattle.offsets.specs.Offsets.{scaled, Pushed}
 use Rattle.offsets.proofs.OffsetLaws.{over-offsets, each-offset}
 use Rattle.offsets.proofs.KeptLaws.{cell-walk, surviving-but}
@@ -57,7 +57,7 @@ module _ (p k s f : ℕ) (some : 0 < p) where
         ap (λ (x : ℕ). x * s) e ∙ omega arith,
       )
 
-  -- so the columns lie in the stripe, and beside that of disk f
+  -- so the columns lie in the stripe, and apart from that of disk f
   module _ {at : List ℕ} {long : ℕ} (e : at ≡ scaled s (survivingIn p f (rowSet p k 0))) (few : length at ≤ 100) (fits : (k + 2) * (p * s) ≤ long) where
     each : (P : ℕ → Type 0) → ((c : ℕ) → c ≤ k → (c ≡ f → ⊥) → P (c * (p * s))) → (i : ℕ) → i < length at → P (getD at i 0)
     each P g =
@@ -67,13 +67,13 @@ module _ (p k s f : ℕ) (some : 0 < p) where
     pub columns-reached : Reached (p * s) long at
     columns-reached = record { few = few; inside = each (λ a. a + p * s ≤ long) (λ c h n. let l : c < k + 2 = omega arith in omega (arith, cell-fits (k + 2) (p * s) c l)) }
 
-    pub columns-beside : f ≤ k → Beside (f * (p * s)) (p * s) long at
-    columns-beside h =
+    pub columns-apart : f ≤ k → Apart (f * (p * s)) (p * s) long at
+    columns-apart h =
         let l : f < k + 2 = omega arith in
         record {
           sources = columns-reached;
           fits = omega (arith, cell-fits (k + 2) (p * s) f l);
-          apart = each (λ a. (a + p * s ≤ f * (p * s)) ⊎ (f * (p * s) ≤ a)) (λ c b n. ⊎-elim (λ q. inl (cell-fits f (p * s) c q)) (λ q. inr (mul-le-mul-right (p * s) q)) (lt-or-le c f));
+          apart = each (λ a. (a + p * s ≤ f * (p * s)) ⊎ (f * (p * s) + p * s ≤ a)) (λ c b n. ⊎-elim (λ q. inl (cell-fits f (p * s) c q)) (λ q. let m : f < c = omega arith in inr (cell-fits c (p * s) f m)) (lt-or-le c f));
         }
 
 -- the row sets of a stripe as one test: there is no disk past Q, so no cell is left out

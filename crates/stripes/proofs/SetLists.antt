@@ -4,7 +4,7 @@ use mathlib.Core.Bool.{Bool, true, false, _&&_, _||_, not, and-false, or-comm}
 use mathlib.Core.Logic.{_⊎_, inl, inr, ⊎-elim}
 use mathlib.Core.List.{List, [], _∷_, _++_, append-nil}
 use Prim.Native.Nat.{ℕ, suc, _+_, _-_, _*_, _%_, _≤_, _<_}
-use native.Mathlib.Nat.{mod-lt, zero-add, mul-le-mul-right}
+use native.Mathlib.Nat.{mod-lt, zero-add}
 use native.Mathlib.Omega.{arith}
 use lib.Dec.{eqb, ltb, leb}
 use lib.ListN.{length, getD, set, take, replicate, length-append}
@@ -13,7 +13,7 @@ use Rattle.laws.specs.Choice.{pick}
 use Rattle.laws.specs.Lists.{isIn, allBelow, same}
 use Rattle.laws.proofs.Flags.{and-l, and-r, and-i, or-cases, or-l, or-r, clash, same-flag}
 use Rattle.laws.proofs.ListLaws.{isIn-append}
-use Rattle.laws.proofs.MemberLaws.{in-below}
+use Rattle.laws.proofs.MemberLaws.{at-in, in-below}
 use Rattle.laws.proofs.Modulo.{lt-or-le}
 use Rattle.liberation.specs.Sets.{place, diskAt, rowAt, rowFrom, diagonalFrom, rowSet, diagonalSet, ordinary, hasExtra, extraDisk, extraRow, extraOf, setOf, survivingIn}
 use Rattle.liberation.proofs.SetLaws.{disk-place, place-of, in-row, in-ordinary, in-ordinary-data, place-below, set-below}
@@ -24,7 +24,7 @@ use Rattle.liberation_stripes.proofs.CellLaws.{cell-fits}
 use Rattle.liberation_stripes.proofs.OverLaws.{in-without}
 use Rattle.xor.specs.Parts.{withPart, xorOffsets}
 use Rattle.xor.specs.Reach.{Reached}
-use Rattle.xor_within.specs.Beside.{Beside}
+use Rattle.xor_within.specs.Beside.{Apart}
 use Rattle.offsets.specs.Offsets.{scaled, cellsFrom, Pushed}
 use Rattle.offsets.proofs.OffsetLaws.{over-offsets, length-scaled, scaled-append, each-offset, cells-reached}
 use Rattle.offsets.proofs.PushLaws.{walk-last, walk-long, pushed-none, pushed-one, pushed-then}
@@ -251,17 +251,23 @@ module _ (s r n : ℕ) (old at xs t : List ℕ) (room : length at ≡ 33) (pushe
   pub reached : Reached s (length t) (take r at)
   reached = subst (Reached s (length t)) (sym (pushed .list)) (cells-reached s n (length t) xs below (omega arith) (omega (arith, pushed .count, pushed .fits, length-scaled s xs)))
 
-  -- they lie beside a cell that is none of them
-  pub beside : (x : ℕ) → x < n → isIn x xs ≡ false → Beside (x * s) s (length t) (take r at)
-  beside x h none =
+  -- they lie apart from a cell that is none of them
+  pub apart-from : (x : ℕ) → x < n → isIn x xs ≡ false → Apart (x * s) s (length t) (take r at)
+  apart-from x h none =
       record {
         sources = reached;
         fits = omega (arith, cell-fits n s x h);
-        apart = subst (λ (l : List ℕ). (i : ℕ) → i < length l → (getD l i 0 + s ≤ x * s) ⊎ (x * s ≤ getD l i 0)) (sym (pushed .list)) (each-offset (λ a. (a + s ≤ x * s) ⊎ (x * s ≤ a)) s xs apart);
+        apart = subst (λ (l : List ℕ). (i : ℕ) → i < length l → (getD l i 0 + s ≤ x * s) ⊎ (x * s + s ≤ getD l i 0)) (sym (pushed .list)) (each-offset (λ a. (a + s ≤ x * s) ⊎ (x * s + s ≤ a)) s xs apart);
       }
     where
-      apart : (i : ℕ) → i < length xs → (getD xs i 0 * s + s ≤ x * s) ⊎ (x * s ≤ getD xs i 0 * s)
-      apart i l = ⊎-elim (λ q. inl (cell-fits x s (getD xs i 0) q)) (λ q. inr (mul-le-mul-right s q)) (lt-or-le (getD xs i 0) x)
+      other : (i : ℕ) → i < length xs → getD xs i 0 ≡ x → ⊥
+      other i l e = clash (isIn x xs) (ap (λ (y : ℕ). isIn y xs) (sym e) ∙ at-in i xs l) none
+
+      apart : (i : ℕ) → i < length xs → (getD xs i 0 * s + s ≤ x * s) ⊎ (x * s + s ≤ getD xs i 0 * s)
+      apart i l = ⊎-elim (λ q. inl (cell-fits x s (getD xs i 0) q)) (λ q. inr (after (other i l) q)) (lt-or-le (getD xs i 0) x)
+        where
+          after : (getD xs i 0 ≡ x → ⊥) → x ≤ getD xs i 0 → x * s + s ≤ getD xs i 0 * s
+          after n q = let m : x < getD xs i 0 = omega arith in cell-fits (getD xs i 0) s x m
 
 -- an ordinary cell of a set is a cell of the stripe
 module _ (p k kind i c r : ℕ) (o : Ordinary p k kind i c r) where
@@ -273,7 +279,7 @@ module _ (p k kind i c r : ℕ) (o : Ordinary p k kind i c r) where
   pub own-disk : c < k + 2
   own-disk = omega (arith, disk-below p (k + 2) (place p r c) own-below, disk-place p r c (o .row))
 
-  -- the offsets of the others lie beside it, and their XOR put there is the set's step
+  -- the offsets of the others lie apart from it, and their XOR put there is the set's step
   module _ (s n : ℕ) (old at t : List ℕ) (room : length at ≡ 33) (long : length t ≡ stripeLong p k s) (pushed : Pushed old at 0 n (scaled s (survivors p c c (ordinaryOf p k kind i) ++ extraIn p k kind i))) where
     list : Pushed old at 0 n (scaled s (without (place p r c) (setOf p k kind i)))
     list = subst (λ (xs : List ℕ). Pushed old at 0 n (scaled s xs)) (sym (others-are p k kind i c r o)) pushed
@@ -281,8 +287,8 @@ module _ (p k kind i c r : ℕ) (o : Ordinary p k kind i c r) where
     in-stripe : allBelow (p * (k + 2)) (without (place p r c) (setOf p k kind i)) ≡ true
     in-stripe = kept-below (without-keeps (place p r c)) (p * (k + 2)) (setOf p k kind i) (set-below p k kind i (o .numbered))
 
-    pub others-beside : Beside (place p r c * s) s (length t) (take n at)
-    others-beside = beside s n (p * (k + 2)) old at (without (place p r c) (setOf p k kind i)) t room list in-stripe (long ∙ omega arith) (place p r c) own-below none
+    pub others-apart : Apart (place p r c * s) s (length t) (take n at)
+    others-apart = apart-from s n (p * (k + 2)) old at (without (place p r c) (setOf p k kind i)) t room list in-stripe (long ∙ omega arith) (place p r c) own-below none
       where
         none : isIn (place p r c) (without (place p r c) (setOf p k kind i)) ≡ false
         none = in-without (place p r c) (place p r c) (setOf p k kind i) ∙ ap (λ (b : Bool). isIn (place p r c) (setOf p k kind i) && not b) (eq-eqb (place p r c) (place p r c) refl) ∙ and-false (isIn (place p r c) (setOf p k kind i))

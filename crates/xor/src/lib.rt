@@ -125,8 +125,8 @@ fn put_rest(dst: &mut [u8], t: &[u8], at: &[usize], b: usize)
     copy(&mut dst[b..n], &block[..m]);
 }
 
-// dst = the XOR of the parts of t at the offsets.
-pub fn gather(dst: &mut [u8], t: &[u8], at: &[usize])
+// dst = the XOR of the parts of t at the offsets, block by block.
+fn gather_blocks(dst: &mut [u8], t: &[u8], at: &[usize])
     requires { ⌜ (length (now dst) ≤ length (now t)) × Reached (length (now dst)) (length (now t)) (now at) ⌝ }
     ensures { λ _. ⌜ now (dst .exit) ≡ xorOffsets (length (now (dst .entry))) (now (t .entry)) (now (at .entry)) ⌝ }
 {
@@ -137,6 +137,19 @@ pub fn gather(dst: &mut [u8], t: &[u8], at: &[usize])
         b += 64;
     }
     put_rest(dst, t, at, b);
+}
+
+// dst = the XOR of the parts of t at the offsets: eight block by block, any others four a pass. Parts that are as far apart as cells of 4,096 bytes share a set of the cache, which keeps no more lines.
+pub fn gather(dst: &mut [u8], t: &[u8], at: &[usize])
+    requires { ⌜ (length (now dst) ≤ length (now t)) × Reached (length (now dst)) (length (now t)) (now at) ⌝ }
+    ensures { λ _. ⌜ now (dst .exit) ≡ xorOffsets (length (now (dst .entry))) (now (t .entry)) (now (at .entry)) ⌝ }
+{
+    if at.len() <= 8 {
+        gather_blocks(dst, t, at);
+        return;
+    }
+    gather_blocks(dst, t, &at[..8]);
+    add_all(dst, t, &at[8..]);
 }
 
 // Is the XOR of the parts of 64 bytes zero?

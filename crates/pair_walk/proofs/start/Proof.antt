@@ -109,8 +109,17 @@ array-share-prefix-marks c = simp length-append (omega (arith, toggled-long (c .
 slice-aggregate-gather-odd : tie.Need-slice-aggregate-gather-odd
 slice-aggregate-gather-odd c = sym (length-take-le _ _ (simp length-append (omega (arith, toggled-long (c .before .before .before .before)))))
 
+-- eight numbers of the list are lent
+eight : (v : tie.After-toggle-sets) → length (take 8 (v .toggle-sets .last .1 .1 .1 .1 .1 .1 .0)) ≡ 8
+eight v =
+    let l : length (v .toggle-sets .last .1 .1 .1 .1 .1 .1 .0) ≡ 33 = search needs in
+    length-take-le 8 (v .toggle-sets .last .1 .1 .1 .1 .1 .1 .0) (omega arith)
+
+slice-aggregate-gather-odd-2 : tie.Need-slice-aggregate-gather-odd-2
+slice-aggregate-gather-odd-2 c = sym (eight (c .before .before .before .before .before))
+
 gather-odd-requires : tie.Need-gather-odd-requires
-gather-odd-requires c κs = (ready (c .before .before .before .before .before), search needs, search needs)
+gather-odd-requires c κs = let v = c .before .before .before .before .before in (ready v, omega (arith, eight v), omega (arith, eight v))
 
 returns : tie.Need-returns
 returns c =
@@ -146,6 +155,7 @@ start-spec =
     array-share-prefix-marks
     slice-aggregate-gather-odd
     (λ c. search needs)
+    slice-aggregate-gather-odd-2
     gather-odd-requires
     (λ c. search needs)
     returns)

@@ -1,4 +1,4 @@
--- `solve_by`: the other cells of the set are pushed, and their XOR is put at the cell, beside which they lie.
+-- `solve_by`: the other cells of the set are pushed, and their XOR is put at the cell, apart from which they lie.
 use mathlib.Core.Path.{_≡_, sym}
 use Prim.Native.Nat.{_*_, _≤_}
 use native.Mathlib.Nat.{mul-le-mul}
@@ -7,8 +7,8 @@ use lib.ListN.{length, take}
 use lib.Seq.{length-take-le}
 use borrow.Author.Needs.{needs}
 use Rattle.liberation.specs.Sets.{place}
-use Rattle.xor_within.specs.Beside.{Beside}
-use Rattle.stripes.proofs.SetLists.{own-disk, others-beside, others-solve}
+use Rattle.xor_within.specs.Beside.{Apart}
+use Rattle.stripes.proofs.SetLists.{own-disk, others-apart, others-solve}
 use Rattle.stripes.proofs.solve_by.Statement.{statement}
 use Rattle.stripes.proofs.solve_by.Tie as tie
 
@@ -24,11 +24,11 @@ others-requires c κs =
 room : (c : tie.After-others) → length (c .others .last .1 .1 .1 .1 .1 .1 .0) ≡ 33
 room c = search needs
 
-lies : (c : tie.After-others) → let a = c .before .before .before .before .args in Beside (place (a .width) (a .row) (a .disk) * a .size) (a .size) (length (a .stripe .now)) (take (c .others .result) (c .others .last .1 .1 .1 .1 .1 .1 .0))
+lies : (c : tie.After-others) → let a = c .before .before .before .before .args in Apart (place (a .width) (a .row) (a .disk) * a .size) (a .size) (length (a .stripe .now)) (take (c .others .result) (c .others .last .1 .1 .1 .1 .1 .1 .0))
 lies c =
     let o = c .before .before .before .before in
     let a = o .args in
-    others-beside (a .width) (a .disks) (a .kind) (a .number) (a .disk) (a .row) (o .pre .0 .1) (a .size) (c .others .result) (a .at .now) (c .others .last .1 .1 .1 .1 .1 .1 .0) (a .stripe .now) (room c) (o .pre .0 .0 .long) (c .others .ensures)
+    others-apart (a .width) (a .disks) (a .kind) (a .number) (a .disk) (a .row) (o .pre .0 .1) (a .size) (c .others .result) (a .at .now) (c .others .last .1 .1 .1 .1 .1 .1 .0) (a .stripe .now) (room c) (o .pre .0 .0 .long) (c .others .ensures)
 
 -- the cell's place is a small number
 small : (c : tie.After-others) → let a = c .before .before .before .before .args in a .disk * a .width ≤ 32 * 31
@@ -47,16 +47,16 @@ add-to c = omega (arith, small (c .before .before))
 mul-to-2 : tie.Need-mul-to-2
 mul-to-2 c = omega (arith, lies (c .before .before) .fits)
 
-slice-aggregate-gather-within : tie.Need-slice-aggregate-gather-within
-slice-aggregate-gather-within c = let o = c .before .before .before .before .others in sym (length-take-le (o .result) (o .last .1 .1 .1 .1 .1 .1 .0) (o .ensures .fits))
+slice-aggregate-gather-lists : tie.Need-slice-aggregate-gather-lists
+slice-aggregate-gather-lists c = let o = c .before .before .before .before .others in sym (length-take-le (o .result) (o .last .1 .1 .1 .1 .1 .1 .0) (o .ensures .fits))
 
-gather-within-requires : tie.Need-gather-within-requires
-gather-within-requires c κs = lies (c .before .before .before .before)
+gather-lists-requires : tie.Need-gather-lists-requires
+gather-lists-requires c κs = lies (c .before .before .before .before)
 
 returns : tie.Need-returns
 returns c =
-    let g = c .before .before .gather-within in
-    let u = c .before .before .before .before .before .before .before in
+    let g = c .before .before .before .before .gather-lists in
+    let u = c .before .before .before .before .before .before .before .before .before in
     let o = u .before .before .before .before in
     let a = o .args in
     others-solve (a .width) (a .disks) (a .kind) (a .number) (a .disk) (a .row) (o .pre .0 .1) (a .size) (u .others .result) (a .at .now) (u .others .last .1 .1 .1 .1 .1 .1 .0) (a .stripe .now) (room u) (o .pre .0 .0 .long) (u .others .ensures) (g .last .0) (g .ensures)
@@ -70,8 +70,8 @@ solve-by-spec =
     add-to
     mul-to-2
     (λ c. search needs)
-    slice-aggregate-gather-within
-    gather-within-requires
+    slice-aggregate-gather-lists
+    gather-lists-requires
     (λ c. search needs)
     (λ c. search needs)
     returns)

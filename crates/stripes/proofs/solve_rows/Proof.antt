@@ -7,10 +7,10 @@ use lib.Seq.{length-take-le}
 use borrow.Author.Needs.{needs}
 use Rattle.liberation.specs.Sets.{rowSet, survivingIn}
 use Rattle.xor.specs.Reach.{Reached}
-use Rattle.xor_within.specs.Beside.{Beside}
+use Rattle.xor_within.specs.Beside.{Apart}
 use Rattle.offsets.specs.Offsets.{scaled}
 use Rattle.stripes.proofs.SetLists.{data-count}
-use Rattle.stripes.proofs.ColumnLaws.{row-pushed, columns-beside, rows-solved}
+use Rattle.stripes.proofs.ColumnLaws.{row-pushed, columns-apart, rows-solved}
 use Rattle.stripes.proofs.solve_rows.Statement.{statement}
 use Rattle.stripes.proofs.solve_rows.Tie as tie
 
@@ -38,26 +38,26 @@ list c =
     let a = o .args in
     row-pushed (a .width) (a .disks) (a .size) (a .disk) (o .pre .1) (o .pre .2) (u .push .ensures) (c .push-row .ensures) .list
 
-lies : (c : tie.After-push-row) → let a = c .before .before .before .before .before .before .before .args in Beside (a .disk * (a .width * a .size)) (a .width * a .size) (length (a .stripe .now)) (take (c .push-row .result) (c .push-row .last .1 .1 .1 .1 .1 .0))
+lies : (c : tie.After-push-row) → let a = c .before .before .before .before .before .before .before .args in Apart (a .disk * (a .width * a .size)) (a .width * a .size) (length (a .stripe .now)) (take (c .push-row .result) (c .push-row .last .1 .1 .1 .1 .1 .0))
 lies c =
     let o = c .before .before .before .before .before .before .before in
     let a = o .args in
     let room : length (c .push-row .last .1 .1 .1 .1 .1 .0) ≡ 33 = search needs in
-    columns-beside (a .width) (a .disks) (a .size) (a .disk) (o .pre .1) (list c) (omega (arith, long c, c .push-row .ensures .fits)) (omega (arith, o .pre .0 .long)) (o .pre .2)
+    columns-apart (a .width) (a .disks) (a .size) (a .disk) (o .pre .1) (list c) (omega (arith, long c, c .push-row .ensures .fits)) (omega (arith, o .pre .0 .long)) (o .pre .2)
 
-mul-gather-within : tie.Need-mul-gather-within
-mul-gather-within c = omega (arith, lies (c .before .before) .fits)
+mul-gather-lists : tie.Need-mul-gather-lists
+mul-gather-lists c = omega (arith, lies (c .before .before) .fits)
 
-slice-aggregate-gather-within : tie.Need-slice-aggregate-gather-within
-slice-aggregate-gather-within c = sym (long (c .before .before .before))
+slice-aggregate-gather-lists : tie.Need-slice-aggregate-gather-lists
+slice-aggregate-gather-lists c = sym (long (c .before .before .before))
 
-gather-within-requires : tie.Need-gather-within-requires
-gather-within-requires c κs = lies (c .before .before .before)
+gather-lists-requires : tie.Need-gather-lists-requires
+gather-lists-requires c κs = lies (c .before .before .before)
 
 returns : tie.Need-returns
 returns c =
-    let g = c .before .before .gather-within in
-    let v = c .before .before .before .before .before .before in
+    let g = c .before .before .before .gather-lists in
+    let v = c .before .before .before .before .before .before .before in
     let o = v .before .before .before .before .before .before .before in
     let a = o .args in
     rows-solved (a .width) (a .disks) (a .size) (a .disk) (a .stripe .now) (o .pre .1) (o .pre .2) (o .pre .0 .long) (subst (Reached (a .width * a .size) (length (a .stripe .now))) (list v) (lies v .sources))
@@ -75,9 +75,9 @@ solve-rows-spec =
     (λ c. search needs)
     push-row-requires
     (λ c. search needs)
-    mul-gather-within
+    mul-gather-lists
     (λ c. search needs)
-    slice-aggregate-gather-within
-    gather-within-requires
+    slice-aggregate-gather-lists
+    gather-lists-requires
     (λ c. search needs)
     returns)
