@@ -200,13 +200,9 @@ fn start(width: usize, size: usize, x: usize, y: usize, stripe: &mut [u8])
     let mut marks = sets::no_marks();
     let mut at = offsets::no_offsets();
     toggle_sets(count, width, x, y, from, &mut marks[..cells], &mut at);
-    odd::gather_odd(
-        stripe,
-        size,
-        first * width + row,
-        &marks[..cells],
-        &mut at[..8],
-    );
+    let to = first * width + row;
+    let most = xor::list_most(size);
+    odd::gather_odd(stripe, size, to, &marks[..cells], &mut at[..most]);
 }
 
 // Two data disks: the first cell, its row's other cell, then the walk over the other rows.

@@ -139,12 +139,19 @@ fn gather_blocks(dst: &mut [u8], t: &[u8], at: &[usize])
     put_rest(dst, t, at, b);
 }
 
-// dst = the XOR of the parts of t at the offsets: eight block by block, any others four a pass. Parts that are as far apart as cells of 4,096 bytes share a set of the cache, which keeps no more lines.
+// How many parts of n bytes go into one list. Parts that are as far apart as cells of 4,096 bytes share a set of the cache, and a core may keep no more than eight lines of it; for short parts a second list costs more.
+pub fn list_most(n: usize) -> usize
+    ensures { λ r. ⌜ (8 ≤ r) × (r ≤ 33) ⌝ }
+{
+    if n < 512 { 33 } else { 8 }
+}
+
+// dst = the XOR of the parts of t at the offsets: one list block by block; of a longer one eight parts, and the others four a pass.
 pub fn gather(dst: &mut [u8], t: &[u8], at: &[usize])
     requires { ⌜ (length (now dst) ≤ length (now t)) × Reached (length (now dst)) (length (now t)) (now at) ⌝ }
     ensures { λ _. ⌜ now (dst .exit) ≡ xorOffsets (length (now (dst .entry))) (now (t .entry)) (now (at .entry)) ⌝ }
 {
-    if at.len() <= 8 {
+    if at.len() <= list_most(dst.len()) {
         gather_blocks(dst, t, at);
         return;
     }

@@ -95,36 +95,36 @@ low k =
     let h : f .result ≤ 31 = omega (arith, first-range (a .width) (a .x) (a .y) (o .pre .1) (f .result) (f .ensures), o .pre .0 .widest) in
     mul-le-mul h (o .pre .0 .widest)
 
-mul-gather-odd : tie.Need-mul-gather-odd
-mul-gather-odd c = omega (arith, low (c .before .before .before .before .before .before .before .before))
+mul-to : tie.Need-mul-to
+mul-to c = omega (arith, low (c .before .before .before .before .before .before .before))
 
-add-gather-odd : tie.Need-add-gather-odd
-add-gather-odd c =
-    let k = c .before .before .before .before .before .before .before .before in
+add-to : tie.Need-add-to
+add-to c =
+    let k = c .before .before .before .before .before .before .before in
     omega (arith, low k, k .before .before .extra-row .ensures .1, k .before .before .before .before .before .pre .0 .widest)
 
 array-share-prefix-marks : tie.Need-array-share-prefix-marks
-array-share-prefix-marks c = simp length-append (omega (arith, toggled-long (c .before .before .before)))
+array-share-prefix-marks c = simp length-append (omega (arith, toggled-long (c .before .before .before .before)))
 
 slice-aggregate-gather-odd : tie.Need-slice-aggregate-gather-odd
-slice-aggregate-gather-odd c = sym (length-take-le _ _ (simp length-append (omega (arith, toggled-long (c .before .before .before .before)))))
+slice-aggregate-gather-odd c = sym (length-take-le _ _ (simp length-append (omega (arith, toggled-long (c .before .before .before .before .before)))))
 
--- eight numbers of the list are lent
-eight : (v : tie.After-toggle-sets) → length (take 8 (v .toggle-sets .last .1 .1 .1 .1 .1 .1 .0)) ≡ 8
-eight v =
-    let l : length (v .toggle-sets .last .1 .1 .1 .1 .1 .1 .0) ≡ 33 = search needs in
-    length-take-le 8 (v .toggle-sets .last .1 .1 .1 .1 .1 .1 .0) (omega arith)
+-- the first numbers of the list are lent
+lent : (c : tie.After-list-most) → let m = c .list-most .result in length (take m (c .before .before .before .toggle-sets .last .1 .1 .1 .1 .1 .1 .0)) ≡ m
+lent c =
+    let l : length (c .before .before .before .toggle-sets .last .1 .1 .1 .1 .1 .1 .0) ≡ 33 = search needs in
+    length-take-le (c .list-most .result) (c .before .before .before .toggle-sets .last .1 .1 .1 .1 .1 .1 .0) (omega arith)
 
 slice-aggregate-gather-odd-2 : tie.Need-slice-aggregate-gather-odd-2
-slice-aggregate-gather-odd-2 c = sym (eight (c .before .before .before .before .before))
+slice-aggregate-gather-odd-2 c = sym (lent (c .before .before .before))
 
 gather-odd-requires : tie.Need-gather-odd-requires
-gather-odd-requires c κs = let v = c .before .before .before .before .before in (ready v, omega (arith, eight v), omega (arith, eight v))
+gather-odd-requires c κs = let m = c .before .before .before in (ready (m .before .before .before), omega (arith, lent m), omega (arith, lent m))
 
 returns : tie.Need-returns
 returns c =
     let g = c .before .before .before .gather-odd in
-    let v = c .before .before .before .before .before .before .before .before .before in
+    let v = c .before .before .before .before .before .before .before .before .before .before in
     let k = v .before .before .before .before .before in
     let f = k .before .before .before .first-disk in
     let r = k .before .before .extra-row in
@@ -150,8 +150,9 @@ start-spec =
     slice-aggregate-toggle-sets
     (λ c. search needs)
     toggle-sets-requires
-    mul-gather-odd
-    add-gather-odd
+    mul-to
+    add-to
+    (λ c κs. search needs)
     array-share-prefix-marks
     slice-aggregate-gather-odd
     (λ c. search needs)

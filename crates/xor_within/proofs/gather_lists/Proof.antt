@@ -10,13 +10,13 @@ use Rattle.xor_within.proofs.gather_lists.Tie as tie
 slice-aggregate-gather-within : tie.Need-slice-aggregate-gather-within
 slice-aggregate-gather-within c =
     let e = c .before .before .list-end in
-    let a = c .before .before .before .before .before .args in
+    let a = c .before .before .before .before .before .before .args in
     sym (length-take-le (e .result) (a .at .now) (e .ensures .1))
 
 gather-within-requires : tie.Need-gather-within-requires
 gather-within-requires c κs =
     let e = c .before .before .list-end in
-    let o = c .before .before .before .before .before in
+    let o = c .before .before .before .before .before .before in
     let a = o .args in
     first-beside (a .d) (a .n) (a .t .now) (a .at .now) (o .pre) (e .result)
 
@@ -24,7 +24,7 @@ add-lists-requires : tie.Need-add-lists-requires
 add-lists-requires c κs =
     let g = c .before .before .before .before .gather-within in
     let e = c .before .before .before .before .before .before .before .list-end in
-    let o = c .before .before .before .before .before .before .before .before .before .before in
+    let o = c .before .before .before .before .before .before .before .before .before .before .before in
     (still-apart _ (g .kept .0) (o .pre), e .ensures .1, λ h. e .ensures .2 (omega (arith, h)))
 
 returns : tie.Need-returns
@@ -32,7 +32,7 @@ returns c =
     let v = c .before .before .before .before .add-lists in
     let g = c .before .before .before .before .before .before .before .before .before .gather-within in
     let e = c .before .before .before .before .before .before .before .before .before .before .before .before .list-end in
-    let o = c .before .before .before .before .before .before .before .before .before .before .before .before .before .before .before in
+    let o = c .before .before .before .before .before .before .before .before .before .before .before .before .before .before .before .before in
     let a = o .args in
     lists-done (a .d) (a .n) (a .t .now) (a .at .now) (o .pre) (e .result) (g .last .0) (v .last .0) (g .ensures) (v .ensures)
 
@@ -40,6 +40,7 @@ pub gather-lists-spec : {M : Type 1} → statement M
 gather-lists-spec =
     tie.close
     (tie.spec
+    (λ c κs. search needs)
     (λ c κs. search needs)
     (λ c. search needs)
     slice-aggregate-gather-within
