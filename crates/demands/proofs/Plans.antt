@@ -11,7 +11,8 @@ use Rattle.liberation.specs.Judging.{accepted, stepsIn}
 use Rattle.liberation.specs.Claims.{isBest, diagonalsUsed, loneExtras, byExtra, Rearranged}
 use Rattle.liberation.proofs.FaultLaws.{plan-none}
 use Rattle.liberation.proofs.Rearranging.{count-same}
-use Rattle.liberation.proofs.Demand3.{plans-best, plan-accepted}
+use Rattle.liberation.proofs.Demand3.{plans-best}
+use Rattle.liberation.proofs.PartPlans.{plan-accepted}
 use Rattle.liberation_stripes.specs.Stripes.{isStripe, followed}
 use Rattle.liberation_stripes.proofs.Rearranging.{bytes-same}
 use Rattle.planner.specs.declared.Plan.{Plan}
@@ -82,7 +83,7 @@ own-accepted p f r j k z d =
     let m = plan-means p f r k z in
     let bs : List ℕ = formOf p r in
     let e : stepsIn p bs ≡ planOf p p f = plan-form p f r k z in
-    let a : Acceptable p p f bs = record { width = m .width; disk = m .disk; long = length-of p r; accepts = ap (accepted p p f) e ∙ plan-accepted p f (m .width) (m .disk) } in
+    let a : Acceptable p p f bs = record { width = m .width; disk = m .disk; long = length-of p r; accepts = ap (accepted p p f) e ∙ plan-accepted p p f (m .width) (omega arith) (m .disk) } in
     let y : j .answer .refusal ≡ 0 = accepts-zero p p f bs j d a in
     record { refusal = y; reads = zero-counts p p f bs j d y ∙ ap (λ (ss : List Step). readCount p p f ss) e ∙ sym (our-reads p f r k z) }
 

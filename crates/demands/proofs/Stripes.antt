@@ -13,7 +13,7 @@ use Rattle.laws.specs.Xor.{allBytes}
 use Rattle.laws.proofs.Flags.{and-i}
 use Rattle.liberation.specs.Sets.{diskAt}
 use Rattle.liberation.specs.Plans.{readList}
-use Rattle.liberation.proofs.Demand3.{plan-accepted}
+use Rattle.liberation.proofs.PartPlans.{plan-accepted}
 use Rattle.liberation_stripes.specs.Stripes.{cellAt, columnOf, stripeLong, isStripe, clean, encoded, rebuilt}
 use Rattle.liberation_stripes.proofs.Encoding.{encoded-stripe, encoded-data, encoded-clean, encoded-only}
 use Rattle.liberation_stripes.proofs.Rebuilding.{one-back, lost-unused, only-read}
@@ -70,7 +70,7 @@ pub brings-back :
     → ((x : ℕ) → x < p * (p + 2) → (diskAt p x ≡ f → ⊥) → cellAt s t x ≡ cellAt s u x) → o′ ≡ columnOf p s f u
 brings-back p s f t u o o′ r v c k z h =
     let a = taken p s f t o o′ r k z in
-    column-is p s f t o o′ r k z ∙ one-back p p s f (plan-accepted p f (a .width) (a .disk)) (omega (arith, a .disk)) t u (stripe-is p s f t o o′ r k z) v c h
+    column-is p s f t o o′ r k z ∙ one-back p p s f (plan-accepted p p f (a .width) (omega arith) (a .disk)) (omega (arith, a .disk)) t u (stripe-is p s f t o o′ r k z) v c h
 
 -- "What the stripe holds for the lost disk is never used": two accepted calls on stripes alike off that disk write one column, on dirty stripes too.
 pub never-used :
@@ -79,7 +79,7 @@ pub never-used :
 never-used p s f t u o o′ n n′ r q k z m y h =
     let a = taken p s f t o o′ r k z in
     column-is p s f t o o′ r k z
-    ∙ lost-unused p p s f (plan-accepted p f (a .width) (a .disk)) (omega (arith, a .disk)) t u (stripe-is p s f t o o′ r k z) (stripe-is p s f u n n′ q m y) h
+    ∙ lost-unused p p s f (plan-accepted p p f (a .width) (omega arith) (a .disk)) (omega (arith, a .disk)) t u (stripe-is p s f t o o′ r k z) (stripe-is p s f u n n′ q m y) h
     ∙ sym (column-is p s f u n n′ q m y)
 
 -- The last sentence of demand 3: stripes alike in every cell marked 1 in the list that `read_list` writes give one rebuilt disk, dirty stripes too.
@@ -91,5 +91,5 @@ one-column p s f t u o o′ n n′ l l′ r q a k z m y w e h =
     let i = taken p s f t o o′ r k z in
     let list : l′ ≡ readList p p f = w .list ∙ ap (λ (x : ℕ). pick (eqb x 0) (readList p p f) l) (sym (w .answer .refusal) ∙ e) in
     column-is p s f t o o′ r k z
-    ∙ only-read p p s f (plan-accepted p f (i .width) (i .disk)) (omega (arith, i .disk)) t u (stripe-is p s f t o o′ r k z) (stripe-is p s f u n n′ q m y) (λ x g. h x (ap (λ (v : List ℕ). getD v x 0) list ∙ g))
+    ∙ only-read p p s f (plan-accepted p p f (i .width) (omega arith) (i .disk)) (omega (arith, i .disk)) t u (stripe-is p s f t o o′ r k z) (stripe-is p s f u n n′ q m y) (λ x g. h x (ap (λ (v : List ℕ). getD v x 0) list ∙ g))
     ∙ sym (column-is p s f u n n′ q m y)

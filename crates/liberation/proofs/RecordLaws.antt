@@ -15,7 +15,7 @@ use Rattle.liberation.specs.Judging.{stepsIn}
 use Rattle.liberation.proofs.ReadLaws.{numbersBelow}
 use Rattle.liberation.proofs.UsedLaws.{named-numbers}
 use Rattle.liberation.proofs.AcceptedLaws.{accepted-length, accepted-named}
-use Rattle.liberation.proofs.Demand3.{plan-accepted}
+use Rattle.liberation.proofs.PartPlans.{plan-accepted}
 
 pub listed-append : (g : Step → ℕ) (ss ts : List Step) → listed g (ss ++ ts) ≡ listed g ss ++ listed g ts
 listed-append g [] ts = refl
@@ -59,12 +59,12 @@ number-below p (x ∷ ss) zero s b e h =
 number-below p (x ∷ ss) (suc i) s b e h = number-below p ss i s (and-r (ltb (x .number) p) (numbersBelow p ss) b) e (omega arith)
 
 -- our plan has p steps, and its set numbers are below p
-pub plan-length : (p f : ℕ) → isWidth p ≡ true → f ≤ p + 1 → length (planOf p p f) ≡ p
-plan-length p f w h = accepted-length p p f (planOf p p f) (plan-accepted p f w h)
+pub plan-length : (p k f : ℕ) → isWidth p ≡ true → k ≤ p → f ≤ k + 1 → length (planOf p k f) ≡ p
+plan-length p k f w most h = accepted-length p k f (planOf p k f) (plan-accepted p k f w most h)
 
-pub plan-number : (p f i : ℕ) → isWidth p ≡ true → f ≤ p + 1 → (a : StepAt (planOf p p f) i) → i < p → a .this .number < p
-plan-number p f i w h a l =
-    number-below p (planOf p p f) i (a .this) (named-numbers p (planOf p p f) (accepted-named p p f (planOf p p f) (plan-accepted p f w h))) (a .split) (omega (arith, plan-length p f w h))
+pub plan-number : (p k f i : ℕ) → isWidth p ≡ true → k ≤ p → f ≤ k + 1 → (a : StepAt (planOf p k f) i) → i < p → a .this .number < p
+plan-number p k f i w most h a l =
+    number-below p (planOf p k f) i (a .this) (named-numbers p (planOf p k f) (accepted-named p k f (planOf p k f) (plan-accepted p k f w most h))) (a .split) (omega (arith, plan-length p k f w most h))
 
 -- three bytes a step
 pub length-form : (n i : ℕ) (rows kinds numbers : List ℕ) → length (judgeForm n i rows kinds numbers) ≡ 3 * n

@@ -19,15 +19,15 @@ use Rattle.laws.proofs.MemberLaws.{in-below}
 use Rattle.laws.proofs.Primes.{Prime}
 use Rattle.laws.proofs.XorLaws.{xorL-assoc, xorL-self, xorL-zeros, zero-xorL, zero-equal, zeros-bytes}
 use Rattle.liberation.specs.Sets.{place, diskAt, rowSet, diagonalSet, lostIn, survivingIn}
-use Rattle.liberation.specs.Plans.{diagonalOf}
+use Rattle.liberation.specs.Plans.{extraRowOn, diagonalOf}
 use Rattle.liberation.proofs.SetLaws.{in-surviving, place-below, set-below}
+use Rattle.liberation.proofs.LostLaws.{lost-surviving, second-range}
 use Rattle.liberation_stripes.specs.Stripes.{cellAt, withCell, xorOver, isStripe, clean}
 use Rattle.liberation_stripes.proofs.CellLaws.{cell-fits, cell-long, with-same, length-with, cell-with, cell-other}
 use Rattle.liberation_stripes.proofs.OverLaws.{Long, over-long, over-bytes, over-append, over-split}
 use Rattle.liberation_stripes.proofs.Solving.{cells-long, bytes-with, cell-bytes, stripe-long, stripe-bytes, stripe-of, SetZero, clean-at}
-use Rattle.liberation_pairs.specs.Pairs.{extraRowOn, nextRow, startSets, startCount, firstDisk, startCells, firstCell, started}
+use Rattle.liberation_pairs.specs.Pairs.{nextRow, startSets, startCount, firstDisk, startCells, firstCell, started}
 use Rattle.liberation_pairs.specs.PairSteps.{isLost}
-use Rattle.liberation_pairs.proofs.LostLaws.{lost-surviving, second-range}
 use Rattle.liberation_pairs.proofs.WalkRows.{rowAfter, after-zero, after-next}
 use Rattle.liberation_pairs.proofs.Roles.{Short, Roles, row-low}
 use Rattle.liberation_pairs.proofs.StartLaws.{Cells, over-nil, from-zero, from-other}

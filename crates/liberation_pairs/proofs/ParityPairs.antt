@@ -13,15 +13,15 @@ use Rattle.laws.specs.Lists.{isIn}
 use Rattle.laws.proofs.Flags.{and-l, and-r, and-i, or-l}
 use Rattle.laws.proofs.Residues.{sub-small}
 use Rattle.liberation.specs.Sets.{place, rowSet, diagonalSet, extraRow}
-use Rattle.liberation.specs.Plans.{Step, secondRow, diagonalOf, allOf}
+use Rattle.liberation.specs.Plans.{Step, secondRow, extraRowOn, diagonalOf, allOf}
 use Rattle.liberation.proofs.SetLaws.{in-row, in-diagonal-parity}
 use Rattle.liberation.proofs.RouteLaws.{second-row}
 use Rattle.liberation.proofs.RowSteps.{ordinary-row, ordinary-diagonal}
+use Rattle.liberation.proofs.LostLaws.{extraOn, on-data, on-cases}
 use Rattle.liberation_stripes.specs.Stripes.{followed}
-use Rattle.liberation_pairs.specs.Pairs.{extraRowOn, upDiagonals}
+use Rattle.liberation_pairs.specs.Pairs.{upDiagonals}
 use Rattle.liberation_pairs.specs.PairSteps.{CellStep, cellStep, stepsDone, onDisk, isKnown, rowParitySteps, diagonalParitySteps}
 use Rattle.liberation_pairs.proofs.Standing.{Standing, doneAfter, names, names-append}
-use Rattle.liberation_pairs.proofs.LostLaws.{extraOn, on-data, on-cases}
 use Rattle.liberation_pairs.proofs.Upward.{upSteps, Upward, up-names, both-standing, both-full}
 
 -- R i on a data disk or P

@@ -16,12 +16,12 @@ use Rattle.laws.proofs.MemberLaws.{in-head}
 use Rattle.laws.proofs.Modulo.{lt-or-le}
 use Rattle.laws.proofs.Primes.{Prime}
 use Rattle.liberation.specs.Sets.{place, diskAt, diagonalSet}
-use Rattle.liberation.specs.Plans.{diagonalOf}
+use Rattle.liberation.specs.Plans.{extraRowOn, diagonalOf}
 use Rattle.liberation.proofs.RowSteps.{ordinary-diagonal}
 use Rattle.liberation_stripes.specs.Stripes.{cellAt, xorOver, isStripe, clean}
 use Rattle.liberation_stripes.proofs.OverLaws.{over-ext}
 use Rattle.liberation_stripes.proofs.Solving.{SetZero, clean-of}
-use Rattle.liberation_pairs.specs.Pairs.{extraRowOn, nextRow, startCount, firstDisk, firstCell, startCells, started, filled, diagonalWalk, rowWalk, walked}
+use Rattle.liberation_pairs.specs.Pairs.{nextRow, startCount, firstDisk, firstCell, startCells, started, filled, diagonalWalk, rowWalk, walked}
 use Rattle.liberation_pairs.specs.PairSteps.{CellStep, stepsDone, walkSteps, dataSteps, isLost, isKnown}
 use Rattle.liberation_pairs.proofs.Standing.{Standing, known-cases, steps-stripe, steps-kept, steps-zero, steps-back}
 use Rattle.liberation_pairs.proofs.Upward.{lost-first, lost-second, known-lost}

@@ -13,10 +13,10 @@ use Rattle.laws.proofs.Modulo.{mul-mod-r, lt-or-le}
 use Rattle.laws.proofs.Primes.{Prime, inverse}
 use Rattle.laws.proofs.Residues.{sub-small}
 use Rattle.laws.specs.Choice.{pick}
-use Rattle.liberation.specs.Plans.{secondRow, diagonalOf}
+use Rattle.liberation.specs.Plans.{secondRow, extraRowOn, diagonalOf}
 use Rattle.liberation.proofs.RowSteps.{ordinary-row}
-use Rattle.liberation_pairs.specs.Pairs.{extraRowOn, startCount, firstDisk, comesToOne, forward}
-use Rattle.liberation_pairs.proofs.LostLaws.{second-range}
+use Rattle.liberation.proofs.LostLaws.{second-range}
+use Rattle.liberation_pairs.specs.Pairs.{startCount, firstDisk, comesToOne, forward}
 use Rattle.liberation_pairs.proofs.WalkRows.{rowAfter, after-add, comes-once, comes-round, there, back, met}
 
 -- the inverse of y - x mod p is at most (p - 1)/2

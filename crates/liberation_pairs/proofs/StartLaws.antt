@@ -19,12 +19,12 @@ use Rattle.laws.proofs.MemberLaws.{in-below}
 use Rattle.laws.proofs.Primes.{Prime}
 use Rattle.laws.proofs.XorLaws.{xorL-comm, xorL-swap, xorL-zeros, xorL-twice, xorL-long, xorL-bytes, zero-xorL, zeros-bytes}
 use Rattle.liberation.specs.Sets.{rowAt, diskAt, rowSet, diagonalSet, extraRow, lostIn}
-use Rattle.liberation.specs.Plans.{secondRow, diagonalOf}
+use Rattle.liberation.specs.Plans.{secondRow, extraRowOn, diagonalOf}
 use Rattle.liberation.proofs.RowSteps.{ordinary-row, ordinary-diagonal}
+use Rattle.liberation.proofs.LostLaws.{extraOn, extraRows, extra-on, extra-row, extra-none, second-range, lost-append, lost-row, lost-diagonal}
 use Rattle.liberation_stripes.specs.Stripes.{xorOver}
 use Rattle.liberation_stripes.proofs.OverLaws.{Long, over-long, over-bytes, over-append}
-use Rattle.liberation_pairs.specs.Pairs.{extraRowOn, nextRow, startSets}
-use Rattle.liberation_pairs.proofs.LostLaws.{extraOn, extraRows, extra-on, extra-row, extra-none, second-range, lost-append, lost-row, lost-diagonal}
+use Rattle.liberation_pairs.specs.Pairs.{nextRow, startSets}
 use Rattle.liberation_pairs.proofs.WalkRows.{rowAfter, after-zero, after-next, after-lt, comes-to, comes-once, comes-round, meets, back, met, not-met}
 use Rattle.liberation_pairs.proofs.Roles.{Short, Roles, row-low}
 

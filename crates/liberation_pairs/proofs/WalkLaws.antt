@@ -16,14 +16,14 @@ use Rattle.laws.proofs.MemberLaws.{in-head, in-tail}
 use Rattle.laws.proofs.Primes.{Prime}
 use Rattle.laws.proofs.TestLaws.{eqb-same, ltb-next}
 use Rattle.liberation.specs.Sets.{place, rowAt, diskAt, rowSet, diagonalSet, extraRow}
-use Rattle.liberation.specs.Plans.{diagonalOf}
+use Rattle.liberation.specs.Plans.{extraRowOn, diagonalOf}
 use Rattle.liberation.proofs.SetLaws.{place-eq, in-row}
 use Rattle.liberation.proofs.PlaceLaws.{some-row}
 use Rattle.liberation.proofs.RowSteps.{ordinary-row}
-use Rattle.liberation_pairs.specs.Pairs.{extraRowOn, otherDisk, firstCell}
+use Rattle.liberation.proofs.LostLaws.{extraOn, on-data, on-cases}
+use Rattle.liberation_pairs.specs.Pairs.{otherDisk, firstCell}
 use Rattle.liberation_pairs.specs.PairSteps.{CellStep, cellStep, walkSteps, dataSteps, isLost, isKnown}
 use Rattle.liberation_pairs.proofs.Standing.{Stands, Standing, none, next, doneAfter, names}
-use Rattle.liberation_pairs.proofs.LostLaws.{extraOn, on-data, on-cases}
 use Rattle.liberation_pairs.proofs.Upward.{on-disk, lost-cases, lost-first, lost-second, known-lost, unknown-lost, known-rows}
 use Rattle.liberation_pairs.proofs.WalkRows.{rowAfter, after-zero, after-suc, after-lt, comes-to, comes-once}
 use Rattle.liberation_pairs.proofs.Roles.{Roles, row-low, extra-stood}

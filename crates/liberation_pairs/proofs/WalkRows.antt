@@ -9,10 +9,10 @@ use native.Mathlib.Omega.{arith}
 use Rattle.laws.proofs.Modulo.{cong-add, cong-mul, small-eq, lt-or-le}
 use Rattle.laws.proofs.Primes.{Prime, cancel, add-cancel, visits, once}
 use Rattle.laws.proofs.Residues.{sub-small}
-use Rattle.liberation.specs.Plans.{secondRow, diagonalOf}
+use Rattle.liberation.specs.Plans.{secondRow, extraRowOn, diagonalOf}
 use Rattle.liberation.proofs.RouteLaws.{second-row}
-use Rattle.liberation_pairs.specs.Pairs.{extraRowOn, nextRow}
-use Rattle.liberation_pairs.proofs.LostLaws.{second-range}
+use Rattle.liberation.proofs.LostLaws.{second-range}
+use Rattle.liberation_pairs.specs.Pairs.{nextRow}
 
 -- the row n turns on
 unfoldable pub rowAfter : ℕ → ℕ → ℕ → ℕ → ℕ → ℕ

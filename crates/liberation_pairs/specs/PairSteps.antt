@@ -6,9 +6,9 @@ use lib.Dec.{eqb, ltb, leb}
 use Rattle.laws.specs.Choice.{pick}
 use Rattle.laws.specs.Lists.{isIn}
 use Rattle.liberation.specs.Sets.{place, diskAt, setOf}
-use Rattle.liberation.specs.Plans.{Step, diagonalOf, allOf}
+use Rattle.liberation.specs.Plans.{Step, extraRowOn, diagonalOf, allOf}
 use Rattle.liberation_stripes.specs.Stripes.{solved}
-use Rattle.liberation_pairs.specs.Pairs.{extraRowOn, nextRow, otherDisk, firstCell, started, forward, upDiagonals}
+use Rattle.liberation_pairs.specs.Pairs.{nextRow, otherDisk, firstCell, started, forward, upDiagonals}
 
 -- a step for two lost disks: the cell that it writes, by its place, and the kind and number of its set
 pub record CellStep : Type 0 where

@@ -6,12 +6,8 @@ use Prim.Native.Nat.{ℕ, zero, suc, _+_, _-_, _*_, _/_, _%_}
 use lib.Dec.{eqb, ltb, leb}
 use Rattle.laws.specs.Choice.{pick}
 use Rattle.liberation.specs.Sets.{place, rowSet, diagonalSet, survivingIn}
-use Rattle.liberation.specs.Plans.{Step, step, secondRow, diagonalOf, allOf}
+use Rattle.liberation.specs.Plans.{Step, step, extraRowOn, diagonalOf, allOf}
 use Rattle.liberation_stripes.specs.Stripes.{cellAt, withCell, xorOver, solved, followed}
-
--- the row of the extra cell on disk c, c > 0
-abbrev pub extraRowOn : ℕ → ℕ → ℕ
-extraRowOn p c = secondRow p c - 1
 
 -- D (r - x) holds (r, x), and its cell on disk y is in this row
 abbrev pub nextRow : ℕ → ℕ → ℕ → ℕ → ℕ

@@ -14,11 +14,11 @@ use Rattle.laws.specs.Lists.{isIn}
 use Rattle.laws.proofs.Flags.{and-l, clash, flag}
 use Rattle.laws.proofs.MemberLaws.{at-in}
 use Rattle.liberation.specs.Sets.{place, rowSet}
-use Rattle.liberation.specs.Plans.{allOf}
+use Rattle.liberation.specs.Plans.{extraRowOn, allOf}
 use Rattle.liberation.proofs.SetLaws.{place-below}
 use Rattle.liberation_stripes.specs.Stripes.{cellAt, withCell, solved, followed}
 use Rattle.liberation_stripes.proofs.CellLaws.{cell-fits, cell-long}
-use Rattle.liberation_pairs.specs.Pairs.{extraRowOn, startSets, startCount, firstDisk, otherDisk, startCells, firstCell, started, diagonalWalk, walked, comesToOne, forward, dataSolved, upDiagonals, withRowParity, withDiagonalParity, orderedSolved, pairSolved}
+use Rattle.liberation_pairs.specs.Pairs.{startSets, startCount, firstDisk, otherDisk, startCells, firstCell, started, diagonalWalk, walked, comesToOne, forward, dataSolved, upDiagonals, withRowParity, withDiagonalParity, orderedSolved, pairSolved}
 use Rattle.liberation_pairs.specs.PairSteps.{isLost}
 use Rattle.liberation_pairs.proofs.FirstCell.{start-survives}
 use Rattle.liberation_pairs.proofs.Upward.{lost-first, lost-second}

@@ -7,9 +7,9 @@ use native.Mathlib.Omega.{arith}
 use lib.Dec.{eqb}
 use borrow.Author.Tests.{eq-eqb, ne-eqb, le-leb, lt-leb}
 use Rattle.laws.specs.Choice.{pick}
-use Rattle.liberation.specs.Plans.{secondRow}
-use Rattle.liberation_pairs.specs.Pairs.{extraRowOn, comesToOne, forward}
-use Rattle.liberation_pairs.proofs.LostLaws.{second-range}
+use Rattle.liberation.specs.Plans.{secondRow, extraRowOn}
+use Rattle.liberation.proofs.LostLaws.{second-range}
+use Rattle.liberation_pairs.specs.Pairs.{comesToOne, forward}
 
 pub one-found : (n p d r : ℕ) → 0 < n → r ≡ 1 → comesToOne n p d r ≡ true
 unfolding comesToOne

@@ -2,8 +2,9 @@
 ghost use mathlib.Core.Path.{_≡_};
 ghost use Prim.Native.Nat.{_+_, _-_, _*_, _/_, _%_, _≤_, _<_};
 ghost use Rattle.liberation.specs.Sets.{setOf};
+ghost use Rattle.liberation.specs.Plans.{extraRowOn};
 ghost use Rattle.liberation_stripes.specs.Stripes.{followed};
-ghost use Rattle.liberation_pairs.specs.Pairs.{extraRowOn, startSets, startCount, firstDisk, otherDisk, started, diagonalWalk, rowWalk, walked, comesToOne, forward, dataSolved, upDiagonals, withRowParity, withDiagonalParity, orderedSolved, pairSolved};
+ghost use Rattle.liberation_pairs.specs.Pairs.{startSets, startCount, firstDisk, otherDisk, started, diagonalWalk, rowWalk, walked, comesToOne, forward, dataSolved, upDiagonals, withRowParity, withDiagonalParity, orderedSolved, pairSolved};
 ghost use Rattle.odd.specs.Toggled.{toggledAll};
 ghost use Rattle.stripes.specs.Cells.{survivors, Sized};
 ghost use Rattle.pair_walk.specs.Disks.{Toggling, Walked};

@@ -11,7 +11,7 @@ use Rattle.liberation.specs.Sets.{isWidth, setOf, survivingIn}
 use Rattle.liberation.specs.Plans.{Step, planOf, marksFrom}
 use Rattle.liberation.proofs.SetLaws.{survivors-below}
 use Rattle.liberation.proofs.AcceptedLaws.{Passes, none, next, accepted-passes}
-use Rattle.liberation.proofs.Demand3.{plan-accepted}
+use Rattle.liberation.proofs.PartPlans.{plan-accepted}
 use Rattle.sets.specs.Marks.{Marked, markAll, freshIn}
 use Rattle.sets.proofs.MarkLaws.{marks-added, fresh-added, fresh-le}
 use Rattle.liberation.proofs.SetSizes.{size-most}
@@ -35,7 +35,7 @@ row-below p k f zero s (next {s = x} {ss} g rest) e h = let q : x .row ≡ s .ro
 row-below p k f (suc i) s (next g rest) e h = row-below p k f i s rest e (omega arith)
 
 plan-row : (p f i : ℕ) → isWidth p ≡ true → f ≤ p + 1 → (a : StepAt (planOf p p f) i) → i < p → a .this .row < p
-plan-row p f i w h a l = row-below p p f i (a .this) (accepted-passes p p f (planOf p p f) (plan-accepted p f w h)) (a .split) (omega (arith, plan-length p f w h))
+plan-row p f i w h a l = row-below p p f i (a .this) (accepted-passes p p f (planOf p p f) (plan-accepted p p f w (omega arith) h)) (a .split) (omega (arith, plan-length p p f w (omega arith) h))
 
 -- Step i of our plan, and where the plan record has its numbers.
 pub record PlanStep (p f i : ℕ) (r : Steps) : Type 0 where
@@ -54,11 +54,11 @@ plan-step p f i r w h k l =
       kind = ap (λ (x : List ℕ). getD x i 0) (k .kinds) ∙ a .held (λ s. s .kind);
       number = ap (λ (x : List ℕ). getD x i 0) (k .numbers) ∙ a .held (λ s. s .number);
       row-below = plan-row p f i w h a l;
-      number-below = plan-number p f i w h a l;
+      number-below = plan-number p p f i w (omega arith) h a l;
     }
   where
     a : StepAt (planOf p p f) i
-    a = step-at (planOf p p f) i (omega (arith, plan-length p f w h))
+    a = step-at (planOf p p f) i (omega (arith, plan-length p p f w (omega arith) h))
 
 -- a set has at most p + 2 cells, so no more are new
 pub new-few : (p f kind number : ℕ) {m m′ : List ℕ} {r : ℕ} → Marked m m′ (survivingIn p f (setOf p p kind number)) r → r ≤ p + 2

@@ -14,7 +14,7 @@ use Rattle.liberation.proofs.FaultLaws.{plan-of}
 use Rattle.liberation.proofs.ReadLaws.{marks-count}
 use Rattle.liberation.proofs.UsedLaws.{named-numbers}
 use Rattle.liberation.proofs.AcceptedLaws.{accepted-named}
-use Rattle.liberation.proofs.Demand3.{plan-accepted}
+use Rattle.liberation.proofs.PartPlans.{plan-accepted}
 use Rattle.liberation.proofs.RecordLaws.{length-form, form-steps, recorded-from, plan-length}
 use Rattle.refusals.proofs.AnswerLaws.{answers-none}
 use Rattle.planner.specs.declared.Plan.{Plan}
@@ -37,7 +37,7 @@ plan-held p f r k z =
     let n : planFault p p f ≡ 0 = answers-none (planFault p p f) (r .answer) (k .answer) z in
     let w = plan-of p p f n in
     let h = held-as (plannedSteps p f) (planOf p p f) (r .steps) (planned-is p f n) (k .steps) in
-    (λ j. recorded p 0 (h .rows j) (h .kinds j) (h .numbers j)) ∙ recorded-from p 0 (planOf p p f) (omega (arith, plan-length p f (w .0) (w .1)))
+    (λ j. recorded p 0 (h .rows j) (h .kinds j) (h .numbers j)) ∙ recorded-from p 0 (planOf p p f) (omega (arith, plan-length p p f (w .0) (omega arith) (w .1)))
 
 -- "ours for the p steps of the planner's record, put in that form"
 pub plan-form : (p f : ℕ) (r : Plan) → PlanSays p f r → r .answer .refusal ≡ 0 → stepsIn p (formOf p r) ≡ planOf p p f
@@ -45,4 +45,4 @@ plan-form p f r k z = form-steps p 0 (r .steps .rows) (r .steps .kinds) (r .step
 
 -- "so the ones are as many as the count says"
 pub list-ones : (p f : ℕ) → isWidth p ≡ true → f ≤ p + 1 → total (readList p p f) ≡ readCount p p f (planOf p p f)
-list-ones p f w h = marks-count p p f (planOf p p f) (named-numbers p (planOf p p f) (accepted-named p p f (planOf p p f) (plan-accepted p f w h)))
+list-ones p f w h = marks-count p p f (planOf p p f) (named-numbers p (planOf p p f) (accepted-named p p f (planOf p p f) (plan-accepted p p f w (omega arith) h)))

@@ -61,7 +61,7 @@ plan-means p f r k z =
       steps = e;
       count = c ∙ sym (ap (readCount p p f) e);
       diagonals = ap ones q ∙ word-ones p f (w .0) (w .1) ∙ sym (ap (diagonalsUsed p) e);
-      parity = λ l. c ∙ parity-disks (λ d. readCount p p d (planOf p p d) ≡ p * p) p f l (w .1) (row-parity-reads p (width-odd p (w .0))) (diagonal-parity-reads p (width-odd p (w .0)));
+      parity = λ l. c ∙ parity-disks (λ d. readCount p p d (planOf p p d) ≡ p * p) p f l (w .1) (row-parity-reads p p (width-odd p (w .0)) (omega arith)) (diagonal-parity-reads p p (width-odd p (w .0)) (omega arith));
     }
 
 -- marks are ones and zeros

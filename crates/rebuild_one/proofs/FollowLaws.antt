@@ -12,7 +12,7 @@ use Rattle.laws.proofs.ByteLaws.{bytes-append, bytes-take, bytes-drop}
 use Rattle.liberation.specs.Sets.{isWidth, place, diskAt, setOf, lostIn}
 use Rattle.liberation.specs.Plans.{Step, planOf}
 use Rattle.liberation.proofs.AcceptedLaws.{Passes, none, next, accepted-passes}
-use Rattle.liberation.proofs.Demand3.{plan-accepted}
+use Rattle.liberation.proofs.PartPlans.{plan-accepted}
 use Rattle.liberation.proofs.Widths.{width-least}
 use Rattle.liberation_stripes.specs.Stripes.{cellAt, isStripe, solved, followed, columnOf, withColumn, stripeLong, rebuilt}
 use Rattle.liberation_stripes.proofs.CellLaws.{cell-fits, cells-equal, column-cell, length-column, column-with, cell-off}
@@ -33,7 +33,7 @@ step-passed p k f (suc i) st (next g rest) h e = step-passed p k f i st rest (om
 
 -- so each step of our plan names a row, and its set holds the lost cell of that row
 pub plan-passed : (p f i : ℕ) → isWidth p ≡ true → f ≤ p + 1 → (a : StepAt (planOf p p f) i) → i < p → (a .this .row < p) × (isIn (a .this .row) (lostIn p f (setOf p p (a .this .kind) (a .this .number))) ≡ true)
-plan-passed p f i w h a l = step-passed p p f i (a .this) (accepted-passes p p f (planOf p p f) (plan-accepted p f w h)) (omega (arith, plan-length p f w h)) (a .split)
+plan-passed p f i w h a l = step-passed p p f i (a .this) (accepted-passes p p f (planOf p p f) (plan-accepted p p f w (omega arith) h)) (omega (arith, plan-length p p f w (omega arith) h)) (a .split)
 
 -- the loop over the steps: i of them done
 pub record Stepping (p s f : ℕ) (t col₀ col : List ℕ) (i : ℕ) : Type 0 where
@@ -66,7 +66,7 @@ module _ (p s f : ℕ) (wide : isWidth p ≡ true) (disk : f ≤ p + 1) where
   unfolding rebuilt
   rebuilt-off t u ht hu same =
       cells-equal p s (columnOf p s f (after t)) (columnOf p s f (after u)) (column-long p p s f (after t) below (stripe t ht)) (column-long p p s f (after u) below (stripe u hu))
-      (λ r m. column-cell p s f r (after t) m ∙ steps-agree p p s f (planOf p p f) (plan-accepted p f wide disk) t u ht hu (λ x n e. same x n) r m ∙ sym (column-cell p s f r (after u) m))
+      (λ r m. column-cell p s f r (after t) m ∙ steps-agree p p s f (planOf p p f) (plan-accepted p p f wide (omega arith) disk) t u ht hu (λ x n e. same x n) r m ∙ sym (column-cell p s f r (after u) m))
     where
       after : List ℕ → List ℕ
       after v = followed p p s f (planOf p p f) v
@@ -75,7 +75,7 @@ module _ (p s f : ℕ) (wide : isWidth p ≡ true) (disk : f ≤ p + 1) where
       below = omega arith
 
       stripe : (v : List ℕ) → isStripe p p s v ≡ true → isStripe p p s (after v) ≡ true
-      stripe v h = followed-stripe p p s f (accepted-passes p p f (planOf p p f) (plan-accepted p f wide disk)) v h
+      stripe v h = followed-stripe p p s f (accepted-passes p p f (planOf p p f) (plan-accepted p p f wide (omega arith) disk)) v h
 
   -- all steps done
   pub stepping-end : (t col₀ col : List ℕ) (i : ℕ) → p ≤ i → length t ≡ stripeLong p p s → length col₀ ≡ p * s → allBytes t ≡ true → allBytes col₀ ≡ true → Stepping p s f t col₀ col i → col ≡ rebuilt p p s f t
@@ -90,7 +90,7 @@ module _ (p s f : ℕ) (wide : isWidth p ≡ true) (disk : f ≤ p + 1) where
       fits = let l : f < p + 2 = omega arith in omega (arith, cell-fits (p + 2) (p * s) f l)
 
       few : length (planOf p p f) ≤ i
-      few = omega (arith, plan-length p f wide disk)
+      few = omega (arith, plan-length p p f wide (omega arith) disk)
 
       bytes : allBytes (withColumn p s f col₀ t) ≡ true
       bytes = bytes-append (take (f * (p * s)) t) (col₀ ++ drop (f * (p * s) + p * s) t) (bytes-take (f * (p * s)) t bt) (bytes-append col₀ (drop (f * (p * s) + p * s) t) bc (bytes-drop (f * (p * s) + p * s) t bt))

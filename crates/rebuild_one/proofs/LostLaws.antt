@@ -15,8 +15,8 @@ use Rattle.laws.proofs.ListLaws.{isIn-append}
 use Rattle.liberation.specs.Sets.{place, rowAt, diskAt, extraRow, extraDisk, extraOf, hasExtra, rowSet, diagonalSet, setOf, lostIn}
 use Rattle.liberation.proofs.SetLaws.{disk-place, in-lost, in-ordinary-data, extra-range}
 use Rattle.liberation.proofs.DistinctLaws.{extra-apart}
+use Rattle.liberation.proofs.LostLaws.{lost-diagonal}
 use Rattle.liberation_stripes.specs.Stripes.{without}
-use Rattle.liberation_pairs.proofs.LostLaws.{lost-diagonal}
 use Rattle.offsets.proofs.KeptLaws.{Keeps, without-keeps, kept-same}
 use Rattle.stripes.specs.Cells.{ordinaryOf, extraIn}
 use Rattle.stripes.proofs.SetLists.{set-split, own-row, extra-row, extra-first}

@@ -103,7 +103,7 @@ reads-most : (p f : ℕ) → isWidth p ≡ true → f ≤ p + 1 → readCount p 
 reads-most p f w h = ⊎-elim (λ l. omega (arith, plans-best p f w l .ours-count)) parity (lt-or-le f p)
   where
     parity : p ≤ f → readCount p p f (planOf p p f) ≤ p * p
-    parity l = ⊎-elim (λ m. at (omega arith) (row-parity-reads p (width-odd p w))) (λ m. at (omega arith) (diagonal-parity-reads p (width-odd p w))) (lt-or-le f (suc p))
+    parity l = ⊎-elim (λ m. at (omega arith) (row-parity-reads p p (width-odd p w) (omega arith))) (λ m. at (omega arith) (diagonal-parity-reads p p (width-odd p w) (omega arith))) (lt-or-le f (suc p))
       where
         at : {d : ℕ} → f ≡ d → readCount p p d (planOf p p d) ≡ p * p → readCount p p f (planOf p p f) ≤ p * p
         at {d} e q = omega (arith, ap (λ (i : ℕ). readCount p p i (planOf p p i)) e ∙ q)

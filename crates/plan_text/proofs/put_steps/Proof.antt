@@ -104,7 +104,7 @@ returns : tie.Need-returns Inv-loop μ-loop
 returns c =
     let q = c .before .before .before .before .before .before .before in
     let l = c .before .loop in
-    printing-end (omega (arith, plan-length (q .args .width) (q .args .disk) (q .pre .0) (q .pre .1))) (l .inv)
+    printing-end (omega (arith, plan-length (q .args .width) (q .args .width) (q .args .disk) (q .pre .0) (omega arith) (q .pre .1))) (l .inv)
 
 pub put-steps-spec : {M : Type 1} → statement M
 put-steps-spec =

@@ -27,7 +27,7 @@ small c = width-most _ (c .before .before .before .before .before .pre .0)
 this : (c : tie.In-loop Inv-loop μ-loop) → let a = c .before .before .before .before .before .args in StepAt (planOf (a .width) (a .width) (a .disk)) (c .before .loop .i)
 this c =
     let q = c .before .before .before .before .before in
-    step-at _ _ (omega (arith, plan-length (q .args .width) (q .args .disk) (q .pre .0) (q .pre .1)))
+    step-at _ _ (omega (arith, plan-length (q .args .width) (q .args .width) (q .args .disk) (q .pre .0) (omega arith) (q .pre .1)))
 
 kind : (c : tie.In-loop Inv-loop μ-loop) → getD (c .before .before .before .before .before .args .s .kinds) (c .before .loop .i) 0 ≡ this c .this .kind
 kind c = ap (λ (x : List ℕ). getD x (c .before .loop .i) 0) (c .before .before .before .before .before .pre .2 .kinds) ∙ this c .held (λ s. s .kind)
@@ -35,7 +35,7 @@ kind c = ap (λ (x : List ℕ). getD x (c .before .loop .i) 0) (c .before .befor
 number : (c : tie.In-loop Inv-loop μ-loop) → (getD (c .before .before .before .before .before .args .s .numbers) (c .before .loop .i) 0 ≡ this c .this .number) × (this c .this .number < c .before .before .before .before .before .args .width)
 number c =
     let q = c .before .before .before .before .before in
-    (ap (λ (x : List ℕ). getD x (c .before .loop .i) 0) (q .pre .2 .numbers) ∙ this c .held (λ s. s .number), plan-number (q .args .width) (q .args .disk) (c .before .loop .i) (q .pre .0) (q .pre .1) (this c) (c .loop-test .taken))
+    (ap (λ (x : List ℕ). getD x (c .before .loop .i) 0) (q .pre .2 .numbers) ∙ this c .held (λ s. s .number), plan-number (q .args .width) (q .args .width) (q .args .disk) (c .before .loop .i) (q .pre .0) (omega arith) (q .pre .1) (this c) (c .loop-test .taken))
 
 -- the loop's state after one more step
 turned : (c : tie.After-slice-known2 Inv-loop μ-loop) → let a = c .before .before .before .before .before .before .before .before .before .args in let l = c .before .before .before .before .before .loop in Reading (a .width) (a .disk) (planOf (a .width) (a .width) (a .disk)) (c .before .before .mark-set .last .1 .1 .1 .1 .1 .0) (l .reads + c .before .before .mark-set .result) (l .i + 1)
@@ -44,7 +44,7 @@ turned c =
     let q = t .before .before .before .before .before in
     let l = t .before .loop in
     let m = c .before .before .mark-set in
-    reading-turn (q .args .width) (q .args .disk) _ (l .marks) (m .last .1 .1 .1 .1 .1 .0) (l .reads) (l .i) (m .result) (this t) (omega (arith, plan-length (q .args .width) (q .args .disk) (q .pre .0) (q .pre .1))) (number t .1) (l .inv .0) (rw (kind t, number t .0) at (m .ensures))
+    reading-turn (q .args .width) (q .args .disk) _ (l .marks) (m .last .1 .1 .1 .1 .1 .0) (l .reads) (l .i) (m .result) (this t) (omega (arith, plan-length (q .args .width) (q .args .width) (q .args .disk) (q .pre .0) (omega arith) (q .pre .1))) (number t .1) (l .inv .0) (rw (kind t, number t .0) at (m .ensures))
 
 loop-holds : tie.Need-loop-holds Inv-loop μ-loop
 loop-holds c = (reading-start _ _ _ _ (c .before .before .before .pre .3), refl)
@@ -95,7 +95,7 @@ returns : tie.Need-returns Inv-loop μ-loop
 returns c =
     let q = c .before .before .before .before .before in
     let l = c .before .loop in
-    reading-end _ _ _ _ (l .reads) (l .i) (omega (arith, plan-length (q .args .width) (q .args .disk) (q .pre .0) (q .pre .1))) (l .inv .0)
+    reading-end _ _ _ _ (l .reads) (l .i) (omega (arith, plan-length (q .args .width) (q .args .width) (q .args .disk) (q .pre .0) (omega arith) (q .pre .1))) (l .inv .0)
 
 pub mark-steps-spec : {M : Type 1} → statement M
 mark-steps-spec =

@@ -26,7 +26,7 @@ small c = let z = c .before .before .before .before .before .before .before in w
 this : (c : tie.In-loop Inv-loop μ-loop) → let a = c .before .before .before .before .before .before .before .args in StepAt (planOf (a .width) (a .width) (a .disk)) (c .before .loop .i)
 this c =
     let z = c .before .before .before .before .before .before .before in
-    step-at _ _ (omega (arith, plan-length (z .args .width) (z .args .disk) (z .pre .0 .0 .width) (z .pre .0 .0 .disk)))
+    step-at _ _ (omega (arith, plan-length (z .args .width) (z .args .width) (z .args .disk) (z .pre .0 .0 .width) (omega arith) (z .pre .0 .0 .disk)))
 
 -- and where the arrays have it
 row : (c : tie.In-loop Inv-loop μ-loop) → getD (c .before .before .before .before .before .before .before .args .steps .rows) (c .before .loop .i) 0 ≡ this c .this .row
@@ -68,7 +68,7 @@ rebuild-cell-requires c κs =
     let d = z .pre .0 .0 .disk in
     let passed = plan-passed (a .width) (a .disk) (t .before .loop .i) w d (this t) (t .loop-test .taken) in
     record {
-      within = record { widest = small t; disks = omega arith; numbered = omega (arith, number t, plan-number (a .width) (a .disk) (t .before .loop .i) w d (this t) (t .loop-test .taken)) };
+      within = record { widest = small t; disks = omega arith; numbered = omega (arith, number t, plan-number (a .width) (a .width) (a .disk) (t .before .loop .i) w (omega arith) d (this t) (t .loop-test .taken)) };
       odd = width-odd (a .width) w;
       rows = omega (arith, row t, passed .0);
       own = rw (row t, kind t, number t) (passed .1);

@@ -1,4 +1,4 @@
--- The cells that a set has on a lost disk: a row set has one on each data disk and on P, a diagonal set one on each data disk and, on the disk of its extra cell, that one too.
+-- The cells that a set has on a lost disk: a row set has one on each data disk and on P, a diagonal set one on each data disk and on Q and, on the disk of its extra cell, that one too.
 -- Disk c > 0 holds one extra cell, in row e = extraRowOn p c, of the diagonal p - 1 - e. Every width and every number k ≤ p of data disks.
 use mathlib.Core.Path.{_≡_, refl, sym, ap, ap₂, _∙_}
 use mathlib.Core.Bool.{Bool, true, false, _&&_, _||_, and-false, false≢true}
@@ -8,16 +8,15 @@ use Prim.Native.Nat.{ℕ, zero, suc, _+_, _-_, _*_, _%_, _≤_, _<_}
 use native.Mathlib.Nat.{mod-lt}
 use native.Mathlib.Omega.{arith}
 use lib.Dec.{eqb, ltb, leb}
-use borrow.Author.Tests.{eqb-true, eqb-false, eq-eqb, ne-eqb, leb-true, le-leb, lt-ltb}
+use borrow.Author.Tests.{eqb-true, eqb-false, eq-eqb, ne-eqb, leb-true, le-leb, ltb-true, lt-ltb}
 use Rattle.laws.specs.Choice.{pick}
 use Rattle.laws.specs.Lists.{isIn}
 use Rattle.laws.proofs.Flags.{flag, and-l, and-r, and-i, or-cases, same-flag}
 use Rattle.laws.proofs.TestLaws.{eqb-sym}
 use Rattle.liberation.specs.Sets.{place, rowAt, diskAt, rowFrom, rowSet, diagonalFrom, ordinary, extraRow, extraDisk, extraOf, hasExtra, diagonalSet, lostIn, survivingIn}
-use Rattle.liberation.specs.Plans.{secondRow}
+use Rattle.liberation.specs.Plans.{secondRow, extraRowOn}
 use Rattle.liberation.proofs.SetLaws.{disk-place, row-place, in-diagonal, in-ordinary-data, extra-cases, extra-range}
 use Rattle.liberation.proofs.RouteLaws.{second-row}
-use Rattle.liberation_pairs.specs.Pairs.{extraRowOn}
 
 -- D z has its extra cell on disk c
 abbrev pub extraOn : ℕ → ℕ → ℕ → Bool
@@ -118,11 +117,25 @@ lost-here p c r xs h = lost-one p c r c xs h ∙ ap (λ (b : Bool). pick b (r �
 lost-off : (p c r d : ℕ) (xs : List ℕ) → r < p → (d ≡ c → ⊥) → lostIn p c (place p r d ∷ xs) ≡ lostIn p c xs
 lost-off p c r d xs h n = lost-one p c r d xs h ∙ ap (λ (b : Bool). pick b (r ∷ lostIn p c xs) (lostIn p c xs)) (ne-eqb d c n)
 
--- one cell on each of n disks from d on, in row g c on disk c: those after disk c, and those up to it
-row-after : (n p i d c : ℕ) → i < p → c < d → lostIn p c (rowFrom n p i d) ≡ []
-unfolding rowFrom lostIn
-row-after zero p i d c h l = refl
-row-after (suc n) p i d c h l = lost-off p c i d (rowFrom n p i (suc d)) h (λ e. omega arith) ∙ row-after n p i (suc d) c h (omega arith)
+lost-nil : (p c : ℕ) → lostIn p c [] ≡ []
+unfolding lostIn
+lost-nil p c = refl
+
+-- disk c is none of the n disks from d on
+abbrev Off : ℕ → ℕ → ℕ → Type 0
+Off d n c = (c < d) ⊎ (d + n ≤ c)
+
+off-first : (d n c : ℕ) → Off d (suc n) c → d ≡ c → ⊥
+off-first d n c o e = ⊎-elim (λ l. omega arith) (λ l. omega arith) o
+
+off-rest : (d n c : ℕ) → Off d (suc n) c → Off (suc d) n c
+off-rest d n c o = ⊎-elim (λ l. inl (omega arith)) (λ l. inr (omega arith)) o
+
+-- one cell on each of n disks from d on: none where disk c is not among them, and its row where it is
+row-off : (n p i d c : ℕ) → i < p → Off d n c → lostIn p c (rowFrom n p i d) ≡ []
+unfolding rowFrom
+row-off zero p i d c h o = lost-nil p c
+row-off (suc n) p i d c h o = lost-off p c i d (rowFrom n p i (suc d)) h (off-first d n c o) ∙ row-off n p i (suc d) c h (off-rest d n c o)
 
 row-from : (n p i d c : ℕ) → i < p → d ≤ c → c < d + n → lostIn p c (rowFrom n p i d) ≡ i ∷ []
 unfolding rowFrom
@@ -133,16 +146,21 @@ row-from (suc n) p i d c h l m = ⊎-elim (λ e. here (eqb-true d c e)) (λ e. l
     later q = omega arith
 
     here : d ≡ c → lostIn p c (place p i d ∷ rowFrom n p i (suc d)) ≡ i ∷ []
-    here e = ap (λ (x : ℕ). lostIn p c (place p i x ∷ rowFrom n p i (suc d))) e ∙ lost-here p c i (rowFrom n p i (suc d)) h ∙ ap (λ (l : List ℕ). i ∷ l) (row-after n p i (suc d) c h (omega arith))
+    here e = ap (λ (x : ℕ). lostIn p c (place p i x ∷ rowFrom n p i (suc d))) e ∙ lost-here p c i (rowFrom n p i (suc d)) h ∙ ap (λ (l : List ℕ). i ∷ l) (row-off n p i (suc d) c h (inl (omega arith)))
 
 pub lost-row : (p k i c : ℕ) → i < p → c ≤ k → lostIn p c (rowSet p k i) ≡ i ∷ []
 unfolding rowSet
 lost-row p k i c h l = row-from (suc k) p i 0 c h (omega arith) (omega arith)
 
-diagonal-after : (n p z d c : ℕ) → 0 < p → c < d → lostIn p c (diagonalFrom n p z d) ≡ []
-unfolding diagonalFrom lostIn
-diagonal-after zero p z d c h l = refl
-diagonal-after (suc n) p z d c h l = lost-off p c ((z + d) % p) d (diagonalFrom n p z (suc d)) (mod-lt (z + d) h) (λ e. omega arith) ∙ diagonal-after n p z (suc d) c h (omega arith)
+-- R i has no cell on Q
+pub lost-row-Q : (p k i : ℕ) → i < p → lostIn p (suc k) (rowSet p k i) ≡ []
+unfolding rowSet
+lost-row-Q p k i h = row-off (suc k) p i 0 (suc k) h (inr (omega arith))
+
+diagonal-off : (n p z d c : ℕ) → 0 < p → Off d n c → lostIn p c (diagonalFrom n p z d) ≡ []
+unfolding diagonalFrom
+diagonal-off zero p z d c h o = lost-nil p c
+diagonal-off (suc n) p z d c h o = lost-off p c ((z + d) % p) d (diagonalFrom n p z (suc d)) (mod-lt (z + d) h) (off-first d n c o) ∙ diagonal-off n p z (suc d) c h (off-rest d n c o)
 
 diagonal-from : (n p z d c : ℕ) → 0 < p → d ≤ c → c < d + n → lostIn p c (diagonalFrom n p z d) ≡ ((z + c) % p) ∷ []
 unfolding diagonalFrom
@@ -157,24 +175,49 @@ diagonal-from (suc n) p z d c h l m =
     here e =
         ap (λ (x : ℕ). lostIn p c (place p ((z + x) % p) x ∷ diagonalFrom n p z (suc d))) e
         ∙ lost-here p c ((z + c) % p) (diagonalFrom n p z (suc d)) (mod-lt (z + c) h)
-        ∙ ap (λ (l : List ℕ). ((z + c) % p) ∷ l) (diagonal-after n p z (suc d) c h (omega arith))
-
-lost-nil : (p c : ℕ) → lostIn p c [] ≡ []
-unfolding lostIn
-lost-nil p c = refl
+        ∙ ap (λ (l : List ℕ). ((z + c) % p) ∷ l) (diagonal-off n p z (suc d) c h (inl (omega arith)))
 
 -- the row of the extra cell of D z, where it is on disk c
 abbrev pub extraRows : ℕ → ℕ → ℕ → List ℕ
 extraRows p z c = pick (extraOn p z c) (extraRow p z ∷ []) []
 
-pub lost-diagonal : (p k z c : ℕ) → z < p → c < k → lostIn p c (diagonalSet p k z) ≡ ((z + c) % p) ∷ extraRows p z c
+-- D z in its three parts: data disks, Q, extra cell
+lost-parts : (p k z c : ℕ) → z < p → lostIn p c (diagonalSet p k z) ≡ (lostIn p c (diagonalFrom k p z 0) ++ lostIn p c (place p z (suc k) ∷ [])) ++ pick (hasExtra p k z && eqb (extraDisk p z) c) (extraRow p z ∷ []) []
 unfolding diagonalSet ordinary
-lost-diagonal p k z c h l =
+lost-parts p k z c h =
     lost-append p c (ordinary p k z) (pick (hasExtra p k z) (extraOf p z ∷ []) [])
-    ∙ ap₂ _++_
-    (lost-append p c (diagonalFrom k p z 0) (place p z (suc k) ∷ []) ∙ ap₂ _++_ (diagonal-from k p z 0 c (omega arith) (omega arith) (omega arith)) (lost-off p c z (suc k) [] h (λ e. omega arith) ∙ lost-nil p c))
-    (extra (hasExtra p k z) ∙ ap (λ (b : Bool). pick b (extraRow p z ∷ []) []) (extra-there p k z c l))
+    ∙ ap₂ _++_ (lost-append p c (diagonalFrom k p z 0) (place p z (suc k) ∷ [])) (extra (hasExtra p k z))
   where
     extra : (b : Bool) → lostIn p c (pick b (extraOf p z ∷ []) []) ≡ pick (b && eqb (extraDisk p z) c) (extraRow p z ∷ []) []
     extra true = lost-one p c (extraRow p z) (extraDisk p z) [] (omega arith) ∙ ap (λ (m : List ℕ). pick (eqb (extraDisk p z) c) (extraRow p z ∷ m) m) (lost-nil p c)
     extra false = lost-nil p c
+
+pub lost-diagonal : (p k z c : ℕ) → z < p → c < k → lostIn p c (diagonalSet p k z) ≡ ((z + c) % p) ∷ extraRows p z c
+lost-diagonal p k z c h l =
+    lost-parts p k z c h
+    ∙ ap₂ _++_
+    (ap₂ _++_ (diagonal-from k p z 0 c (omega arith) (omega arith) (omega arith)) (lost-off p c z (suc k) [] h (λ e. omega arith) ∙ lost-nil p c))
+    (ap (λ (b : Bool). pick b (extraRow p z ∷ []) []) (extra-there p k z c l))
+
+-- no extra cell is on a parity disk
+extra-parity : (p k z c : ℕ) → k ≤ c → (hasExtra p k z && eqb (extraDisk p z) c) ≡ false
+extra-parity p k z c l = go (hasExtra p k z) refl
+  where
+    go : (b : Bool) → hasExtra p k z ≡ b → (b && eqb (extraDisk p z) c) ≡ false
+    go true e = let d : extraDisk p z < k = ltb-true (extraDisk p z) k (and-r (leb 1 z) (ltb (extraDisk p z) k) e) in ne-eqb (extraDisk p z) c (λ q. omega arith)
+    go false e = refl
+
+-- so D z has no cell on P, and one on Q
+pub lost-diagonal-P : (p k z : ℕ) → z < p → lostIn p k (diagonalSet p k z) ≡ []
+lost-diagonal-P p k z h =
+    lost-parts p k z k h
+    ∙ ap₂ _++_
+    (ap₂ _++_ (diagonal-off k p z 0 k (omega arith) (inr (omega arith))) (lost-off p k z (suc k) [] h (λ e. omega arith) ∙ lost-nil p k))
+    (ap (λ (b : Bool). pick b (extraRow p z ∷ []) []) (extra-parity p k z k (omega arith)))
+
+pub lost-diagonal-Q : (p k z : ℕ) → z < p → lostIn p (suc k) (diagonalSet p k z) ≡ z ∷ []
+lost-diagonal-Q p k z h =
+    lost-parts p k z (suc k) h
+    ∙ ap₂ _++_
+    (ap₂ _++_ (diagonal-off k p z 0 (suc k) (omega arith) (inr (omega arith))) (lost-here p (suc k) z [] h ∙ ap (λ (l : List ℕ). z ∷ l) (lost-nil p (suc k))))
+    (ap (λ (b : Bool). pick b (extraRow p z ∷ []) []) (extra-parity p k z (suc k) (omega arith)))
