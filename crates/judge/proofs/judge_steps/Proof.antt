@@ -96,7 +96,7 @@ mark-set-requires c κs =
     let a = c .before .before .before .before .before .before .before .before .before .before .before .before .before .args in
     let q = c .before .before .before .before .before .before .before .before .before .before .before .before .before .pre in
     let l = c .before .before .before .before .before .before .before .before .before .before .loop in
-    (record { widest = q .0 .widest; disks = q .0 .disks; numbered = form (c .before) .number }, ap length (l .inv .marks) ∙ length-marks (a .width * (a .disks + 2)) 0 (l .inv .cells))
+    (record { widest = q .0 .widest; disks = omega (arith, q .0 .disks); numbered = form (c .before) .number }, ap length (l .inv .marks) ∙ length-marks (a .width * (a .disks + 2)) 0 (l .inv .cells))
 
 -- the loop's state after one more step
 turned : (c : tie.After-slice-known2 Inv-loop μ-loop) → let a = c .before .before .before .before .before .before .before .before .before .before .before .before .before .before .before .before .args in let l = c .before .before .before .before .before .before .before .before .before .before .before .before .before .loop in Halfway (a .width) (a .disks) (a .disk) (a .plan .now) (set (l .done) (c .before .before .before .before .before .before .before .before .before .before .wide .result) 1) (c .before .before .mark-set .last .1 .1 .1 .1 .1 .0) (l .reads + c .before .before .mark-set .result) (l .i + 1)
