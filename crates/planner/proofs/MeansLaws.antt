@@ -31,8 +31,8 @@ parity-disks P p f l h a b =
 
 word-ones : (p f : ℕ) → isWidth p ≡ true → f ≤ p + 1 → ones (routeWord p p f) ≡ diagonalsUsed p (planOf p p f)
 word-ones p f w h =
-    ⊎-elim (λ l. data-ones p f (width-odd p w) (width-least p w) l)
-    (λ l. parity-disks (λ d. ones (routeWord p p d) ≡ diagonalsUsed p (planOf p p d)) p f l h (row-parity-ones p) (diagonal-parity-ones p))
+    ⊎-elim (λ l. data-ones p p f (width-odd p w) (width-least p w) (omega arith) l)
+    (λ l. parity-disks (λ d. ones (routeWord p p d) ≡ diagonalsUsed p (planOf p p d)) p f l h (row-parity-ones p p) (diagonal-parity-ones p p))
     (lt-or-le f p)
 
 -- An accepted plan for disk f of width p.
