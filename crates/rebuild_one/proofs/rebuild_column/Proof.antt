@@ -1,8 +1,12 @@
 -- `rebuild_column`: our plan is made, which is not refused, and followed.
-use mathlib.Core.Path.{_≡_}
+use mathlib.Core.Path.{sym, subst}
+use mathlib.Core.List.{List, []}
 use lib.ListN.{length}
+use Rattle.laws.proofs.ChoiceLaws.{pick-done}
+use Rattle.liberation.specs.Sets.{planFault}
+use Rattle.liberation.specs.Plans.{Step, planOf}
 use Rattle.liberation.proofs.FaultLaws.{plan-none}
-use Rattle.planner.proofs.PlanAnswers.{held-as, planned-is}
+use Rattle.planner.specs.Records.{Holds}
 use Rattle.rebuild_one.proofs.OneRefusals.{Fit, fault-none}
 use borrow.Author.Needs.{needs}
 use Rattle.rebuild_one.proofs.rebuild_column.Statement.{statement}
@@ -21,8 +25,10 @@ follow-requires c κs =
     let z = d .before .before .before in
     let a = z .args in
     let q = fit z in
-    let planned = planned-is (a .width) (a .disk) (plan-none (a .width) (a .width) (a .disk) (q .width) (q .disk)) in
-    ((record { width = q .width; disk = q .disk; held = held-as _ _ _ planned (d .plan-steps .ensures .steps) }, q .small), (q .stripe, q .column))
+    let ours : List Step = planOf (a .width) (a .width) (a .disk) in
+    let none = plan-none (a .width) (a .width) (a .disk) (q .width) (q .disk) in
+    let planned = sym (pick-done (planFault (a .width) (a .width) (a .disk)) ours [] none) in
+    ((record { width = q .width; disk = q .disk; held = subst (λ (ss : List Step). Holds ss (d .plan-steps .result .steps)) planned (d .plan-steps .ensures .steps) }, q .small), (q .stripe, q .column))
 
 same-length : tie.Need-same-length
 same-length c = search needs
