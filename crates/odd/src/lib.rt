@@ -82,7 +82,7 @@ fn add_odd(stripe: &mut [u8], size: usize, to: usize, marks: &[u8], from: usize,
     }
 }
 
-// The cell `to` becomes the XOR of the odd cells, by lists in a lent slice.
+// The cell `to` becomes the XOR of the odd cells, by lists in a lent slice. What that slice then holds is left free.
 pub fn gather_odd(stripe: &mut [u8], size: usize, to: usize, marks: &[u8], at: &mut [usize])
     requires { ⌜ Marked size to (now marks) (now stripe) × (2 ≤ length (now at)) × (length (now at) ≤ 100) ⌝ }
     ensures { λ _. ⌜ now (stripe .exit) ≡ withPart size (to * size) (xorOffsets size (now (stripe .entry)) (scaled size (oddFrom 0 (now (marks .entry))))) (now (stripe .entry)) ⌝ }

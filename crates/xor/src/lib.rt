@@ -139,7 +139,7 @@ fn gather_blocks(dst: &mut [u8], t: &[u8], at: &[usize])
     put_rest(dst, t, at, b);
 }
 
-// How many parts of n bytes go into one list. Parts that are as far apart as cells of 4,096 bytes share a set of the cache, and a core may keep no more than eight lines of it; for short parts a second list costs more.
+// How many parts of n bytes go into one list. Parts that are as far apart as cells of 4,096 bytes share a set of the cache, and a core may keep no more than eight lines of it; for short parts a second list costs more. No result depends on it, so its bounds are all that is promised.
 pub fn list_most(n: usize) -> usize
     ensures { λ r. ⌜ (8 ≤ r) × (r ≤ 33) ⌝ }
 {
