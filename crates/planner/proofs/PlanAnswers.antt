@@ -18,7 +18,8 @@ use Rattle.planner.specs.declared.Plan.{Plan}
 use Rattle.refusals.specs.declared.Answer.{Answer}
 use Rattle.refusals.specs.Answers.{Answers}
 use Rattle.refusals.proofs.AnswerLaws.{answers-as}
-use Rattle.planner.specs.Records.{Holds, RoutesAre, OurPlan}
+use Rattle.routes.specs.Records.{RoutesAre}
+use Rattle.planner.specs.Records.{Holds, OurPlan}
 use Rattle.planner.specs.Says.{plannedSteps, PlannedSays, PlanSays, Refused, listFault, ListSays}
 
 -- held steps, under another name

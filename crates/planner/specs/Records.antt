@@ -1,9 +1,9 @@
--- A plan's steps in the planner's arrays, its routes and their word, and our plan in a record.
+-- A plan's steps in the planner's arrays, and our plan in a record.
 use mathlib.Core.Path.{_≡_}
 use mathlib.Core.List.{List}
 use Prim.Native.Nat.{ℕ}
-use lib.ListN.{length, take}
-use Rattle.liberation.specs.Plans.{Step, wordFrom, planOf, routeWord}
+use lib.ListN.{length}
+use Rattle.liberation.specs.Plans.{Step, planOf, routeWord}
 use Rattle.liberation.specs.Records.{rowsOf, kindsOf, numbersOf, padded}
 use Rattle.refusals.specs.Answers.{Answers}
 use Rattle.planner.specs.declared.Steps.{Steps}
@@ -21,12 +21,6 @@ pub record Counts (ss : List Step) (rs ks ns : List ℕ) (n : ℕ) : Type 0 wher
   pub kinds : ks ≡ padded (kindsOf ss)
   pub numbers : ns ≡ padded (numbersOf ss)
   pub count : n ≡ length ss
-
--- the routes rs of p rows in an array of 31 places, and their word
-pub record RoutesAre (p : ℕ) (rs R : List ℕ) (w : ℕ) : Type 0 where
-  pub long : length R ≡ 31
-  pub routes : take p R ≡ rs
-  pub word : w ≡ wordFrom 0 rs
 
 -- our plan for disk f, not refused
 pub record OurPlan (p f : ℕ) (r : Planned) : Type 0 where

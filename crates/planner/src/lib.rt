@@ -3,12 +3,11 @@ ghost use mathlib.Core.Path.{_≡_};
 ghost use mathlib.Core.Bool.{true};
 ghost use mathlib.Core.List.{[], _++_};
 ghost use Prim.Native.Nat.{_+_, _-_, _*_, _^_, _≤_, _<_};
-ghost use lib.ListN.{length, getD, take, replicate};
-ghost use lib.Bits.{bitOr};
+ghost use lib.ListN.{length, take, replicate};
 ghost use Rattle.liberation.specs.Sets.{isWidth};
-ghost use Rattle.liberation.specs.Plans.{firstRoutes, decided, turned, routes, wordFrom, rowSteps, diagonalSteps, allOf, planOf, readCount, readList, marksFrom};
+ghost use Rattle.liberation.specs.Plans.{rowSteps, diagonalSteps, allOf, planOf, readCount, readList, marksFrom};
 ghost use Rattle.refusals.specs.Answers.{Answers};
-ghost use Rattle.planner.specs.Records.{Holds, Counts, RoutesAre, OurPlan};
+ghost use Rattle.planner.specs.Records.{Holds, Counts, OurPlan};
 ghost use Rattle.planner.specs.Says.{PlannedSays, PlanSays, Refused, ListSays};
 use refusals::Answer;
 
@@ -37,110 +36,10 @@ pub struct Planned {
     pub routes: u32,
 }
 
-// A route for each row: 0 undecided, 1 its row set, 2 a diagonal; and the rows with a diagonal as a word.
-pub struct Routes {
-    pub routes: [u8; 31],
-    pub word: u32,
-}
-
 // Steps, and how many.
 pub struct Counted {
     pub steps: Steps,
     pub count: usize,
-}
-
-// The word with a row's bit set.
-fn with_bit(word: u32, row: usize) -> u32
-    requires { ⌜ row < 32 ⌝ }
-    ensures { λ r. ⌜ r ≡ bitOr word (2 ^ row) ⌝ }
-{
-    word | (1u32 << row)
-}
-
-// The word with the bits of all rows set.
-fn all_bits(width: usize) -> u32
-    requires { ⌜ width < 32 ⌝ }
-    ensures { λ r. ⌜ r ≡ 2 ^ width - 1 ⌝ }
-{
-    (1u32 << width) - 1
-}
-
-// The rows that take a diagonal before any row is decided.
-fn first_routes(width: usize, disk: usize) -> Routes
-    requires { ⌜ (width ≤ 31) × (disk < width) ⌝ }
-    ensures { λ r. ⌜ RoutesAre width (firstRoutes width disk) (r .routes) (r .word) ⌝ }
-{
-    let mut routes = [0u8; 31];
-    routes[disk] = 2;
-    let word = with_bit(0, disk);
-    if disk == 0 {
-        return Routes {
-            routes: routes,
-            word: word,
-        };
-    }
-    let second = disk * ((width + 1) / 2) % width;
-    routes[second] = 2;
-    Routes {
-        routes: routes,
-        word: with_bit(word, second),
-    }
-}
-
-// An undecided row takes its row set if its partner is itself or has a diagonal, else a diagonal, and its partner the row set. The new word is returned.
-fn decide(width: usize, disk: usize, row: usize, routes: &mut [u8; 31], word: u32) -> u32
-    requires { ⌜ (width ≤ 31) × (disk < width) × (row < width) × (length (now routes) ≡ 31) × (word ≡ wordFrom 0 (take width (now routes))) × (getD (now routes) row 0 ≡ 0) ⌝ }
-    ensures { λ r. ⌜ RoutesAre width (decided width disk row (take width (now (routes .entry)))) (now (routes .exit)) r ⌝ }
-{
-    let partner = width - 1 - (row + width - disk) % width;
-    if partner == row {
-        routes[row] = 1;
-        return word;
-    }
-    if routes[partner] == 2 {
-        routes[row] = 1;
-        return word;
-    }
-    routes[row] = 2;
-    routes[partner] = 1;
-    with_bit(word, row)
-}
-
-// One turn of the planner: a decided row is skipped.
-fn turn(width: usize, disk: usize, row: usize, routes: &mut [u8; 31], word: u32) -> u32
-    requires { ⌜ (width ≤ 31) × (disk < width) × (row < width) × (length (now routes) ≡ 31) × (word ≡ wordFrom 0 (take width (now routes))) ⌝ }
-    ensures { λ r. ⌜ RoutesAre width (turned width disk row (take width (now (routes .entry)))) (now (routes .exit)) r ⌝ }
-{
-    if routes[row] == 0 {
-        return decide(width, disk, row, routes, word);
-    }
-    word
-}
-
-// Rows upward, until at least half of the other rows have a diagonal.
-fn all_routes(width: usize, disk: usize) -> Routes
-    requires { ⌜ (width ≤ 31) × (disk < width) ⌝ }
-    ensures { λ r. ⌜ RoutesAre width (routes width disk) (r .routes) (r .word) ⌝ }
-{
-    let half = (width - 1) / 2;
-    let first = first_routes(width, disk);
-    let mut routes = first.routes;
-    let mut word = first.word;
-    let mut row = 0;
-    while row < width {
-        if half <= u32::count_ones(word) as usize {
-            return Routes {
-                routes: routes,
-                word: word,
-            };
-        }
-        word = turn(width, disk, row, &mut routes, word);
-        row += 1;
-    }
-    Routes {
-        routes: routes,
-        word: word,
-    }
 }
 
 // The row-set steps, rows upward.
@@ -235,13 +134,21 @@ fn accepted_plan(steps: Steps, routes: u32) -> Planned
     }
 }
 
+// The word with the bits of all rows set.
+fn all_bits(width: usize) -> u32
+    requires { ⌜ width < 32 ⌝ }
+    ensures { λ r. ⌜ r ≡ 2 ^ width - 1 ⌝ }
+{
+    (1u32 << width) - 1
+}
+
 // Our plan for a disk of an array that is within its limits.
 fn our_plan(width: usize, disk: usize) -> Planned
     requires { ⌜ (isWidth width ≡ true) × (disk ≤ width + 1) ⌝ }
     ensures { λ r. ⌜ OurPlan width disk r ⌝ }
 {
     if disk < width {
-        let r = all_routes(width, disk);
+        let r = routes::all_routes(width, disk);
         let routes = r.routes;
         return accepted_plan(data_steps(width, disk, routes), r.word);
     }

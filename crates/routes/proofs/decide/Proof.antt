@@ -2,10 +2,10 @@
 use Prim.Native.Nat.{_+_, _-_}
 use native.Mathlib.Nat.{mod-lt}
 use native.Mathlib.Omega.{arith}
-use Rattle.planner.proofs.RouteLaws.{self-are, taken-are, diagonal-are}
+use Rattle.routes.proofs.RouteLaws.{self-are, taken-are, diagonal-are}
 use borrow.Author.Needs.{needs}
-use Rattle.planner.proofs.decide.Statement.{statement}
-use Rattle.planner.proofs.decide.Tie as tie
+use Rattle.routes.proofs.decide.Statement.{statement}
+use Rattle.routes.proofs.decide.Tie as tie
 
 sub-partner : tie.Need-sub-partner
 sub-partner c = search needs

@@ -2,10 +2,10 @@
 use Prim.Native.Nat.{_+_, _*_, _/_, _≤_}
 use native.Mathlib.Nat.{mod-lt, mul-le-mul}
 use native.Mathlib.Omega.{arith}
-use Rattle.planner.proofs.RouteLaws.{first-are, second-are}
+use Rattle.routes.proofs.RouteLaws.{first-are, second-are}
 use borrow.Author.Needs.{needs}
-use Rattle.planner.proofs.first_routes.Statement.{statement}
-use Rattle.planner.proofs.first_routes.Tie as tie
+use Rattle.routes.proofs.first_routes.Statement.{statement}
+use Rattle.routes.proofs.first_routes.Tie as tie
 
 array-write-routes : tie.Need-array-write-routes
 array-write-routes c = search needs

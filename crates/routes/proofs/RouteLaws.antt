@@ -1,4 +1,4 @@
--- Routes in an array of 31 places, the first p of which count, and their word: what the planner's functions leave there is what the definitions say.
+-- Routes in an array of 31 places, the first p of which count, and their word: what the functions leave there is what the definitions say.
 use mathlib.Core.Path.{_≡_, refl, sym, ap, ap₂, _∙_}
 use mathlib.Core.Bool.{Bool, true, false, _||_, true≢false, false≢true}
 use mathlib.Core.List.{List}
@@ -17,7 +17,7 @@ use Rattle.laws.proofs.Flags.{or-l, or-r}
 use Rattle.laws.proofs.ListLaws.{take-replicate}
 use Rattle.liberation.specs.Plans.{diagonals, zeroRoutes, secondRow, firstRoutes, partner, decided, turned, routesFrom, routes, wordFrom}
 use Rattle.liberation.proofs.WordLaws.{ones-word, word-lt, set-word, word-none, word-same}
-use Rattle.planner.specs.Records.{RoutesAre}
+use Rattle.routes.specs.Records.{RoutesAre}
 
 -- row f has a diagonal
 zero-are : (p f : ℕ) → p ≤ 31 → f < p → RoutesAre p (zeroRoutes p f) (set (replicate 31 0) f 2) (bitOr 0 (2 ^ f))

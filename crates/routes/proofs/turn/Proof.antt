@@ -1,8 +1,8 @@
 -- `turn`: the test of the definition; a decided row leaves the routes as they are.
-use Rattle.planner.proofs.RouteLaws.{turn-decides, turn-skips}
+use Rattle.routes.proofs.RouteLaws.{turn-decides, turn-skips}
 use borrow.Author.Needs.{needs}
-use Rattle.planner.proofs.turn.Statement.{statement}
-use Rattle.planner.proofs.turn.Tie as tie
+use Rattle.routes.proofs.turn.Statement.{statement}
+use Rattle.routes.proofs.turn.Tie as tie
 
 element-copy-out-if1 : tie.Need-element-copy-out-if1
 element-copy-out-if1 c = search needs

@@ -6,8 +6,8 @@ use lib.Bits.{bitOr}
 use lib.Dec.{lit<}
 use lib.Pow.{shl-exact}
 use borrow.Author.Needs.{needs}
-use Rattle.planner.proofs.with_bit.Statement.{statement}
-use Rattle.planner.proofs.with_bit.Tie as tie
+use Rattle.routes.proofs.with_bit.Statement.{statement}
+use Rattle.routes.proofs.with_bit.Tie as tie
 
 cast-result : tie.Need-cast-result
 cast-result c = search needs

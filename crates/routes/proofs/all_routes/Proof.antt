@@ -3,9 +3,9 @@ use mathlib.Core.Path.{_≡_, refl}
 use Prim.Native.Nat.{_-_, _/_}
 use native.Mathlib.Omega.{arith}
 use borrow.Author.Needs.{needs}
-use Rattle.planner.proofs.RouteLaws.{Under, ones-few, under-start, under-stop, under-turn, under-end}
-use Rattle.planner.proofs.all_routes.Statement.{statement}
-use Rattle.planner.proofs.all_routes.Tie as tie
+use Rattle.routes.proofs.RouteLaws.{Under, ones-few, under-start, under-stop, under-turn, under-end}
+use Rattle.routes.proofs.all_routes.Statement.{statement}
+use Rattle.routes.proofs.all_routes.Tie as tie
 
 abbrev Inv-loop : tie.InvT-loop
 Inv-loop width disk half routes₀ word₀ row₀ routes word row = (half ≡ (width - 1) / 2) × Under width disk row routes word

@@ -1,0 +1,2 @@
+-- What the functions over routes promise.
+pub mod Records
