@@ -21,7 +21,7 @@ use stripes::Checked;
 // Our plan for a lost disk.
 #[no_mangle]
 pub extern "C" fn cuzhaveli_plan_disk(width: usize, disk: usize) -> Plan
-    ensures { λ r. ⌜ PlanSays width disk r ⌝ }
+    ensures { λ r. ⌜ PlanSays width width disk r ⌝ }
 {
     planner::plan_disk(width, disk)
 }
@@ -29,7 +29,7 @@ pub extern "C" fn cuzhaveli_plan_disk(width: usize, disk: usize) -> Plan
 // The read list of our plan, into a lent slice of p(p + 2) bytes.
 #[no_mangle]
 pub extern "C" fn cuzhaveli_read_list(width: usize, disk: usize, list: &mut [u8]) -> Answer
-    ensures { λ r. ⌜ ListSays width disk (now (list .entry)) (now (list .exit)) r ⌝ }
+    ensures { λ r. ⌜ ListSays width width disk (now (list .entry)) (now (list .exit)) r ⌝ }
 {
     planner::read_list(width, disk, list)
 }

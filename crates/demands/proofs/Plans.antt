@@ -31,10 +31,10 @@ pub record Compared (p f : ℕ) (bs : List ℕ) (r : Plan) (j : Judged) : Type 0
   pub equally : eqb (j .reads) (r .reads) ≡ isBest p p f (stepsIn p bs)
 
 -- the planner's count is the read count of our plan
-pub our-reads : (p f : ℕ) (r : Plan) → PlanSays p f r → r .answer .refusal ≡ 0 → r .reads ≡ readCount p p f (planOf p p f)
-our-reads p f r k z = let m = plan-means p f r k z in m .count ∙ ap (readCount p p f) (m .steps)
+pub our-reads : (p f : ℕ) (r : Plan) → PlanSays p p f r → r .answer .refusal ≡ 0 → r .reads ≡ readCount p p f (planOf p p f)
+our-reads p f r k z = let m = plan-means p p f r (omega arith) k z in m .count ∙ ap (readCount p p f) (m .steps)
 
-pub compared : (p f : ℕ) (bs : List ℕ) (r : Plan) (j : Judged) → f < p → PlanSays p f r → JudgeSays p p f bs j → j .answer .refusal ≡ 0 → Compared p f bs r j
+pub compared : (p f : ℕ) (bs : List ℕ) (r : Plan) (j : Judged) → f < p → PlanSays p p f r → JudgeSays p p f bs j → j .answer .refusal ≡ 0 → Compared p f bs r j
 compared p f bs r j l k d z =
     let a = zero-accepts p p f bs j d z in
     let best = plans-best p f (a .width) l in
@@ -78,15 +78,15 @@ pub record OwnAccepted (r : Plan) (j : Judged) : Type 0 where
   pub refusal : j .answer .refusal ≡ 0
   pub reads : j .reads ≡ r .reads
 
-pub own-accepted : (p f : ℕ) (r : Plan) (j : Judged) → PlanSays p f r → r .answer .refusal ≡ 0 → JudgeSays p p f (formOf p r) j → OwnAccepted r j
+pub own-accepted : (p f : ℕ) (r : Plan) (j : Judged) → PlanSays p p f r → r .answer .refusal ≡ 0 → JudgeSays p p f (formOf p r) j → OwnAccepted r j
 own-accepted p f r j k z d =
-    let m = plan-means p f r k z in
+    let m = plan-means p p f r (omega arith) k z in
     let bs : List ℕ = formOf p r in
-    let e : stepsIn p bs ≡ planOf p p f = plan-form p f r k z in
+    let e : stepsIn p bs ≡ planOf p p f = plan-form p p f r (omega arith) k z in
     let a : Acceptable p p f bs = record { width = m .width; disk = m .disk; long = length-of p r; accepts = ap (accepted p p f) e ∙ plan-accepted p p f (m .width) (omega arith) (m .disk) } in
     let y : j .answer .refusal ≡ 0 = accepts-zero p p f bs j d a in
     record { refusal = y; reads = zero-counts p p f bs j d y ∙ ap (λ (ss : List Step). readCount p p f ss) e ∙ sym (our-reads p f r k z) }
 
 -- "Ours is (3p² + 1)/4."
-pub own-count : (p f : ℕ) (r : Plan) → f < p → PlanSays p f r → r .answer .refusal ≡ 0 → 4 * r .reads ≡ 3 * (p * p) + 1
-own-count p f r l k z = ap (λ (n : ℕ). 4 * n) (our-reads p f r k z) ∙ plans-best p f (plan-means p f r k z .width) l .ours-count
+pub own-count : (p f : ℕ) (r : Plan) → f < p → PlanSays p p f r → r .answer .refusal ≡ 0 → 4 * r .reads ≡ 3 * (p * p) + 1
+own-count p f r l k z = ap (λ (n : ℕ). 4 * n) (our-reads p f r k z) ∙ plans-best p f (plan-means p p f r (omega arith) k z .width) l .ours-count

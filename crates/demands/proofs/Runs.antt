@@ -28,7 +28,7 @@ step-brings-back x x′ i t u o o′ r v c k z h = brings-back (x .width) (x .si
 
 -- "Cells read so far are next × the read count": after any calls from the opening on, as many times the planner's count for that disk as steps were accepted
 pub cells-counted :
-    (p s f n : ℕ) (r : RunAnswer) (cs : List Call) (ls : List Left) (g : Progress) (q : Plan) → OpenSays p s f n r → r .answer .refusal ≡ 0 → Made (r .run) cs ls → ProgressSays (lastRun (r .run) ls) g → PlanSays p f q
+    (p s f n : ℕ) (r : RunAnswer) (cs : List Call) (ls : List Left) (g : Progress) (q : Plan) → OpenSays p s f n r → r .answer .refusal ≡ 0 → Made (r .run) cs ls → ProgressSays (lastRun (r .run) ls) g → PlanSays p p f q
     → g .cells ≡ length (columnsOf ls) * q .reads
 cells-counted p s f n r cs ls g q o z m k l =
     let w = numbers-of p p s f (sym (o .answer .refusal) ∙ z) in

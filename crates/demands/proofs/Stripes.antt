@@ -85,7 +85,7 @@ never-used p s f t u o o′ n n′ r q k z m y h =
 -- The last sentence of demand 3: stripes alike in every cell marked 1 in the list that `read_list` writes give one rebuilt disk, dirty stripes too.
 pub one-column :
     (p s f : ℕ) (t u o o′ n n′ l l′ : List ℕ) (r q a : Answer)
-    → OneSays p s f t o o′ r → r .refusal ≡ 0 → OneSays p s f u n n′ q → q .refusal ≡ 0 → ListSays p f l l′ a → a .refusal ≡ 0
+    → OneSays p s f t o o′ r → r .refusal ≡ 0 → OneSays p s f u n n′ q → q .refusal ≡ 0 → ListSays p p f l l′ a → a .refusal ≡ 0
     → ((x : ℕ) → getD l′ x 0 ≡ 1 → cellAt s t x ≡ cellAt s u x) → o′ ≡ n′
 one-column p s f t u o o′ n n′ l l′ r q a k z m y w e h =
     let i = taken p s f t o o′ r k z in

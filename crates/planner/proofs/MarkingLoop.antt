@@ -18,16 +18,16 @@ use Rattle.sets.specs.Marks.{Marked, markAll, freshIn}
 use Rattle.sets.proofs.MarkLaws.{marks-added, fresh-added, fresh-le}
 
 -- The loop over the steps: after i of them the marks stand for the cells read so far, and `reads` counts them.
-pub record Reading (p f : ℕ) (ss : List Step) (m : List ℕ) (reads i : ℕ) : Type 0 where
+pub record Reading (p k f : ℕ) (ss : List Step) (m : List ℕ) (reads i : ℕ) : Type 0 where
   pub within : i ≤ length ss
   pub cells : List ℕ
-  pub marks : m ≡ marksFrom (p * (p + 2)) 0 cells
+  pub marks : m ≡ marksFrom (p * (k + 2)) 0 cells
   pub count : reads ≡ length cells
-  pub few : reads ≤ (p + 2) * i
-  pub rest : readFrom p p f (drop i ss) cells ≡ cellsRead p p f ss
+  pub few : reads ≤ (k + 2) * i
+  pub rest : readFrom p k f (drop i ss) cells ≡ cellsRead p k f ss
 
-pub reading-start : (p f : ℕ) (ss : List Step) (m : List ℕ) → m ≡ marksFrom (p * (p + 2)) 0 [] → Reading p f ss m 0 0
-reading-start p f ss m e = record { within = omega arith; cells = []; marks = e; count = refl; few = omega arith; rest = refl }
+pub reading-start : (p k f : ℕ) (ss : List Step) (m : List ℕ) → m ≡ marksFrom (p * (k + 2)) 0 [] → Reading p k f ss m 0 0
+reading-start p k f ss m e = record { within = omega arith; cells = []; marks = e; count = refl; few = omega arith; rest = refl }
 
 pub surviving-few : (p f : ℕ) (xs : List ℕ) → length (survivingIn p f xs) ≤ length xs
 unfolding survivingIn
@@ -38,23 +38,23 @@ surviving-few p f (x ∷ xs) = go (eqb (diskAt p x) f) (surviving-few p f xs)
     go true h = omega arith
     go false h = omega arith
 
-pub reading-turn : (p f : ℕ) (ss : List Step) (m m′ : List ℕ) (reads i r : ℕ) (a : StepAt ss i) → i < length ss → a .this .number < p → Reading p f ss m reads i → Marked m m′ (survivingIn p f (setOf p p (a .this .kind) (a .this .number))) r → Reading p f ss m′ (reads + r) (i + 1)
+pub reading-turn : (p k f : ℕ) (ss : List Step) (m m′ : List ℕ) (reads i r : ℕ) (a : StepAt ss i) → i < length ss → a .this .number < p → Reading p k f ss m reads i → Marked m m′ (survivingIn p f (setOf p k (a .this .kind) (a .this .number))) r → Reading p k f ss m′ (reads + r) (i + 1)
 unfolding readFrom
-reading-turn p f ss m m′ reads i r a l n k d =
-    let xs : List ℕ = survivingIn p f (setOf p p (a .this .kind) (a .this .number)) in
-    let b = survivors-below p p f (a .this .kind) (a .this .number) n in
-    let fresh : r + length (k .cells) ≡ length (added xs (k .cells)) = ap (λ (x : ℕ). x + length (k .cells)) (d .fresh ∙ ap (λ (y : List ℕ). freshIn y xs) (k .marks)) ∙ fresh-added (p * (p + 2)) xs (k .cells) b in
+reading-turn p k f ss m m′ reads i r a l n u d =
+    let xs : List ℕ = survivingIn p f (setOf p k (a .this .kind) (a .this .number)) in
+    let b = survivors-below p k f (a .this .kind) (a .this .number) n in
+    let fresh : r + length (u .cells) ≡ length (added xs (u .cells)) = ap (λ (x : ℕ). x + length (u .cells)) (d .fresh ∙ ap (λ (y : List ℕ). freshIn y xs) (u .marks)) ∙ fresh-added (p * (k + 2)) xs (u .cells) b in
     record {
       within = omega arith;
-      cells = added xs (k .cells);
-      marks = d .marks ∙ ap (λ (y : List ℕ). markAll y xs) (k .marks) ∙ marks-added (p * (p + 2)) xs (k .cells) b;
-      count = omega (arith, fresh, k .count);
-      few = omega (arith, k .few, d .fresh, fresh-le m xs, surviving-few p f (setOf p p (a .this .kind) (a .this .number)), size-most p p (a .this .kind) (a .this .number));
-      rest = ap (λ (j : ℕ). readFrom p p f (drop j ss) (added xs (k .cells))) (add-one i) ∙ sym (ap (λ (y : List Step). readFrom p p f y (k .cells)) (a .split)) ∙ k .rest;
+      cells = added xs (u .cells);
+      marks = d .marks ∙ ap (λ (y : List ℕ). markAll y xs) (u .marks) ∙ marks-added (p * (k + 2)) xs (u .cells) b;
+      count = omega (arith, fresh, u .count);
+      few = omega (arith, u .few, d .fresh, fresh-le m xs, surviving-few p f (setOf p k (a .this .kind) (a .this .number)), size-most p k (a .this .kind) (a .this .number));
+      rest = ap (λ (j : ℕ). readFrom p k f (drop j ss) (added xs (u .cells))) (add-one i) ∙ sym (ap (λ (y : List Step). readFrom p k f y (u .cells)) (a .split)) ∙ u .rest;
     }
 
-pub reading-end : (p f : ℕ) (ss : List Step) (m : List ℕ) (reads i : ℕ) → length ss ≤ i → Reading p f ss m reads i → (reads ≡ readCount p p f ss) × (m ≡ marksFrom (p * (p + 2)) 0 (cellsRead p p f ss))
+pub reading-end : (p k f : ℕ) (ss : List Step) (m : List ℕ) (reads i : ℕ) → length ss ≤ i → Reading p k f ss m reads i → (reads ≡ readCount p k f ss) × (m ≡ marksFrom (p * (k + 2)) 0 (cellsRead p k f ss))
 unfolding readFrom
-reading-end p f ss m reads i l k =
-    let all : k .cells ≡ cellsRead p p f ss = ap (λ (y : List Step). readFrom p p f y (k .cells)) (sym (drop-of-length-le ss l)) ∙ k .rest in
-    (k .count ∙ ap (λ (y : List ℕ). length y) all, k .marks ∙ ap (marksFrom (p * (p + 2)) 0) all)
+reading-end p k f ss m reads i l u =
+    let all : u .cells ≡ cellsRead p k f ss = ap (λ (y : List Step). readFrom p k f y (u .cells)) (sym (drop-of-length-le ss l)) ∙ u .rest in
+    (u .count ∙ ap (λ (y : List ℕ). length y) all, u .marks ∙ ap (marksFrom (p * (k + 2)) 0) all)

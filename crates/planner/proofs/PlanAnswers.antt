@@ -1,4 +1,4 @@
--- Our plan by the kind of disk: its steps and its route word for a data disk, for P and for Q; and the promises of the planner for accepted and refused calls.
+-- Our plan by the kind of disk: its steps and its route word for a data disk, for P and for Q; and the promises of the planner for accepted and refused calls. For every number k of data disks.
 use mathlib.Core.Path.{_≡_, sym, ap, ap₂, subst, _∙_}
 use mathlib.Core.Bool.{Bool}
 use mathlib.Core.List.{List, [], _++_}
@@ -27,85 +27,85 @@ pub held-as : (ss ts : List Step) (s : Steps) → ss ≡ ts → Holds ss s → H
 held-as ss ts s e h = subst (λ (x : List Step). Holds x s) e h
 
 -- a data disk
-pub data-steps-are : (p f : ℕ) (R : List ℕ) (w : ℕ) (s : Steps) → f < p → RoutesAre p (routes p f) R w → Holds (rowSteps 0 (take p R) ++ diagonalSteps p f 0 (take p R)) s → Holds (planOf p p f) s
+pub data-steps-are : (p k f : ℕ) (R : List ℕ) (w : ℕ) (s : Steps) → f < k → RoutesAre p (routes p f) R w → Holds (rowSteps 0 (take p R) ++ diagonalSteps p f 0 (take p R)) s → Holds (planOf p k f) s
 unfolding planOf dataPlan
-data-steps-are p f R w s h a k =
-    held-as (rowSteps 0 (take p R) ++ diagonalSteps p f 0 (take p R)) (planOf p p f) s
-    (ap (λ (x : List ℕ). rowSteps 0 x ++ diagonalSteps p f 0 x) (a .routes) ∙ sym (ap (λ (b : Bool). pick b (dataPlan p f) (allOf p (f - p) 0)) (lt-ltb f p h))) k
+data-steps-are p k f R w s h a q =
+    held-as (rowSteps 0 (take p R) ++ diagonalSteps p f 0 (take p R)) (planOf p k f) s
+    (ap (λ (x : List ℕ). rowSteps 0 x ++ diagonalSteps p f 0 x) (a .routes) ∙ sym (ap (λ (b : Bool). pick b (dataPlan p f) (allOf p (f - k) 0)) (lt-ltb f k h))) q
 
-pub data-word : (p f : ℕ) (R : List ℕ) (w : ℕ) → f < p → RoutesAre p (routes p f) R w → w ≡ routeWord p p f
+pub data-word : (p k f : ℕ) (R : List ℕ) (w : ℕ) → f < k → RoutesAre p (routes p f) R w → w ≡ routeWord p k f
 unfolding routeWord
-data-word p f R w h a = a .word ∙ sym (ap (λ (b : Bool). pick b (wordFrom 0 (routes p f)) (pick (eqb f p) 0 (2 ^ p - 1))) (lt-ltb f p h))
+data-word p k f R w h a = a .word ∙ sym (ap (λ (b : Bool). pick b (wordFrom 0 (routes p f)) (pick (eqb f k) 0 (2 ^ p - 1))) (lt-ltb f k h))
 
 -- a parity disk takes all sets of its kind
-pub parity-steps : (p f n : ℕ) (s : Steps) → p ≤ f → f - p ≡ n → Holds (allOf p n 0) s → Holds (planOf p p f) s
+pub parity-steps : (p k f n : ℕ) (s : Steps) → k ≤ f → f - k ≡ n → Holds (allOf p n 0) s → Holds (planOf p k f) s
 unfolding planOf
-parity-steps p f n s h e k =
-    held-as (allOf p n 0) (planOf p p f) s (ap (λ (i : ℕ). allOf p i 0) (sym e) ∙ sym (ap (λ (b : Bool). pick b (dataPlan p f) (allOf p (f - p) 0)) (le-ltb f p h))) k
+parity-steps p k f n s h e q =
+    held-as (allOf p n 0) (planOf p k f) s (ap (λ (i : ℕ). allOf p i 0) (sym e) ∙ sym (ap (λ (b : Bool). pick b (dataPlan p f) (allOf p (f - k) 0)) (le-ltb f k h))) q
 
-pub row-parity-word : (p f : ℕ) → f ≡ p → 0 ≡ routeWord p p f
+pub row-parity-word : (p k f : ℕ) → f ≡ k → 0 ≡ routeWord p k f
 unfolding routeWord
-row-parity-word p f e = sym (ap₂ (λ (a b : Bool). pick a (wordFrom 0 (routes p f)) (pick b 0 (2 ^ p - 1))) (le-ltb f p (omega arith)) (eq-eqb f p e))
+row-parity-word p k f e = sym (ap₂ (λ (a b : Bool). pick a (wordFrom 0 (routes p f)) (pick b 0 (2 ^ p - 1))) (le-ltb f k (omega arith)) (eq-eqb f k e))
 
-pub diagonal-parity-word : (p f : ℕ) → p ≤ f → (f ≡ p → ⊥) → 2 ^ p - 1 ≡ routeWord p p f
+pub diagonal-parity-word : (p k f : ℕ) → k ≤ f → (f ≡ k → ⊥) → 2 ^ p - 1 ≡ routeWord p k f
 unfolding routeWord
-diagonal-parity-word p f h n = sym (ap₂ (λ (a b : Bool). pick a (wordFrom 0 (routes p f)) (pick b 0 (2 ^ p - 1))) (le-ltb f p h) (ne-eqb f p n))
+diagonal-parity-word p k f h n = sym (ap₂ (λ (a b : Bool). pick a (wordFrom 0 (routes p f)) (pick b 0 (2 ^ p - 1))) (le-ltb f k h) (ne-eqb f k n))
 
 -- A plan that is not refused, from what its record was made of.
-pub our-plan-is : (p f w : ℕ) (s : Steps) (r : Planned) → Holds (planOf p p f) s → w ≡ routeWord p p f → Answers 0 (r .answer) × (r .steps ≡ s) × (r .routes ≡ w) → OurPlan p f r
-our-plan-is p f w s r h e a = record { answer = a .0; steps = subst (λ (x : Steps). Holds (planOf p p f) x) (sym (a .1)) h; routes = a .2 ∙ e }
+pub our-plan-is : (p k f w : ℕ) (s : Steps) (r : Planned) → Holds (planOf p k f) s → w ≡ routeWord p k f → Answers 0 (r .answer) × (r .steps ≡ s) × (r .routes ≡ w) → OurPlan p k f r
+our-plan-is p k f w s r h e a = record { answer = a .0; steps = subst (λ (x : Steps). Holds (planOf p k f) x) (sym (a .1)) h; routes = a .2 ∙ e }
 
-pub planned-is : (p f : ℕ) → planFault p p f ≡ 0 → plannedSteps p f ≡ planOf p p f
-planned-is p f z = sym (pick-done (planFault p p f) (planOf p p f) [] z)
+pub planned-is : (p k f : ℕ) → planFault p k f ≡ 0 → plannedSteps p k f ≡ planOf p k f
+planned-is p k f z = sym (pick-done (planFault p k f) (planOf p k f) [] z)
 
 -- an accepted call, with the reads counted or not
-pub planned-says : (p f : ℕ) (r : Planned) → planFault p p f ≡ 0 → OurPlan p f r → PlannedSays p f r
-planned-says p f r z k =
+pub planned-says : (p k f : ℕ) (r : Planned) → planFault p k f ≡ 0 → OurPlan p k f r → PlannedSays p k f r
+planned-says p k f r z o =
     record {
-      answer = answers-as 0 (planFault p p f) (r .answer) (sym z) (k .answer);
-      steps = held-as (planOf p p f) (plannedSteps p f) (r .steps) (sym (planned-is p f z)) (k .steps);
-      routes = k .routes ∙ pick-done (planFault p p f) (routeWord p p f) 0 z;
+      answer = answers-as 0 (planFault p k f) (r .answer) (sym z) (o .answer);
+      steps = held-as (planOf p k f) (plannedSteps p k f) (r .steps) (sym (planned-is p k f z)) (o .steps);
+      routes = o .routes ∙ pick-done (planFault p k f) (routeWord p k f) 0 z;
     }
 
-pub plan-says : (p f : ℕ) (r : Plan) (q : Planned) → planFault p p f ≡ 0 → OurPlan p f q → r .answer ≡ q .answer → r .steps ≡ q .steps → r .routes ≡ q .routes → r .reads ≡ readCount p p f (planOf p p f) → PlanSays p f r
-plan-says p f r q z k n a b e =
-    let says = planned-says p f q z k in
+pub plan-says : (p k f : ℕ) (r : Plan) (q : Planned) → planFault p k f ≡ 0 → OurPlan p k f q → r .answer ≡ q .answer → r .steps ≡ q .steps → r .routes ≡ q .routes → r .reads ≡ readCount p k f (planOf p k f) → PlanSays p k f r
+plan-says p k f r q z o n a b e =
+    let says = planned-says p k f q z o in
     record {
-      answer = subst (Answers (planFault p p f)) (sym n) (says .answer);
-      steps = subst (λ (x : Steps). Holds (plannedSteps p f) x) (sym a) (says .steps);
+      answer = subst (Answers (planFault p k f)) (sym n) (says .answer);
+      steps = subst (λ (x : Steps). Holds (plannedSteps p k f) x) (sym a) (says .steps);
       routes = b ∙ says .routes;
-      reads = e ∙ pick-done (planFault p p f) (readCount p p f (planOf p p f)) 0 z;
+      reads = e ∙ pick-done (planFault p k f) (readCount p k f (planOf p k f)) 0 z;
     }
 
 -- a refused call
-pub refusal-says : (p f n : ℕ) (r : Planned) → n ≡ planFault p p f → (n ≡ 0 → ⊥) → Refused n r → PlannedSays p f r
-refusal-says p f n r e z d =
+pub refusal-says : (p k f n : ℕ) (r : Planned) → n ≡ planFault p k f → (n ≡ 0 → ⊥) → Refused n r → PlannedSays p k f r
+refusal-says p k f n r e z d =
     record {
-      answer = answers-as n (planFault p p f) (r .answer) e (d .answer);
-      steps = held-as [] (plannedSteps p f) (r .steps) (pick-refused n (planFault p p f) (planOf p p f) [] e z) (d .steps);
-      routes = d .routes ∙ pick-refused n (planFault p p f) (routeWord p p f) 0 e z;
+      answer = answers-as n (planFault p k f) (r .answer) e (d .answer);
+      steps = held-as [] (plannedSteps p k f) (r .steps) (pick-refused n (planFault p k f) (planOf p k f) [] e z) (d .steps);
+      routes = d .routes ∙ pick-refused n (planFault p k f) (routeWord p k f) 0 e z;
     }
 
-pub plan-refused : (p f n : ℕ) (r : Plan) → n ≡ planFault p p f → (n ≡ 0 → ⊥) → Answers n (r .answer) → Holds [] (r .steps) → r .routes ≡ 0 → r .reads ≡ 0 → PlanSays p f r
-plan-refused p f n r e z a h c d =
+pub plan-refused : (p k f n : ℕ) (r : Plan) → n ≡ planFault p k f → (n ≡ 0 → ⊥) → Answers n (r .answer) → Holds [] (r .steps) → r .routes ≡ 0 → r .reads ≡ 0 → PlanSays p k f r
+plan-refused p k f n r e z a h c d =
     record {
-      answer = answers-as n (planFault p p f) (r .answer) e a;
-      steps = held-as [] (plannedSteps p f) (r .steps) (pick-refused n (planFault p p f) (planOf p p f) [] e z) h;
-      routes = c ∙ pick-refused n (planFault p p f) (routeWord p p f) 0 e z;
-      reads = d ∙ pick-refused n (planFault p p f) (readCount p p f (planOf p p f)) 0 e z;
+      answer = answers-as n (planFault p k f) (r .answer) e a;
+      steps = held-as [] (plannedSteps p k f) (r .steps) (pick-refused n (planFault p k f) (planOf p k f) [] e z) h;
+      routes = c ∙ pick-refused n (planFault p k f) (routeWord p k f) 0 e z;
+      reads = d ∙ pick-refused n (planFault p k f) (readCount p k f (planOf p k f)) 0 e z;
     }
 
 -- the read list
-pub list-refused : (p f n : ℕ) (o : List ℕ) (r : Answer) → n ≡ listFault p f o → (n ≡ 0 → ⊥) → Answers n r → ListSays p f o o r
-list-refused p f n o r e z a = record { answer = answers-as n (listFault p f o) r e a; list = pick-refused n (listFault p f o) (readList p p f) o e z }
+pub list-refused : (p k f n : ℕ) (o : List ℕ) (r : Answer) → n ≡ listFault p k f o → (n ≡ 0 → ⊥) → Answers n r → ListSays p k f o o r
+list-refused p k f n o r e z a = record { answer = answers-as n (listFault p k f o) r e a; list = pick-refused n (listFault p k f o) (readList p k f) o e z }
 
-pub list-first : (p f n : ℕ) (o : List ℕ) → n ≡ planFault p p f → (n ≡ 0 → ⊥) → n ≡ listFault p f o
-list-first p f n o e z = first-kept n (planFault p p f) (longFault (p * (p + 2)) o) e z
+pub list-first : (p k f n : ℕ) (o : List ℕ) → n ≡ planFault p k f → (n ≡ 0 → ⊥) → n ≡ listFault p k f o
+list-first p k f n o e z = first-kept n (planFault p k f) (longFault (p * (k + 2)) o) e z
 
-pub list-long : (p f : ℕ) (o : List ℕ) → planFault p p f ≡ 0 → (length o ≡ p * (p + 2) → ⊥) → 5 ≡ listFault p f o
-list-long p f o e n = sym (ap₂ firstOf e (long-refused (p * (p + 2)) o n))
+pub list-long : (p k f : ℕ) (o : List ℕ) → planFault p k f ≡ 0 → (length o ≡ p * (k + 2) → ⊥) → 5 ≡ listFault p k f o
+list-long p k f o e n = sym (ap₂ firstOf e (long-refused (p * (k + 2)) o n))
 
-pub list-says : (p f : ℕ) (o o′ : List ℕ) (r : Answer) → planFault p p f ≡ 0 → length o ≡ p * (p + 2) → o′ ≡ readList p p f → Answers 0 r → ListSays p f o o′ r
-list-says p f o o′ r e l q a =
-    let z : listFault p f o ≡ 0 = ap₂ firstOf e (long-accepted (p * (p + 2)) o l) in
-    record { answer = answers-as 0 (listFault p f o) r (sym z) a; list = q ∙ pick-done (listFault p f o) (readList p p f) o z }
+pub list-says : (p k f : ℕ) (o o′ : List ℕ) (r : Answer) → planFault p k f ≡ 0 → length o ≡ p * (k + 2) → o′ ≡ readList p k f → Answers 0 r → ListSays p k f o o′ r
+list-says p k f o o′ r e l q a =
+    let z : listFault p k f o ≡ 0 = ap₂ firstOf e (long-accepted (p * (k + 2)) o l) in
+    record { answer = answers-as 0 (listFault p k f o) r (sym z) a; list = q ∙ pick-done (listFault p k f o) (readList p k f) o z }

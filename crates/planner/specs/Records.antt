@@ -22,8 +22,8 @@ pub record Counts (ss : List Step) (rs ks ns : List ℕ) (n : ℕ) : Type 0 wher
   pub numbers : ns ≡ padded (numbersOf ss)
   pub count : n ≡ length ss
 
--- our plan for disk f, not refused
-pub record OurPlan (p f : ℕ) (r : Planned) : Type 0 where
+-- our plan for disk f of an array with k data disks, not refused
+pub record OurPlan (p k f : ℕ) (r : Planned) : Type 0 where
   pub answer : Answers 0 (r .answer)
-  pub steps : Holds (planOf p p f) (r .steps)
-  pub routes : r .routes ≡ routeWord p p f
+  pub steps : Holds (planOf p k f) (r .steps)
+  pub routes : r .routes ≡ routeWord p k f

@@ -143,25 +143,25 @@ fn all_bits(width: usize) -> u32
 }
 
 // Our plan for a disk of an array that is within its limits.
-fn our_plan(width: usize, disk: usize) -> Planned
-    requires { ⌜ (isWidth width ≡ true) × (disk ≤ width + 1) ⌝ }
-    ensures { λ r. ⌜ OurPlan width disk r ⌝ }
+fn our_plan(width: usize, disks: usize, lost: usize) -> Planned
+    requires { ⌜ (isWidth width ≡ true) × (disks ≤ width) × (lost ≤ disks + 1) ⌝ }
+    ensures { λ r. ⌜ OurPlan width disks lost r ⌝ }
 {
-    if disk < width {
-        let r = routes::all_routes(width, disk);
+    if lost < disks {
+        let r = routes::all_routes(width, lost);
         let routes = r.routes;
-        return accepted_plan(data_steps(width, disk, routes), r.word);
+        return accepted_plan(data_steps(width, lost, routes), r.word);
     }
-    if disk == width {
+    if lost == disks {
         return accepted_plan(all_steps(width, 0), 0);
     }
     accepted_plan(all_steps(width, 1), all_bits(width))
 }
 
 // Marks the cells that our plan reads in a list of zeros, and counts them.
-fn mark_steps(width: usize, disk: usize, s: Steps, marks: &mut [u8]) -> u32
-    requires { ⌜ (isWidth width ≡ true) × (disk ≤ width + 1) × Holds (planOf width width disk) s × (now marks ≡ marksFrom (width * (width + 2)) 0 []) ⌝ }
-    ensures { λ r. ⌜ (r ≡ readCount width width disk (planOf width width disk)) × (now (marks .exit) ≡ readList width width disk) ⌝ }
+fn mark_steps(width: usize, disks: usize, lost: usize, s: Steps, marks: &mut [u8]) -> u32
+    requires { ⌜ (isWidth width ≡ true) × (disks ≤ width) × (lost ≤ disks + 1) × Holds (planOf width disks lost) s × (now marks ≡ marksFrom (width * (disks + 2)) 0 []) ⌝ }
+    ensures { λ r. ⌜ (r ≡ readCount width disks lost (planOf width disks lost)) × (now (marks .exit) ≡ readList width disks lost) ⌝ }
 {
     let kinds = s.kinds;
     let numbers = s.numbers;
@@ -170,7 +170,7 @@ fn mark_steps(width: usize, disk: usize, s: Steps, marks: &mut [u8]) -> u32
     while i < width {
         let kind = kinds[i] as usize;
         let number = numbers[i] as usize;
-        reads += sets::mark_set(width, width, disk, kind, number, marks);
+        reads += sets::mark_set(width, disks, lost, kind, number, marks);
         i += 1;
     }
     reads
@@ -188,14 +188,14 @@ fn clear(list: &mut [u8])
 }
 
 // The plan record of a plan within limits: its reads are counted.
-fn finished(width: usize, disk: usize, p: Planned) -> Plan
-    requires { ⌜ (isWidth width ≡ true) × (disk ≤ width + 1) × OurPlan width disk p ⌝ }
-    ensures { λ r. ⌜ PlanSays width disk r ⌝ }
+fn finished(width: usize, disks: usize, lost: usize, p: Planned) -> Plan
+    requires { ⌜ (isWidth width ≡ true) × (disks ≤ width) × (lost ≤ disks + 1) × OurPlan width disks lost p ⌝ }
+    ensures { λ r. ⌜ PlanSays width disks lost r ⌝ }
 {
     let s = p.steps;
-    let n = width * (width + 2);
+    let n = width * (disks + 2);
     let mut marks = sets::no_marks();
-    let reads = mark_steps(width, disk, s, &mut marks[..n]);
+    let reads = mark_steps(width, disks, lost, s, &mut marks[..n]);
     let answer = p.answer;
     Plan {
         answer: answer,
@@ -230,18 +230,18 @@ fn refused_plan(refusal: u8) -> Planned
 
 // Our plan for a lost disk, its reads not counted. Refusals: 1, 3.
 pub fn plan_steps(width: usize, disk: usize) -> Planned
-    ensures { λ r. ⌜ PlannedSays width disk r ⌝ }
+    ensures { λ r. ⌜ PlannedSays width width disk r ⌝ }
 {
     let fault = refusals::plan_fault(width, width, disk);
     if fault != 0 {
         return refused_plan(fault);
     }
-    our_plan(width, disk)
+    our_plan(width, width, disk)
 }
 
 // Our plan for a lost disk. Refusals: 1, 3.
 pub fn plan_disk(width: usize, disk: usize) -> Plan
-    ensures { λ r. ⌜ PlanSays width disk r ⌝ }
+    ensures { λ r. ⌜ PlanSays width width disk r ⌝ }
 {
     let fault = refusals::plan_fault(width, width, disk);
     if fault != 0 {
@@ -253,13 +253,13 @@ pub fn plan_disk(width: usize, disk: usize) -> Plan
             reads: 0,
         };
     }
-    let p = our_plan(width, disk);
-    finished(width, disk, p)
+    let p = our_plan(width, width, disk);
+    finished(width, width, disk, p)
 }
 
 // Our plan's read list, a byte for each cell: 1 where the plan reads it. Refusals: 1, 3, 5.
 pub fn read_list(width: usize, disk: usize, list: &mut [u8]) -> Answer
-    ensures { λ r. ⌜ ListSays width disk (now (list .entry)) (now (list .exit)) r ⌝ }
+    ensures { λ r. ⌜ ListSays width width disk (now (list .entry)) (now (list .exit)) r ⌝ }
 {
     let fault = refusals::plan_fault(width, width, disk);
     if fault != 0 {
@@ -269,8 +269,8 @@ pub fn read_list(width: usize, disk: usize, list: &mut [u8]) -> Answer
         return refusals::answered(5);
     }
     clear(list);
-    let p = our_plan(width, disk);
+    let p = our_plan(width, width, disk);
     let s = p.steps;
-    mark_steps(width, disk, s, list);
+    mark_steps(width, width, disk, s, list);
     refusals::answered(0)
 }

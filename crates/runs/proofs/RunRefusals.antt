@@ -92,7 +92,7 @@ progress-refused x n a e z k =
     record { answer = answers-as n (runFault x) a e k; over = and-refused n (runFault x) (isOver x) e z; cells = pick-refused n (runFault x) (cellsSoFar x) 0 e z; few = omega arith }
 
 -- our plan's count, where width, size and disk are accepted
-pub reads-are : (x : Run) (r : Plan) → runFault x ≡ 0 → PlanSays (x .width) (x .disk) r → r .reads ≡ readCount (x .width) (x .width) (x .disk) (planOf (x .width) (x .width) (x .disk))
+pub reads-are : (x : Run) (r : Plan) → runFault x ≡ 0 → PlanSays (x .width) (x .width) (x .disk) r → r .reads ≡ readCount (x .width) (x .width) (x .disk) (planOf (x .width) (x .width) (x .disk))
 reads-are x r z k =
     let a = numbers-of (x .width) (x .width) (x .size) (x .disk) z in
     let f = plan-none (x .width) (x .width) (x .disk) (a .0) (a .3) in

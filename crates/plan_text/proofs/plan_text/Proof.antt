@@ -61,7 +61,7 @@ steps-text-requires c κs =
     let f = e .before .before .second-value .result in
     let z = sym (d .plan-disk .ensures .answer .refusal) ∙ t .if2 .left in
     let w = plan-of p p f z in
-    (w .0, w .1, held-as _ _ _ (planned-is p f z) (d .plan-disk .ensures .steps))
+    (w .0, w .1, held-as _ _ _ (planned-is p p f z) (d .plan-disk .ensures .steps))
 
 returns-3 : tie.Need-returns-3
 returns-3 c =

@@ -14,11 +14,11 @@ use Rattle.planner.proofs.finished.Statement.{statement}
 use Rattle.planner.proofs.finished.Tie as tie
 
 -- the widest array has 1,023 cells
-cells : (c : tie.After-s) → (c .before .args .width ≤ 31) × (c .before .args .width * (c .before .args .width + 2) ≤ 1023)
+cells : (c : tie.After-s) → (c .before .args .width ≤ 31) × (c .before .args .width * (c .before .args .disks + 2) ≤ 1023)
 cells c =
     let a = c .before .args in
     let w = width-most (a .width) (c .before .pre .0) in
-    (w, cells-most (a .width) (a .width) w (omega arith))
+    (w, cells-most (a .width) (a .disks) w (c .before .pre .1))
 
 all-marks : (c : tie.After-no-marks) → length (c .no-marks .result) ≡ 1023
 all-marks c = ap (λ (x : List ℕ). length x) (c .no-marks .ensures) ∙ length-marks 1023 0 []
@@ -41,15 +41,15 @@ slice-aggregate-mark-steps c = sym (length-take-le _ (c .before .no-marks .resul
 mark-steps-requires : tie.Need-mark-steps-requires
 mark-steps-requires c κs =
     let q = c .before .before .before in
-    let n = q .args .width * (q .args .width + 2) in
-    (q .pre .0, q .pre .1, q .pre .2 .steps, ap (take n) (c .before .no-marks .ensures) ∙ take-marks n 1023 0 [] (omega (arith, cells (c .before .before))))
+    let n = q .args .width * (q .args .disks + 2) in
+    (q .pre .0, q .pre .1, q .pre .2, q .pre .3 .steps, ap (take n) (c .before .no-marks .ensures) ∙ take-marks n 1023 0 [] (omega (arith, cells (c .before .before))))
 
 returns : tie.Need-returns
 returns c =
     let k = c .before .before in
     let q = k .before .before .before .before in
     let a = q .args in
-    plan-says (a .width) (a .disk) _ (a .p) (plan-none (a .width) (a .width) (a .disk) (q .pre .0) (q .pre .1)) (q .pre .2) refl refl refl (k .mark-steps .ensures .0)
+    plan-says (a .width) (a .disks) (a .lost) _ (a .p) (plan-none (a .width) (a .disks) (a .lost) (q .pre .0) (q .pre .2)) (q .pre .3) refl refl refl (k .mark-steps .ensures .0)
 
 pub finished-spec : {M : Type 1} → statement M
 finished-spec =

@@ -15,39 +15,39 @@ use Rattle.planner.proofs.mark_steps.Statement.{statement}
 use Rattle.planner.proofs.mark_steps.Tie as tie
 
 abbrev Inv-loop : tie.InvT-loop
-Inv-loop width disk marks₀ kinds numbers reads₀ i₀ marks reads i = Reading width disk (planOf width width disk) marks reads i × (length marks ≡ length marks₀)
+Inv-loop width disks lost marks₀ kinds numbers reads₀ i₀ marks reads i = Reading width disks lost (planOf width disks lost) marks reads i × (length marks ≡ length marks₀)
 
 abbrev μ-loop : tie.MeasureT-loop
-μ-loop width disk marks₀ kinds numbers reads₀ i₀ marks reads i = width - i
+μ-loop width disks lost marks₀ kinds numbers reads₀ i₀ marks reads i = width - i
 
 small : (c : tie.In-loop Inv-loop μ-loop) → c .before .before .before .before .before .args .width ≤ 31
 small c = width-most _ (c .before .before .before .before .before .pre .0)
 
 -- the step of this turn, and where the record has it
-this : (c : tie.In-loop Inv-loop μ-loop) → let a = c .before .before .before .before .before .args in StepAt (planOf (a .width) (a .width) (a .disk)) (c .before .loop .i)
+this : (c : tie.In-loop Inv-loop μ-loop) → let a = c .before .before .before .before .before .args in StepAt (planOf (a .width) (a .disks) (a .lost)) (c .before .loop .i)
 this c =
     let q = c .before .before .before .before .before in
-    step-at _ _ (omega (arith, plan-length (q .args .width) (q .args .width) (q .args .disk) (q .pre .0) (omega arith) (q .pre .1)))
+    step-at _ _ (omega (arith, plan-length (q .args .width) (q .args .disks) (q .args .lost) (q .pre .0) (q .pre .1) (q .pre .2)))
 
 kind : (c : tie.In-loop Inv-loop μ-loop) → getD (c .before .before .before .before .before .args .s .kinds) (c .before .loop .i) 0 ≡ this c .this .kind
-kind c = ap (λ (x : List ℕ). getD x (c .before .loop .i) 0) (c .before .before .before .before .before .pre .2 .kinds) ∙ this c .held (λ s. s .kind)
+kind c = ap (λ (x : List ℕ). getD x (c .before .loop .i) 0) (c .before .before .before .before .before .pre .3 .kinds) ∙ this c .held (λ s. s .kind)
 
 number : (c : tie.In-loop Inv-loop μ-loop) → (getD (c .before .before .before .before .before .args .s .numbers) (c .before .loop .i) 0 ≡ this c .this .number) × (this c .this .number < c .before .before .before .before .before .args .width)
 number c =
     let q = c .before .before .before .before .before in
-    (ap (λ (x : List ℕ). getD x (c .before .loop .i) 0) (q .pre .2 .numbers) ∙ this c .held (λ s. s .number), plan-number (q .args .width) (q .args .width) (q .args .disk) (c .before .loop .i) (q .pre .0) (omega arith) (q .pre .1) (this c) (c .loop-test .taken))
+    (ap (λ (x : List ℕ). getD x (c .before .loop .i) 0) (q .pre .3 .numbers) ∙ this c .held (λ s. s .number), plan-number (q .args .width) (q .args .disks) (q .args .lost) (c .before .loop .i) (q .pre .0) (q .pre .1) (q .pre .2) (this c) (c .loop-test .taken))
 
 -- the loop's state after one more step
-turned : (c : tie.After-slice-known2 Inv-loop μ-loop) → let a = c .before .before .before .before .before .before .before .before .before .args in let l = c .before .before .before .before .before .loop in Reading (a .width) (a .disk) (planOf (a .width) (a .width) (a .disk)) (c .before .before .mark-set .last .1 .1 .1 .1 .1 .0) (l .reads + c .before .before .mark-set .result) (l .i + 1)
+turned : (c : tie.After-slice-known2 Inv-loop μ-loop) → let a = c .before .before .before .before .before .before .before .before .before .args in let l = c .before .before .before .before .before .loop in Reading (a .width) (a .disks) (a .lost) (planOf (a .width) (a .disks) (a .lost)) (c .before .before .mark-set .last .1 .1 .1 .1 .1 .0) (l .reads + c .before .before .mark-set .result) (l .i + 1)
 turned c =
     let t = c .before .before .before .before in
     let q = t .before .before .before .before .before in
     let l = t .before .loop in
     let m = c .before .before .mark-set in
-    reading-turn (q .args .width) (q .args .disk) _ (l .marks) (m .last .1 .1 .1 .1 .1 .0) (l .reads) (l .i) (m .result) (this t) (omega (arith, plan-length (q .args .width) (q .args .width) (q .args .disk) (q .pre .0) (omega arith) (q .pre .1))) (number t .1) (l .inv .0) (rw (kind t, number t .0) at (m .ensures))
+    reading-turn (q .args .width) (q .args .disks) (q .args .lost) _ (l .marks) (m .last .1 .1 .1 .1 .1 .0) (l .reads) (l .i) (m .result) (this t) (omega (arith, plan-length (q .args .width) (q .args .disks) (q .args .lost) (q .pre .0) (q .pre .1) (q .pre .2))) (number t .1) (l .inv .0) (rw (kind t, number t .0) at (m .ensures))
 
 loop-holds : tie.Need-loop-holds Inv-loop μ-loop
-loop-holds c = (reading-start _ _ _ _ (c .before .before .before .pre .3), refl)
+loop-holds c = (reading-start _ _ _ _ _ (c .before .before .before .pre .4), refl)
 
 array-read-kind : tie.Need-array-read-kind Inv-loop μ-loop
 array-read-kind c = omega (arith, small c)
@@ -67,16 +67,16 @@ mark-set-requires c κs =
     let a = q .args in
     let l = c .before .before .loop in
     let n : getD (a .s .numbers) (l .i) 0 < a .width = omega (arith, number (c .before)) in
-    (record { widest = small (c .before); disks = omega arith; numbered = n }, omega (arith, l .inv .1, ap (λ (x : List ℕ). length x) (q .pre .3), length-marks (a .width * (a .width + 2)) 0 []))
+    (record { widest = small (c .before); disks = q .pre .1; numbered = n }, omega (arith, l .inv .1, ap (λ (x : List ℕ). length x) (q .pre .4), length-marks (a .width * (a .disks + 2)) 0 []))
 
 add-reads : tie.Need-add-reads Inv-loop μ-loop
 add-reads c =
     let a = c .before .before .before .before .before .before .before .before .before .args in
     let w : a .width ≤ 31 = small (c .before .before .before .before) in
     let k = turned c in
-    let h : a .width + 2 ≤ 33 = omega arith in
+    let h : a .disks + 2 ≤ 33 = omega arith in
     let i : c .before .before .before .before .before .loop .i + 1 ≤ 31 = omega arith in
-    let m : (a .width + 2) * (c .before .before .before .before .before .loop .i + 1) ≤ 33 * 31 = mul-le-mul h i in
+    let m : (a .disks + 2) * (c .before .before .before .before .before .loop .i + 1) ≤ 33 * 31 = mul-le-mul h i in
     omega (arith, k .few)
 
 add-i : tie.Need-add-i Inv-loop μ-loop
@@ -95,7 +95,7 @@ returns : tie.Need-returns Inv-loop μ-loop
 returns c =
     let q = c .before .before .before .before .before in
     let l = c .before .loop in
-    reading-end _ _ _ _ (l .reads) (l .i) (omega (arith, plan-length (q .args .width) (q .args .width) (q .args .disk) (q .pre .0) (omega arith) (q .pre .1))) (l .inv .0)
+    reading-end _ _ _ _ _ (l .reads) (l .i) (omega (arith, plan-length (q .args .width) (q .args .disks) (q .args .lost) (q .pre .0) (q .pre .1) (q .pre .2))) (l .inv .0)
 
 pub mark-steps-spec : {M : Type 1} → statement M
 mark-steps-spec =

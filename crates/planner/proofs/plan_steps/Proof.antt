@@ -1,5 +1,6 @@
 -- `plan_steps`: refusals 1 and 3, else our plan.
 use mathlib.Core.Path.{_≡_, sym, _∙_}
+use native.Mathlib.Omega.{arith}
 use borrow.Author.Needs.{needs}
 use Rattle.liberation.specs.Sets.{planFault}
 use Rattle.liberation.proofs.FaultLaws.{plan-of}
@@ -18,13 +19,13 @@ refused-plan-requires : tie.Need-refused-plan-requires
 refused-plan-requires c κs = search needs
 
 returns : tie.Need-returns
-returns c = let t = c .before in let q = t .before in let a = q .before .args in refusal-says (a .width) (a .disk) (q .plan-fault .result) (c .refused-plan .result) (q .plan-fault .ensures) (t .if1 .taken) (c .refused-plan .ensures)
+returns c = let t = c .before in let q = t .before in let a = q .before .args in refusal-says (a .width) (a .width) (a .disk) (q .plan-fault .result) (c .refused-plan .result) (q .plan-fault .ensures) (t .if1 .taken) (c .refused-plan .ensures)
 
 our-plan-requires : tie.Need-our-plan-requires
-our-plan-requires c κs = let a = c .before .before .args in plan-of (a .width) (a .width) (a .disk) (none c)
+our-plan-requires c κs = let a = c .before .before .args in let w = plan-of (a .width) (a .width) (a .disk) (none c) in (w .0, omega arith, w .1)
 
 returns-2 : tie.Need-returns-2
-returns-2 c = let a = c .before .before .before .args in planned-says (a .width) (a .disk) (c .our-plan .result) (none (c .before)) (c .our-plan .ensures)
+returns-2 c = let a = c .before .before .before .args in planned-says (a .width) (a .width) (a .disk) (c .our-plan .result) (none (c .before)) (c .our-plan .ensures)
 
 pub plan-steps-spec : {M : Type 1} → statement M
 plan-steps-spec = tie.close (tie.spec plan-fault-requires refused-plan-requires returns our-plan-requires returns-2)

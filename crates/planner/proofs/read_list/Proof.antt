@@ -32,7 +32,7 @@ returns c =
     let q = t .before in
     let a = q .before .before .args in
     let f = q .plan-fault in
-    list-refused (a .width) (a .disk) (f .result) (a .list .now) (c .answered .result) (list-first (a .width) (a .disk) (f .result) (a .list .now) (f .ensures) (t .if1 .taken)) (t .if1 .taken) (c .answered .ensures)
+    list-refused (a .width) (a .width) (a .disk) (f .result) (a .list .now) (c .answered .result) (list-first (a .width) (a .width) (a .disk) (f .result) (a .list .now) (f .ensures) (t .if1 .taken)) (t .if1 .taken) (c .answered .ensures)
 
 add-if2 : tie.Need-add-if2
 add-if2 c = omega (arith, width-most (c .before .before .before .args .width) (wide c .0))
@@ -47,13 +47,13 @@ returns-2 : tie.Need-returns-2
 returns-2 c =
     let t = c .before in
     let a = t .before .before .before .before .args in
-    list-refused (a .width) (a .disk) 5 (a .list .now) (c .answered2 .result) (list-long (a .width) (a .disk) (a .list .now) (none (t .before)) (t .if2 .taken)) (λ e. omega arith) (c .answered2 .ensures)
+    list-refused (a .width) (a .width) (a .disk) 5 (a .list .now) (c .answered2 .result) (list-long (a .width) (a .width) (a .disk) (a .list .now) (none (t .before)) (t .if2 .taken)) (λ e. omega arith) (c .answered2 .ensures)
 
 clear-requires : tie.Need-clear-requires
 clear-requires c κs = search needs
 
 our-plan-requires : tie.Need-our-plan-requires
-our-plan-requires c κs = wide (c .before .before .before .before .before)
+our-plan-requires c κs = let w = wide (c .before .before .before .before .before) in (w .0, omega arith, w .1)
 
 mark-steps-requires : tie.Need-mark-steps-requires
 mark-steps-requires c κs =
@@ -61,7 +61,7 @@ mark-steps-requires c κs =
     let k = o .before .before .before in
     let e = k .before .before in
     let w = wide (e .before) in
-    (w .0, w .1, o .our-plan .ensures .steps, k .clear .ensures ∙ ap (λ (n : ℕ). replicate n 0) (e .if2 .left) ∙ no-cells _ 0)
+    (w .0, omega arith, w .1, o .our-plan .ensures .steps, k .clear .ensures ∙ ap (λ (n : ℕ). replicate n 0) (e .if2 .left) ∙ no-cells _ 0)
 
 answered-requires-3 : tie.Need-answered-requires-3
 answered-requires-3 c κs = search needs
@@ -74,7 +74,7 @@ returns-3 c =
     let m = c .before .before .before in
     let e = m .before .before .before .before .before .before .before .before in
     let a = e .before .before .before .before .args in
-    list-says (a .width) (a .disk) (a .list .now) _ (c .answered3 .result) (none (e .before)) (e .if2 .left) (m .mark-steps .ensures .1) (c .answered3 .ensures)
+    list-says (a .width) (a .width) (a .disk) (a .list .now) _ (c .answered3 .result) (none (e .before)) (e .if2 .left) (m .mark-steps .ensures .1) (c .answered3 .ensures)
 
 pub read-list-spec : {M : Type 1} → statement M
 read-list-spec =
