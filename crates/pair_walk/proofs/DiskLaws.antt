@@ -1,127 +1,27 @@
--- Two lost disks: where the first cell is, the first cell found, the walk, and the order of the disks.
-use mathlib.Core.Path.{_≡_, refl, sym, ap, ap₂, subst, _∙_}
+-- Two lost disks: the walk after its first cell, a disk and a parity disk, and the order of the disks.
+use mathlib.Core.Path.{_≡_, sym, ap, ap₂, _∙_}
 use mathlib.Core.Bool.{Bool, true, false}
-use mathlib.Core.Logic.{⊎-elim}
 use mathlib.Core.List.{List}
 use Prim.Native.Nat.{ℕ, _+_, _-_, _*_, _/_, _%_, _≤_, _<_}
 use native.Mathlib.Numerals.{add-one}
 use native.Mathlib.Omega.{arith}
 use lib.Dec.{eqb, leb}
-use lib.ListN.{length, getD, replicate, length-replicate, getD-replicate}
-use borrow.Author.Tests.{leb-true, eqb-false, lt-ltb, le-ltb, eq-eqb, ne-eqb}
+use borrow.Author.Tests.{leb-true, lt-ltb, le-ltb, eq-eqb, ne-eqb}
 use Rattle.laws.specs.Choice.{pick}
-use Rattle.laws.specs.Lists.{isIn}
-use Rattle.laws.proofs.Flags.{and-l, clash, flag}
-use Rattle.laws.proofs.MemberLaws.{at-in}
+use Rattle.laws.proofs.Flags.{and-l}
 use Rattle.liberation.specs.Sets.{place, rowSet}
 use Rattle.liberation.specs.Plans.{extraRowOn, allOf}
-use Rattle.liberation.proofs.SetLaws.{place-below}
-use Rattle.liberation_stripes.specs.Stripes.{cellAt, withCell, solved, followed}
-use Rattle.liberation_stripes.proofs.CellLaws.{cell-fits, cell-long}
-use Rattle.liberation_pairs.specs.Pairs.{startSets, startCount, firstDisk, otherDisk, startCells, firstCell, started, diagonalWalk, walked, comesToOne, forward, dataSolved, upDiagonals, withRowParity, withDiagonalParity, orderedSolved, pairSolved}
-use Rattle.liberation_pairs.specs.PairSteps.{isLost}
-use Rattle.liberation_pairs.proofs.FirstCell.{start-survives}
-use Rattle.liberation_pairs.proofs.Upward.{lost-first, lost-second}
-use Rattle.xor.specs.Parts.{withPart, xorOffsets}
-use Rattle.offsets.specs.Offsets.{scaled}
-use Rattle.offsets.proofs.OffsetLaws.{over-offsets}
-use Rattle.odd.specs.Toggled.{isOdd, oddFrom, toggledAll}
-use Rattle.odd.specs.Listed.{Marked}
-use Rattle.odd.proofs.OddLaws.{odd-offsets}
-use Rattle.stripes.specs.Cells.{survivors, Sized}
-use Rattle.pair_walk.specs.Disks.{Walked}
-use Rattle.pair_walk.proofs.RoleLaws.{extra-below}
-use Rattle.pair_walk.proofs.ToggleLaws.{toggled-long, toggled-other}
+use Rattle.liberation_stripes.specs.Stripes.{solved, followed}
+use Rattle.liberation_pairs.specs.Pairs.{otherDisk, started, diagonalWalk, walked, comesToOne, forward, dataSolved, upDiagonals, withRowParity, withDiagonalParity, orderedSolved, pairSolved}
+use Rattle.pair_start.specs.Disks.{Walked}
 
--- x and y are walked
-module _ (p x y : ℕ) (k : Walked p x y) where
-  row-below : extraRowOn p x < p
-  row-below = extra-below p x (k .odd) (k .low) (k .high) .1
-
-  -- the first cell's disk is a data disk other than 0
-  pub first-range : (f : ℕ) → f ≡ firstDisk x y → (1 ≤ f) × (f < p)
-  first-range f e = go (eqb y 0) refl e
-    where
-      other : eqb y 0 ≡ false → 1 ≤ y
-      other q = omega (arith, eqb-false y 0 q)
-
-      go : (b : Bool) → eqb y 0 ≡ b → f ≡ pick b x y → (1 ≤ f) × (f < p)
-      go true q e = (omega (arith, k .low), omega (arith, k .high))
-      go false q e = (omega (arith, other q), omega (arith, k .other))
-
-  pub other-range : (o : ℕ) → o ≡ otherDisk x y → o < p
-  other-range o e = go (eqb y 0) e
-    where
-      go : (b : Bool) → o ≡ pick b y x → o < p
-      go true e = omega (arith, k .other)
-      go false e = omega (arith, k .high)
-
-  first-below : firstCell p x y < p * (p + 2)
-  first-below = place-below p (p + 2) (extraRowOn p x) (firstDisk x y) row-below (omega (arith, first-range (firstDisk x y) refl))
-
-  first-lost : isLost p x y (firstCell p x y) ≡ true
-  first-lost = go (eqb y 0)
-    where
-      go : (b : Bool) → isLost p x y (place p (extraRowOn p x) (pick b x y)) ≡ true
-      go true = lost-first p x y (extraRowOn p x) row-below
-      go false = lost-second p x y (extraRowOn p x) row-below
-
-  -- its place, as the code counts it
-  first-place : (f r : ℕ) → f ≡ firstDisk x y → r ≡ extraRowOn p x → f * p + r ≡ firstCell p x y
-  first-place f r ef er = ap₂ (λ (a b : ℕ). a * p + b) ef er
-
-  from-below : extraRowOn p (firstDisk x y) < p
-  from-below = let g = first-range (firstDisk x y) refl in extra-below p (firstDisk x y) (k .odd) (g .0) (g .1) .1
-
-  -- the first cell is none of the cells that it is found from
-  first-apart : isIn (firstCell p x y) (startCells p p x y) ≡ false
-  first-apart = ⊎-elim (λ m. clash (isLost p x y (firstCell p x y)) first-lost (start-survives p p x y (firstCell p x y) from-below m .0)) (λ m. m) (flag (isIn (firstCell p x y) (startCells p p x y)))
-
-  -- the marks of the start's sets were toggled, from no mark at all
-  module _ (s f r q n : ℕ) (ms t : List ℕ) (z : Sized p p s t) (ef : f ≡ firstDisk x y) (er : r ≡ extraRowOn p x) (eq : q ≡ extraRowOn p f) (en : n ≡ startCount p y)
-      (made : ms ≡ toggledAll (survivors p x y (startSets n p p x y q)) (replicate (p * (p + 2)) 0)) where
-    marked : ms ≡ toggledAll (startCells p p x y) (replicate (p * (p + 2)) 0)
-    unfolding startCells
-    marked = made ∙ ap₂ (λ (m i : ℕ). toggledAll (survivors p x y (startSets m p p x y i)) (replicate (p * (p + 2)) 0)) en (eq ∙ ap (extraRowOn p) ef)
-
-    pub marks-long : length ms ≡ p * (p + 2)
-    marks-long = ap length marked ∙ toggled-long (startCells p p x y) (replicate (p * (p + 2)) 0) ∙ length-replicate (p * (p + 2)) 0
-
-    pub start-marked : p * (p + 2) ≤ 1023 → Marked s (f * p + r) ms t
-    start-marked few =
-        subst (λ (d : ℕ). Marked s d ms t) (sym (first-place f r ef er))
-        (record {
-          few = omega (arith, marks-long);
-          small = z .small;
-          cells = ap-le (ap (λ (m : ℕ). m * s) marks-long);
-          place = omega (arith, first-below, marks-long);
-          even = ap isOdd (ap (λ (l : List ℕ). getD l (firstCell p x y) 0) marked ∙ toggled-other (firstCell p x y) (startCells p p x y) (replicate (p * (p + 2)) 0) first-apart ∙ getD-replicate (p * (p + 2)) (firstCell p x y) 0 0 first-below);
-        })
-      where
-        ap-le : length ms * s ≡ p * (p + 2) * s → length ms * s ≤ length t
-        ap-le e = omega (arith, e, z .long)
-
-    -- the odd cells gathered
-    pub start-done : (v : List ℕ) → v ≡ withPart s ((f * p + r) * s) (xorOffsets s t (scaled s (oddFrom 0 ms))) t → v ≡ started p p s x y t
-    start-done v ev =
-        ev
-        ∙ ap (λ (d : ℕ). withPart s (d * s) (xorOffsets s t (scaled s (oddFrom 0 ms))) t) (first-place f r ef er)
-        ∙ ap (λ (l : List ℕ). withCell s (firstCell p x y) l t)
-        (ap (λ (l : List ℕ). xorOffsets s t (scaled s (oddFrom 0 l))) marked ∙ odd-offsets s (p * (p + 2)) t (startCells p p x y) cells below ∙ over-offsets s t (startCells p p x y))
-      where
-        cells : (c : ℕ) → c < p * (p + 2) → length (cellAt s t c) ≡ s
-        cells c h = cell-long s c t (omega (arith, cell-fits (p * (p + 2)) s c h, z .long))
-
-        below : (i : ℕ) → i < length (startCells p p x y) → getD (startCells p p x y) i 0 < p * (p + 2)
-        below i h = start-survives p p x y (getD (startCells p p x y) i 0) from-below (at-in i (startCells p p x y) h) .1
-
-  -- the first cell, its row's other cell, the walk
-  pub walk-done : (s r o : ℕ) (t u v w : List ℕ) → r ≡ extraRowOn p x → o ≡ otherDisk x y → u ≡ started p p s x y t → v ≡ solved s (o * p + r) (rowSet p p r) u → w ≡ diagonalWalk (2 * (p - 1)) p p s x y r v → w ≡ walked p p s x y t
-  unfolding walked
-  walk-done s r o t u v w er eo eu ev ew =
-      ew
-      ∙ ap₂ (λ (i : ℕ) (l : List ℕ). diagonalWalk (2 * (p - 1)) p p s x y i l) er
-      (ev ∙ ap₂ (λ (a i : ℕ). solved s (a * p + i) (rowSet p p i) u) eo er ∙ ap (solved s (place p (extraRowOn p x) (otherDisk x y)) (rowSet p p (extraRowOn p x))) eu)
+-- the first cell, its row's other cell, the walk
+pub walk-done : (p s x y r o : ℕ) (t u v w : List ℕ) → r ≡ extraRowOn p x → o ≡ otherDisk x y → u ≡ started p p s x y t → v ≡ solved s (o * p + r) (rowSet p p r) u → w ≡ diagonalWalk (2 * (p - 1)) p p s x y r v → w ≡ walked p p s x y t
+unfolding walked
+walk-done p s x y r o t u v w er eo eu ev ew =
+    ew
+    ∙ ap₂ (λ (i : ℕ) (l : List ℕ). diagonalWalk (2 * (p - 1)) p p s x y i l) er
+    (ev ∙ ap₂ (λ (a i : ℕ). solved s (a * p + i) (rowSet p p i) u) eo er ∙ ap (solved s (place p (extraRowOn p x) (otherDisk x y)) (rowSet p p (extraRowOn p x))) eu)
 
 -- a disk and a parity disk, one after the other
 pub row-done : (p s f : ℕ) (t u v : List ℕ) → u ≡ followed p p s f (upDiagonals p p f 0) t → v ≡ followed p p s p (allOf p 0 0) u → v ≡ withRowParity p p s f t

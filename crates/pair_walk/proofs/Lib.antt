@@ -1,5 +1,4 @@
--- The laws behind the functions: marks toggled for the cells of sets, which disk the walk starts from, its steps, the first cell and the order of the disks.
-pub mod ToggleLaws
+-- The laws behind the functions: which way the walk goes, its steps, and the order of the disks.
 pub mod RoleLaws
 pub mod WalkClauses
 pub mod DiskLaws

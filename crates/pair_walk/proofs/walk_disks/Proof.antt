@@ -3,8 +3,9 @@ use Prim.Native.Nat.{_<_}
 use native.Mathlib.Omega.{arith}
 use borrow.Author.Needs.{needs}
 use Rattle.stripes.proofs.SetLists.{row-own}
+use Rattle.pair_start.proofs.StartLaws.{other-range}
 use Rattle.pair_walk.proofs.WalkClauses.{sized-kept}
-use Rattle.pair_walk.proofs.DiskLaws.{other-range, walk-done}
+use Rattle.pair_walk.proofs.DiskLaws.{walk-done}
 use Rattle.pair_walk.proofs.walk_disks.Statement.{statement}
 use Rattle.pair_walk.proofs.walk_disks.Tie as tie
 
@@ -33,7 +34,7 @@ returns c =
     let z = v .before .before .before in
     let a = z .args in
     let r = k .before .extra-row in
-    walk-done (a .width) (a .x) (a .y) (z .pre .1) (a .size) (r .result) (k .other-disk .result) (a .stripe .now) (v .start .last .1 .1 .1 .1 .0) (u .solve .last .1 .1 .1 .1 .1 .1 .1 .0) (w .diagonal-step .last .1 .1 .1 .1 .1 .1 .0) (r .ensures .0) (k .other-disk .ensures) (v .start .ensures) (u .solve .ensures) (w .diagonal-step .ensures)
+    walk-done (a .width) (a .size) (a .x) (a .y) (r .result) (k .other-disk .result) (a .stripe .now) (v .start .last .1 .1 .1 .1 .0) (u .solve .last .1 .1 .1 .1 .1 .1 .1 .0) (w .diagonal-step .last .1 .1 .1 .1 .1 .1 .0) (r .ensures .0) (k .other-disk .ensures) (v .start .ensures) (u .solve .ensures) (w .diagonal-step .ensures)
 
 pub walk-disks-spec : {M : Type 1} → statement M
 walk-disks-spec =

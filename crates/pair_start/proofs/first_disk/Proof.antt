@@ -1,7 +1,7 @@
 -- `first_disk`: the choice by disk 0.
-use Rattle.pair_walk.proofs.RoleLaws.{pick-zero, pick-other}
-use Rattle.pair_walk.proofs.first_disk.Statement.{statement}
-use Rattle.pair_walk.proofs.first_disk.Tie as tie
+use Rattle.pair_start.proofs.StartLaws.{pick-zero, pick-other}
+use Rattle.pair_start.proofs.first_disk.Statement.{statement}
+use Rattle.pair_start.proofs.first_disk.Tie as tie
 
 returns : tie.Need-returns
 returns c = pick-zero (c .before .args .y) (c .before .args .x) (c .before .args .y) (c .if1 .taken)

@@ -9,9 +9,9 @@ use Rattle.liberation.specs.Plans.{diagonalOf}
 use Rattle.liberation_pairs.specs.Pairs.{startSets}
 use Rattle.odd.specs.Toggled.{toggledAll}
 use Rattle.stripes.specs.Cells.{survivors}
-use Rattle.pair_walk.proofs.ToggleLaws.{rowsRest, rows-turn, rows-last, still-toggling}
-use Rattle.pair_walk.proofs.toggle_sets.Statement.{statement}
-use Rattle.pair_walk.proofs.toggle_sets.Tie as tie
+use Rattle.pair_start.proofs.ToggleLaws.{rowsRest, rows-turn, rows-last, still-toggling}
+use Rattle.pair_start.proofs.toggle_sets.Statement.{statement}
+use Rattle.pair_start.proofs.toggle_sets.Tie as tie
 
 abbrev Inv-loop : tie.InvT-loop
 Inv-loop count width x y row marks₀ at₀ left₀ on₀ marks at left on = (on < width) × (length marks ≡ length marks₀) × (length at ≡ length at₀) × (rowsRest width x y left on marks ≡ toggledAll (survivors width x y (startSets count width width x y row)) marks₀)

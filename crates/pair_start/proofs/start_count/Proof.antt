@@ -1,9 +1,9 @@
 -- `start_count`: the choice by disk 0.
 use Prim.Native.Nat.{_-_, _/_}
 use borrow.Author.Needs.{needs}
-use Rattle.pair_walk.proofs.RoleLaws.{pick-zero, pick-other}
-use Rattle.pair_walk.proofs.start_count.Statement.{statement}
-use Rattle.pair_walk.proofs.start_count.Tie as tie
+use Rattle.pair_start.proofs.StartLaws.{pick-zero, pick-other}
+use Rattle.pair_start.proofs.start_count.Statement.{statement}
+use Rattle.pair_start.proofs.start_count.Tie as tie
 
 returns : tie.Need-returns
 returns c = pick-zero (c .before .args .y) (c .before .args .width) ((c .before .args .width - 1) / 2) (c .if1 .taken)

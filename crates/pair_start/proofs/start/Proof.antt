@@ -12,9 +12,9 @@ use Rattle.liberation.proofs.MarkLists.{take-marks, no-cells, cells-most}
 use Rattle.odd.specs.Toggled.{toggledAll}
 use Rattle.odd.specs.Listed.{Marked}
 use Rattle.stripes.specs.Cells.{survivors}
-use Rattle.pair_walk.proofs.DiskLaws.{first-range, start-marked, start-done}
-use Rattle.pair_walk.proofs.start.Statement.{statement}
-use Rattle.pair_walk.proofs.start.Tie as tie
+use Rattle.pair_start.proofs.StartLaws.{first-range, start-marked, start-done}
+use Rattle.pair_start.proofs.start.Statement.{statement}
+use Rattle.pair_start.proofs.start.Tie as tie
 
 extra-row-requires-2 : tie.Need-extra-row-requires-2
 extra-row-requires-2 c κs =

@@ -21,7 +21,7 @@ use Rattle.offsets.specs.Offsets.{scaled, Pushed}
 use Rattle.odd.specs.Toggled.{toggled, toggledAll}
 use Rattle.stripes.specs.Cells.{survivors}
 use Rattle.stripes.proofs.SetLists.{survivors-none, survivors-append, survivors-swap}
-use Rattle.pair_walk.specs.Disks.{Toggling}
+use Rattle.pair_start.specs.Disks.{Toggling}
 
 toggled-append : (xs ys ms : List ℕ) → toggledAll (xs ++ ys) ms ≡ toggledAll ys (toggledAll xs ms)
 unfolding toggledAll

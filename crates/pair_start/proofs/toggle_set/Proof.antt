@@ -11,9 +11,9 @@ use Rattle.liberation.specs.Sets.{setOf}
 use Rattle.odd.specs.Toggled.{toggledAll}
 use Rattle.stripes.specs.Cells.{survivors}
 use Rattle.stripes.proofs.SetLists.{survivors-below}
-use Rattle.pair_walk.proofs.ToggleLaws.{in-order, ordered-survivors, set-places, places-marked}
-use Rattle.pair_walk.proofs.toggle_set.Statement.{statement}
-use Rattle.pair_walk.proofs.toggle_set.Tie as tie
+use Rattle.pair_start.proofs.ToggleLaws.{in-order, ordered-survivors, set-places, places-marked}
+use Rattle.pair_start.proofs.toggle_set.Statement.{statement}
+use Rattle.pair_start.proofs.toggle_set.Tie as tie
 
 sub-surviving : tie.Need-sub-surviving
 sub-surviving c = let a = c .before .before .before .args in omega (arith, in-order (a .width) (a .x) (a .y) (c .least .result) (c .least .ensures) .1)

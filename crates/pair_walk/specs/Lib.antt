@@ -1,2 +1,0 @@
--- What the walk over two lost disks is given.
-pub mod Disks
