@@ -89,7 +89,7 @@ pub extern "C" fn cuzhaveli_rebuild_two(
     second: usize,
     stripe: &mut [u8],
 ) -> Answer
-    ensures { λ r. ⌜ TwoSays width size first second (now (stripe .entry)) (now (stripe .exit)) r ⌝ }
+    ensures { λ r. ⌜ TwoSays width width size first second (now (stripe .entry)) (now (stripe .exit)) r ⌝ }
 {
     rebuild_two::rebuild_two(width, size, first, second, stripe)
 }

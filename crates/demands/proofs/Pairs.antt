@@ -25,11 +25,11 @@ pub record Restored (p s a b : ℕ) (t t′ : List ℕ) : Type 0 where
   -- no other clean stripe has the other disks' contents: survivors of a clean stripe u bring u back, whatever the lost columns held
   pub only : (u : List ℕ) → isStripe p p s u ≡ true → clean p p s u ≡ true → ((x : ℕ) → x < p * (p + 2) → (diskAt p x ≡ a → ⊥) → (diskAt p x ≡ b → ⊥) → cellAt s t x ≡ cellAt s u x) → t′ ≡ u
 
-pub restores : (p s a b : ℕ) (t t′ : List ℕ) (r : Answer) → TwoSays p s a b t t′ r → r .refusal ≡ 0 → Restored p s a b t t′
+pub restores : (p s a b : ℕ) (t t′ : List ℕ) (r : Answer) → TwoSays p p s a b t t′ r → r .refusal ≡ 0 → Restored p s a b t t′
 restores p s a b t t′ r k z =
-    let e : twoFault p s a b t ≡ 0 = sym (k .answer .refusal) ∙ z in
-    let c = fault-none p s a b t e in
+    let e : twoFault p p s a b t ≡ 0 = sym (k .answer .refusal) ∙ z in
     let m : p ≤ p = omega arith in
+    let c = fault-none p p s a b t m e in
     let ha : a < p + 2 = omega (arith, c .first) in
     let hb : b < p + 2 = omega (arith, c .second) in
     let ok : isStripe p p s t ≡ true = is-stripe p s t (c .sized .long) (k .bytes) in

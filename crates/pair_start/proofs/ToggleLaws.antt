@@ -74,13 +74,13 @@ pub places-marked : (n : ℕ) (at xs : List ℕ) → at ≡ xs → allBelow n xs
 places-marked n at xs e b = subst (λ (l : List ℕ). (i : ℕ) → i < length l → getD l i 0 < n) (sym e) (λ i h. below-at n i xs b h)
 
 -- marks and a list that are as long
-pub still-toggling : {p x y : ℕ} {ms₀ at₀ : List ℕ} (ms at : List ℕ) → Toggling p x y ms₀ at₀ → length ms ≡ length ms₀ → length at ≡ length at₀ → Toggling p x y ms at
-still-toggling ms at q e f = record { widest = q .widest; one = q .one; other = q .other; marks = e ∙ q .marks; room = f ∙ q .room }
+pub still-toggling : {p k x y : ℕ} {ms₀ at₀ : List ℕ} (ms at : List ℕ) → Toggling p k x y ms₀ at₀ → length ms ≡ length ms₀ → length at ≡ length at₀ → Toggling p k x y ms at
+still-toggling ms at q e f = record { widest = q .widest; disks = q .disks; one = q .one; other = q .other; marks = e ∙ q .marks; room = f ∙ q .room }
 
 -- the loop over the rows of the start
-module _ (p x y : ℕ) where
+module _ (p k x y : ℕ) where
   abbrev pub rowsRest : ℕ → ℕ → List ℕ → List ℕ
-  rowsRest n r ms = toggledAll (survivors p x y (startSets n p p x y r)) ms
+  rowsRest n r ms = toggledAll (survivors p x y (startSets n p k x y r)) ms
 
   -- the surviving cells of xs have made u of ms, and those of ys are still to come
   then : (xs ys ms u : List ℕ) → u ≡ toggledAll (survivors p x y xs) ms → toggledAll (survivors p x y ys) u ≡ toggledAll (survivors p x y (xs ++ ys)) ms
@@ -89,15 +89,15 @@ module _ (p x y : ℕ) where
       ∙ sym (toggled-append (survivors p x y xs) (survivors p x y ys) ms)
       ∙ sym (ap (λ (l : List ℕ). toggledAll l ms) (survivors-append p x y xs ys))
 
-  pub rows-turn : (n r : ℕ) (ms u v : List ℕ) → 0 < n → u ≡ toggledAll (survivors p x y (rowSet p p r)) ms → v ≡ toggledAll (survivors p x y (diagonalSet p p (diagonalOf p x r))) u → rowsRest (n - 1) (nextRow p x y r) v ≡ rowsRest n r ms
+  pub rows-turn : (n r : ℕ) (ms u v : List ℕ) → 0 < n → u ≡ toggledAll (survivors p x y (rowSet p k r)) ms → v ≡ toggledAll (survivors p x y (diagonalSet p k (diagonalOf p x r))) u → rowsRest (n - 1) (nextRow p x y r) v ≡ rowsRest n r ms
   unfolding startSets
   rows-turn zero r ms u v h e q = absurd (omega arith)
   rows-turn (suc n) r ms u v h e q =
       let m : suc n - 1 ≡ n = omega arith in
-      let rest : List ℕ = startSets n p p x y (nextRow p x y r) in
+      let rest : List ℕ = startSets n p k x y (nextRow p x y r) in
       ap (λ (i : ℕ). rowsRest i (nextRow p x y r) v) m
-      ∙ then (diagonalSet p p (diagonalOf p x r)) rest u v q
-      ∙ then (rowSet p p r) (diagonalSet p p (diagonalOf p x r) ++ rest) ms u e
+      ∙ then (diagonalSet p k (diagonalOf p x r)) rest u v q
+      ∙ then (rowSet p k r) (diagonalSet p k (diagonalOf p x r) ++ rest) ms u e
 
   pub rows-last : (n r : ℕ) (ms : List ℕ) → n ≤ 0 → rowsRest n r ms ≡ ms
   unfolding startSets toggledAll

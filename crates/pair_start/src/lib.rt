@@ -11,6 +11,7 @@ ghost use Rattle.pair_start.specs.Disks.{Toggling, Walked};
 // The marks of a set's surviving cells are toggled. Cells of one byte have their places as offsets.
 fn toggle_set(
     width: usize,
+    disks: usize,
     x: usize,
     y: usize,
     kind: usize,
@@ -18,11 +19,11 @@ fn toggle_set(
     marks: &mut [u8],
     at: &mut [usize],
 )
-    requires { ⌜ Toggling width x y (now marks) (now at) × (number < width) ⌝ }
-    ensures { λ _. ⌜ now (marks .exit) ≡ toggledAll (survivors width x y (setOf width width kind number)) (now (marks .entry)) ⌝ }
+    requires { ⌜ Toggling width disks x y (now marks) (now at) × (number < width) ⌝ }
+    ensures { λ _. ⌜ now (marks .exit) ≡ toggledAll (survivors width x y (setOf width disks kind number)) (now (marks .entry)) ⌝ }
 {
     let low = stripes::least(x, y);
-    let n = stripes::surviving(width, width, 1, kind, number, low, x + y - low, at);
+    let n = stripes::surviving(width, disks, 1, kind, number, low, x + y - low, at);
     odd::toggle_all(marks, &at[..n]);
 }
 
@@ -30,21 +31,22 @@ fn toggle_set(
 fn toggle_sets(
     count: usize,
     width: usize,
+    disks: usize,
     x: usize,
     y: usize,
     row: usize,
     marks: &mut [u8],
     at: &mut [usize],
 )
-    requires { ⌜ Toggling width x y (now marks) (now at) × (row < width) ⌝ }
-    ensures { λ _. ⌜ now (marks .exit) ≡ toggledAll (survivors width x y (startSets count width width x y row)) (now (marks .entry)) ⌝ }
+    requires { ⌜ Toggling width disks x y (now marks) (now at) × (row < width) ⌝ }
+    ensures { λ _. ⌜ now (marks .exit) ≡ toggledAll (survivors width x y (startSets count width disks x y row)) (now (marks .entry)) ⌝ }
 {
     let mut left = count;
     let mut on = row;
     while 0 < left {
-        toggle_set(width, x, y, 0, on, marks, at);
+        toggle_set(width, disks, x, y, 0, on, marks, at);
         let number = (on + width - x) % width;
-        toggle_set(width, x, y, 1, number, marks, at);
+        toggle_set(width, disks, x, y, 1, number, marks, at);
         on = (number + y) % width;
         left -= 1;
     }
@@ -81,19 +83,28 @@ fn start_count(width: usize, y: usize) -> usize
 }
 
 // The first cell of the walk: the XOR of the surviving cells of several sets together. A cell that occurs an even number of times in them is left out.
-pub fn start(width: usize, size: usize, x: usize, y: usize, stripe: &mut [u8])
-    requires { ⌜ Sized width width size (now stripe) ⌝ }
-    requires { ⌜ Walked width x y ⌝ }
-    ensures { λ _. ⌜ now (stripe .exit) ≡ started width width size x y (now (stripe .entry)) ⌝ }
+pub fn start(width: usize, disks: usize, size: usize, x: usize, y: usize, stripe: &mut [u8])
+    requires { ⌜ Sized width disks size (now stripe) ⌝ }
+    requires { ⌜ Walked width disks x y ⌝ }
+    ensures { λ _. ⌜ now (stripe .exit) ≡ started width disks size x y (now (stripe .entry)) ⌝ }
 {
     let first = first_disk(x, y);
     let row = extra_row(width, x);
     let from = extra_row(width, first);
     let count = start_count(width, y);
-    let cells = width * (width + 2);
+    let cells = width * (disks + 2);
     let mut marks = sets::no_marks();
     let mut at = offsets::no_offsets();
-    toggle_sets(count, width, x, y, from, &mut marks[..cells], &mut at);
+    toggle_sets(
+        count,
+        width,
+        disks,
+        x,
+        y,
+        from,
+        &mut marks[..cells],
+        &mut at,
+    );
     let to = first * width + row;
     let most = xor::list_most(size);
     odd::gather_odd(stripe, size, to, &marks[..cells], &mut at[..most]);

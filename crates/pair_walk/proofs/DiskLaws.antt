@@ -16,53 +16,50 @@ use Rattle.liberation_pairs.specs.Pairs.{otherDisk, started, diagonalWalk, walk
 use Rattle.pair_start.specs.Disks.{Walked}
 
 -- the first cell, its row's other cell, the walk
-pub walk-done : (p s x y r o : ℕ) (t u v w : List ℕ) → r ≡ extraRowOn p x → o ≡ otherDisk x y → u ≡ started p p s x y t → v ≡ solved s (o * p + r) (rowSet p p r) u → w ≡ diagonalWalk (2 * (p - 1)) p p s x y r v → w ≡ walked p p s x y t
+pub walk-done : (p k s x y r o : ℕ) (t u v w : List ℕ) → r ≡ extraRowOn p x → o ≡ otherDisk x y → u ≡ started p k s x y t → v ≡ solved s (o * p + r) (rowSet p k r) u → w ≡ diagonalWalk (2 * (p - 1)) p k s x y r v → w ≡ walked p k s x y t
 unfolding walked
-walk-done p s x y r o t u v w er eo eu ev ew =
+walk-done p k s x y r o t u v w er eo eu ev ew =
     ew
-    ∙ ap₂ (λ (i : ℕ) (l : List ℕ). diagonalWalk (2 * (p - 1)) p p s x y i l) er
-    (ev ∙ ap₂ (λ (a i : ℕ). solved s (a * p + i) (rowSet p p i) u) eo er ∙ ap (solved s (place p (extraRowOn p x) (otherDisk x y)) (rowSet p p (extraRowOn p x))) eu)
+    ∙ ap₂ (λ (i : ℕ) (l : List ℕ). diagonalWalk (2 * (p - 1)) p k s x y i l) er
+    (ev ∙ ap₂ (λ (a i : ℕ). solved s (a * p + i) (rowSet p k i) u) eo er ∙ ap (solved s (place p (extraRowOn p x) (otherDisk x y)) (rowSet p k (extraRowOn p x))) eu)
 
 -- a disk and a parity disk, one after the other
-pub row-done : (p s f : ℕ) (t u v : List ℕ) → u ≡ followed p p s f (upDiagonals p p f 0) t → v ≡ followed p p s p (allOf p 0 0) u → v ≡ withRowParity p p s f t
-row-done p s f t u v e q = q ∙ ap (followed p p s p (allOf p 0 0)) e
+pub row-done : (p k s f : ℕ) (t u v : List ℕ) → u ≡ followed p k s f (upDiagonals p p f 0) t → v ≡ followed p k s k (allOf p 0 0) u → v ≡ withRowParity p k s f t
+row-done p k s f t u v e q = q ∙ ap (followed p k s k (allOf p 0 0)) e
 
-pub diagonal-done : (p s f : ℕ) (t u v : List ℕ) → u ≡ followed p p s f (allOf p 0 0) t → v ≡ followed p p s (p + 1) (allOf p 1 0) u → v ≡ withDiagonalParity p p s f t
-diagonal-done p s f t u v e q = q ∙ ap₂ (λ (g : ℕ) (l : List ℕ). followed p p s g (allOf p 1 0) l) (add-one p) e
+pub diagonal-done : (p k s f : ℕ) (t u v : List ℕ) → u ≡ followed p k s f (allOf p 0 0) t → v ≡ followed p k s (k + 1) (allOf p 1 0) u → v ≡ withDiagonalParity p k s f t
+diagonal-done p k s f t u v e q = q ∙ ap₂ (λ (g : ℕ) (l : List ℕ). followed p k s g (allOf p 1 0) l) (add-one k) e
 
 -- a < b: which way the walk goes
-module _ (p s a b : ℕ) (t u : List ℕ) where
-  pub data-forward : (f : Bool) → f ≡ forward p a b → f ≡ true → u ≡ walked p p s a b t → u ≡ dataSolved p p s a b t
-  data-forward f e q w = w ∙ sym (ap (λ (c : Bool). pick c (walked p p s a b t) (walked p p s b a t)) (sym e ∙ q))
+module _ (p k s a b : ℕ) (t u : List ℕ) where
+  pub data-forward : (f : Bool) → f ≡ forward p a b → f ≡ true → u ≡ walked p k s a b t → u ≡ dataSolved p k s a b t
+  data-forward f e q w = w ∙ sym (ap (λ (c : Bool). pick c (walked p k s a b t) (walked p k s b a t)) (sym e ∙ q))
 
-  pub data-back : (f : Bool) → f ≡ forward p a b → f ≡ false → u ≡ walked p p s b a t → u ≡ dataSolved p p s a b t
-  data-back f e q w = w ∙ sym (ap (λ (c : Bool). pick c (walked p p s a b t) (walked p p s b a t)) (sym e ∙ q))
+  pub data-back : (f : Bool) → f ≡ forward p a b → f ≡ false → u ≡ walked p k s b a t → u ≡ dataSolved p k s a b t
+  data-back f e q w = w ∙ sym (ap (λ (c : Bool). pick c (walked p k s a b t) (walked p k s b a t)) (sym e ∙ q))
 
   -- which disks are lost
-  pub ordered-data : b < p → u ≡ dataSolved p p s a b t → u ≡ orderedSolved p p s a b t
+  pub ordered-data : b < k → u ≡ dataSolved p k s a b t → u ≡ orderedSolved p k s a b t
   unfolding orderedSolved
-  ordered-data h w = w ∙ sym (ap (λ (c : Bool). pick c (dataSolved p p s a b t) (pick (eqb b p) (withRowParity p p s a t) (withDiagonalParity p p s a t))) (lt-ltb b p h))
+  ordered-data h w = w ∙ sym (ap (λ (c : Bool). pick c (dataSolved p k s a b t) (pick (eqb b k) (withRowParity p k s a t) (withDiagonalParity p k s a t))) (lt-ltb b k h))
 
-  pub ordered-row : p ≤ b → b ≡ p → u ≡ withRowParity p p s a t → u ≡ orderedSolved p p s a b t
+  pub ordered-row : k ≤ b → b ≡ k → u ≡ withRowParity p k s a t → u ≡ orderedSolved p k s a b t
   unfolding orderedSolved
-  ordered-row h e w = w ∙ sym (ap₂ (λ (c d : Bool). pick c (dataSolved p p s a b t) (pick d (withRowParity p p s a t) (withDiagonalParity p p s a t))) (le-ltb b p h) (eq-eqb b p e))
+  ordered-row h e w = w ∙ sym (ap₂ (λ (c d : Bool). pick c (dataSolved p k s a b t) (pick d (withRowParity p k s a t) (withDiagonalParity p k s a t))) (le-ltb b k h) (eq-eqb b k e))
 
-  pub ordered-diagonal : p ≤ b → (b ≡ p → ⊥) → u ≡ withDiagonalParity p p s a t → u ≡ orderedSolved p p s a b t
+  pub ordered-diagonal : k ≤ b → (b ≡ k → ⊥) → u ≡ withDiagonalParity p k s a t → u ≡ orderedSolved p k s a b t
   unfolding orderedSolved
-  ordered-diagonal h e w = w ∙ sym (ap₂ (λ (c d : Bool). pick c (dataSolved p p s a b t) (pick d (withRowParity p p s a t) (withDiagonalParity p p s a t))) (le-ltb b p h) (ne-eqb b p e))
+  ordered-diagonal h e w = w ∙ sym (ap₂ (λ (c d : Bool). pick c (dataSolved p k s a b t) (pick d (withRowParity p k s a t) (withDiagonalParity p k s a t))) (le-ltb b k h) (ne-eqb b k e))
 
-  pub pair-ordered : a < b → u ≡ orderedSolved p p s a b t → u ≡ pairSolved p p s a b t
+  pub pair-ordered : a < b → u ≡ orderedSolved p k s a b t → u ≡ pairSolved p k s a b t
   unfolding pairSolved
-  pair-ordered h w = w ∙ sym (ap (λ (c : Bool). pick c (orderedSolved p p s a b t) (orderedSolved p p s b a t)) (lt-ltb a b h))
+  pair-ordered h w = w ∙ sym (ap (λ (c : Bool). pick c (orderedSolved p k s a b t) (orderedSolved p k s b a t)) (lt-ltb a b h))
 
-  pub pair-turned : b ≤ a → u ≡ orderedSolved p p s b a t → u ≡ pairSolved p p s a b t
+  pub pair-turned : b ≤ a → u ≡ orderedSolved p k s b a t → u ≡ pairSolved p k s a b t
   unfolding pairSolved
-  pair-turned h w = w ∙ sym (ap (λ (c : Bool). pick c (orderedSolved p p s a b t) (orderedSolved p p s b a t)) (le-ltb a b h))
+  pair-turned h w = w ∙ sym (ap (λ (c : Bool). pick c (orderedSolved p k s a b t) (orderedSolved p k s b a t)) (le-ltb a b h))
 
 -- the walk does not go forward from disk 0
-pub walked-forward : (p a b : ℕ) (f : Bool) → p % 2 ≡ 1 → a < b → b < p → f ≡ forward p a b → f ≡ true → Walked p a b
-walked-forward p a b f odd h l e q =
+pub walked-forward : (p k a b : ℕ) (f : Bool) → p % 2 ≡ 1 → a < b → b < k → f ≡ forward p a b → f ≡ true → Walked p k a b
+walked-forward p k a b f odd h l e q =
     record { odd = odd; low = leb-true 1 a (and-l (leb 1 a) (comesToOne ((p - 1) / 2) p (b - a) (b - a)) (sym e ∙ q)); high = omega arith; other = l }
-
-pub walked-back : (p a b : ℕ) → p % 2 ≡ 1 → a < b → b < p → Walked p b a
-walked-back p a b odd h l = record { odd = odd; low = omega arith; high = l; other = omega arith }

@@ -7,15 +7,15 @@ ghost use Rattle.stripes.specs.Cells.{Sized};
 ghost use Rattle.pair_start.specs.Disks.{Walked};
 
 // All cells of a data disk, rows upward, each by the diagonal set on which it is ordinary.
-fn up_diagonals(width: usize, size: usize, disk: usize, stripe: &mut [u8])
-    requires { ⌜ Sized width width size (now stripe) ⌝ }
-    requires { ⌜ disk < width ⌝ }
-    ensures { λ _. ⌜ now (stripe .exit) ≡ followed width width size disk (upDiagonals width width disk 0) (now (stripe .entry)) ⌝ }
+fn up_diagonals(width: usize, disks: usize, size: usize, disk: usize, stripe: &mut [u8])
+    requires { ⌜ Sized width disks size (now stripe) ⌝ }
+    requires { ⌜ disk < disks ⌝ }
+    ensures { λ _. ⌜ now (stripe .exit) ≡ followed width disks size disk (upDiagonals width width disk 0) (now (stripe .entry)) ⌝ }
 {
     let mut i = 0;
     while i < width {
         let number = (i + width - disk) % width;
-        stripes::solve(width, width, size, 1, number, disk, i, stripe);
+        stripes::solve(width, disks, size, 1, number, disk, i, stripe);
         i += 1;
     }
 }
@@ -24,44 +24,46 @@ fn up_diagonals(width: usize, size: usize, disk: usize, stripe: &mut [u8])
 fn diagonal_step(
     left: usize,
     width: usize,
+    disks: usize,
     size: usize,
     x: usize,
     y: usize,
     row: usize,
     stripe: &mut [u8],
 )
-    requires { ⌜ Sized width width size (now stripe) ⌝ }
-    requires { ⌜ (x < width) × (y < width) × (row < width) ⌝ }
-    ensures { λ _. ⌜ now (stripe .exit) ≡ diagonalWalk left width width size x y row (now (stripe .entry)) ⌝ }
+    requires { ⌜ Sized width disks size (now stripe) ⌝ }
+    requires { ⌜ (x < disks) × (y < disks) × (row < width) ⌝ }
+    ensures { λ _. ⌜ now (stripe .exit) ≡ diagonalWalk left width disks size x y row (now (stripe .entry)) ⌝ }
 {
     if left == 0 {
         return;
     }
     let number = (row + width - x) % width;
     let next = (number + y) % width;
-    stripes::solve(width, width, size, 1, number, y, next, stripe);
-    row_step(left - 1, width, size, x, y, next, stripe);
+    stripes::solve(width, disks, size, 1, number, y, next, stripe);
+    row_step(left - 1, width, disks, size, x, y, next, stripe);
 }
 
 // While cells are missing: the row set gives the row's cell of disk x.
 fn row_step(
     left: usize,
     width: usize,
+    disks: usize,
     size: usize,
     x: usize,
     y: usize,
     row: usize,
     stripe: &mut [u8],
 )
-    requires { ⌜ Sized width width size (now stripe) ⌝ }
-    requires { ⌜ (x < width) × (y < width) × (row < width) ⌝ }
-    ensures { λ _. ⌜ now (stripe .exit) ≡ rowWalk left width width size x y row (now (stripe .entry)) ⌝ }
+    requires { ⌜ Sized width disks size (now stripe) ⌝ }
+    requires { ⌜ (x < disks) × (y < disks) × (row < width) ⌝ }
+    ensures { λ _. ⌜ now (stripe .exit) ≡ rowWalk left width disks size x y row (now (stripe .entry)) ⌝ }
 {
     if left == 0 {
         return;
     }
-    stripes::solve(width, width, size, 0, row, x, row, stripe);
-    diagonal_step(left - 1, width, size, x, y, row, stripe);
+    stripes::solve(width, disks, size, 0, row, x, row, stripe);
+    diagonal_step(left - 1, width, disks, size, x, y, row, stripe);
 }
 
 // Is 1 among the first (width - 1) / 2 multiples of `gap`?
@@ -93,77 +95,84 @@ fn goes_forward(width: usize, a: usize, b: usize) -> bool
 }
 
 // A data disk and P: the disk by its diagonals, then P by the row sets.
-fn with_row_parity(width: usize, size: usize, disk: usize, stripe: &mut [u8])
-    requires { ⌜ Sized width width size (now stripe) ⌝ }
-    requires { ⌜ disk < width ⌝ }
-    ensures { λ _. ⌜ now (stripe .exit) ≡ withRowParity width width size disk (now (stripe .entry)) ⌝ }
+fn with_row_parity(width: usize, disks: usize, size: usize, disk: usize, stripe: &mut [u8])
+    requires { ⌜ Sized width disks size (now stripe) ⌝ }
+    requires { ⌜ disk < disks ⌝ }
+    ensures { λ _. ⌜ now (stripe .exit) ≡ withRowParity width disks size disk (now (stripe .entry)) ⌝ }
 {
-    up_diagonals(width, size, disk, stripe);
-    stripes::solve_rows(width, width, size, width, stripe);
+    up_diagonals(width, disks, size, disk, stripe);
+    stripes::solve_rows(width, disks, size, disks, stripe);
 }
 
 // A data disk, or P, and Q: the disk by the row sets, then Q by the diagonal sets.
-fn with_diagonal_parity(width: usize, size: usize, disk: usize, stripe: &mut [u8])
-    requires { ⌜ Sized width width size (now stripe) ⌝ }
-    requires { ⌜ (0 < width) × (disk ≤ width) ⌝ }
-    ensures { λ _. ⌜ now (stripe .exit) ≡ withDiagonalParity width width size disk (now (stripe .entry)) ⌝ }
+fn with_diagonal_parity(width: usize, disks: usize, size: usize, disk: usize, stripe: &mut [u8])
+    requires { ⌜ Sized width disks size (now stripe) ⌝ }
+    requires { ⌜ (0 < width) × (disk ≤ disks) ⌝ }
+    ensures { λ _. ⌜ now (stripe .exit) ≡ withDiagonalParity width disks size disk (now (stripe .entry)) ⌝ }
 {
-    stripes::solve_rows(width, width, size, disk, stripe);
-    stripes::solve_diagonals(width, width, size, stripe);
+    stripes::solve_rows(width, disks, size, disk, stripe);
+    stripes::solve_diagonals(width, disks, size, stripe);
 }
 
 // Two data disks: the first cell, its row's other cell, then the walk over the other rows.
-fn walk_disks(width: usize, size: usize, x: usize, y: usize, stripe: &mut [u8])
-    requires { ⌜ Sized width width size (now stripe) ⌝ }
-    requires { ⌜ Walked width x y ⌝ }
-    ensures { λ _. ⌜ now (stripe .exit) ≡ walked width width size x y (now (stripe .entry)) ⌝ }
+fn walk_disks(width: usize, disks: usize, size: usize, x: usize, y: usize, stripe: &mut [u8])
+    requires { ⌜ Sized width disks size (now stripe) ⌝ }
+    requires { ⌜ Walked width disks x y ⌝ }
+    ensures { λ _. ⌜ now (stripe .exit) ≡ walked width disks size x y (now (stripe .entry)) ⌝ }
 {
-    pair_start::start(width, size, x, y, stripe);
+    pair_start::start(width, disks, size, x, y, stripe);
     let row = pair_start::extra_row(width, x);
     let other = pair_start::other_disk(x, y);
-    stripes::solve(width, width, size, 0, row, other, row, stripe);
-    diagonal_step(2 * (width - 1), width, size, x, y, row, stripe);
+    stripes::solve(width, disks, size, 0, row, other, row, stripe);
+    diagonal_step(2 * (width - 1), width, disks, size, x, y, row, stripe);
 }
 
 // Two data disks a < b, walked in the order in which the walk goes through.
-fn solve_data(width: usize, size: usize, a: usize, b: usize, stripe: &mut [u8])
-    requires { ⌜ Sized width width size (now stripe) ⌝ }
-    requires { ⌜ (width % 2 ≡ 1) × (a < b) × (b < width) ⌝ }
-    ensures { λ _. ⌜ now (stripe .exit) ≡ dataSolved width width size a b (now (stripe .entry)) ⌝ }
+fn solve_data(width: usize, disks: usize, size: usize, a: usize, b: usize, stripe: &mut [u8])
+    requires { ⌜ Sized width disks size (now stripe) ⌝ }
+    requires { ⌜ (width % 2 ≡ 1) × (a < b) × (b < disks) ⌝ }
+    ensures { λ _. ⌜ now (stripe .exit) ≡ dataSolved width disks size a b (now (stripe .entry)) ⌝ }
 {
     if goes_forward(width, a, b) {
-        walk_disks(width, size, a, b, stripe);
+        walk_disks(width, disks, size, a, b, stripe);
         return;
     }
-    walk_disks(width, size, b, a, stripe);
+    walk_disks(width, disks, size, b, a, stripe);
 }
 
 // Two disks a < b: two data disks, a data disk and P, or Q and another.
-fn solve_ordered(width: usize, size: usize, a: usize, b: usize, stripe: &mut [u8])
-    requires { ⌜ Sized width width size (now stripe) ⌝ }
-    requires { ⌜ (width % 2 ≡ 1) × (a < b) × (b ≤ width + 1) ⌝ }
-    ensures { λ _. ⌜ now (stripe .exit) ≡ orderedSolved width width size a b (now (stripe .entry)) ⌝ }
+fn solve_ordered(width: usize, disks: usize, size: usize, a: usize, b: usize, stripe: &mut [u8])
+    requires { ⌜ Sized width disks size (now stripe) ⌝ }
+    requires { ⌜ (width % 2 ≡ 1) × (a < b) × (b ≤ disks + 1) ⌝ }
+    ensures { λ _. ⌜ now (stripe .exit) ≡ orderedSolved width disks size a b (now (stripe .entry)) ⌝ }
 {
-    if b < width {
-        solve_data(width, size, a, b, stripe);
+    if b < disks {
+        solve_data(width, disks, size, a, b, stripe);
         return;
     }
-    if b == width {
-        with_row_parity(width, size, a, stripe);
+    if b == disks {
+        with_row_parity(width, disks, size, a, stripe);
         return;
     }
-    with_diagonal_parity(width, size, a, stripe);
+    with_diagonal_parity(width, disks, size, a, stripe);
 }
 
 // Two different disks in either order, of an array that is within its limits.
-pub fn solve_pair(width: usize, size: usize, first: usize, second: usize, stripe: &mut [u8])
-    requires { ⌜ Sized width width size (now stripe) ⌝ }
-    requires { ⌜ (width % 2 ≡ 1) × (first ≤ width + 1) × (second ≤ width + 1) × (first ≡ second → ⊥) ⌝ }
-    ensures { λ _. ⌜ now (stripe .exit) ≡ pairSolved width width size first second (now (stripe .entry)) ⌝ }
+pub fn solve_pair(
+    width: usize,
+    disks: usize,
+    size: usize,
+    first: usize,
+    second: usize,
+    stripe: &mut [u8],
+)
+    requires { ⌜ Sized width disks size (now stripe) ⌝ }
+    requires { ⌜ (width % 2 ≡ 1) × (first ≤ disks + 1) × (second ≤ disks + 1) × (first ≡ second → ⊥) ⌝ }
+    ensures { λ _. ⌜ now (stripe .exit) ≡ pairSolved width disks size first second (now (stripe .entry)) ⌝ }
 {
     if first < second {
-        solve_ordered(width, size, first, second, stripe);
+        solve_ordered(width, disks, size, first, second, stripe);
         return;
     }
-    solve_ordered(width, size, second, first, stripe);
+    solve_ordered(width, disks, size, second, first, stripe);
 }

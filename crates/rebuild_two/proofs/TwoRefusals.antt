@@ -1,8 +1,9 @@
 -- Refusals 1 to 5 of `rebuild_two`, and its promise from what was refused or done.
 use mathlib.Core.Path.{_≡_, sym, _∙_}
-use mathlib.Core.Bool.{true, not}
+use mathlib.Core.Bool.{true}
 use mathlib.Core.List.{List}
-use Prim.Native.Nat.{ℕ, _+_, _%_, _≤_}
+use Prim.Native.Nat.{ℕ, _+_, _*_, _%_, _≤_}
+use native.Mathlib.Nat.{mul-le-mul}
 use native.Mathlib.Omega.{arith}
 use lib.Dec.{eqb, ltb}
 use borrow.Author.Tests.{ltb-false, eqb-false}
@@ -20,50 +21,59 @@ use Rattle.liberation_pairs.specs.Pairs.{pairSolved}
 use Rattle.stripes.specs.Cells.{Sized}
 use Rattle.rebuild_two.specs.Says.{twoFault, TwoSays}
 
+-- the numbers are accepted: the stripe has few enough bytes to count
+pub bytes-most : (p k s a : ℕ) → k ≤ p → numbersFault p k s a ≡ 0 → (k ≤ 31) × (p * s ≤ 126976) × ((k + 2) * (p * s) ≤ 4190208)
+bytes-most p k s a m e =
+    let q = numbers-of p k s a e in
+    let w : p ≤ 31 = width-most p (q .0) in
+    let l : p * s ≤ 31 * 4096 = mul-le-mul w (q .2) in
+    let d : k + 2 ≤ 33 = omega arith in
+    (omega arith, omega arith, omega (arith, mul-le-mul d l))
+
 -- what a call that is not refused has
-pub record Accepted (p s a b : ℕ) (t : List ℕ) : Type 0 where
+pub record Accepted (p k s a b : ℕ) (t : List ℕ) : Type 0 where
   pub width : isWidth p ≡ true
-  pub sized : Sized p p s t
+  pub sized : Sized p k s t
   pub odd : p % 2 ≡ 1
-  pub first : a ≤ p + 1
-  pub second : b ≤ p + 1
+  pub first : a ≤ k + 1
+  pub second : b ≤ k + 1
   pub apart : a ≡ b → ⊥
 
-pub fault-none : (p s a b : ℕ) (t : List ℕ) → twoFault p s a b t ≡ 0 → Accepted p s a b t
-fault-none p s a b t e =
-    let tail5 : ℕ = longFault (stripeLong p p s) t in
+pub fault-none : (p k s a b : ℕ) (t : List ℕ) → k ≤ p → twoFault p k s a b t ≡ 0 → Accepted p k s a b t
+fault-none p k s a b t m e =
+    let tail5 : ℕ = longFault (stripeLong p k s) t in
     let tail4 : ℕ = firstOf (when (eqb a b) 4) tail5 in
-    let tail3 : ℕ = firstOf (diskFault p b) tail4 in
-    let w = first-none (numbersFault p p s a) tail3 e in
-    let g = first-none (diskFault p b) tail4 (w .1) in
+    let tail3 : ℕ = firstOf (diskFault k b) tail4 in
+    let w = first-none (numbersFault p k s a) tail3 e in
+    let g = first-none (diskFault k b) tail4 (w .1) in
     let h = first-none (when (eqb a b) 4) tail5 (g .1) in
-    let q = numbers-of p p s a (w .0) in
+    let q = numbers-of p k s a (w .0) in
     record {
       width = q .0;
       sized = record {
         widest = width-most p (q .0);
-        disks = omega arith;
+        disks = m;
         small = q .2;
-        long = long-of (stripeLong p p s) t (h .1);
+        long = long-of (stripeLong p k s) t (h .1);
       };
       odd = width-odd p (q .0);
       first = q .3;
-      second = ltb-false (p + 1) b (when-none (ltb (p + 1) b) 2 (g .0));
+      second = ltb-false (k + 1) b (when-none (ltb (k + 1) b) 2 (g .0));
       apart = eqb-false a b (when-none (eqb a b) 3 (h .0));
     }
 
-pub two-refused : (p s a b n : ℕ) (t : List ℕ) (r : Answer) → n ≡ twoFault p s a b t → (n ≡ 0 → ⊥) → Answers n r → allBytes t ≡ true → TwoSays p s a b t t r
-two-refused p s a b n t r e z q y =
+pub two-refused : (p k s a b n : ℕ) (t : List ℕ) (r : Answer) → n ≡ twoFault p k s a b t → (n ≡ 0 → ⊥) → Answers n r → allBytes t ≡ true → TwoSays p k s a b t t r
+two-refused p k s a b n t r e z q y =
     record {
-      answer = answers-as n (twoFault p s a b t) r e q;
-      stripe = pick-refused n (twoFault p s a b t) (pairSolved p p s a b t) t e z;
+      answer = answers-as n (twoFault p k s a b t) r e q;
+      stripe = pick-refused n (twoFault p k s a b t) (pairSolved p k s a b t) t e z;
       bytes = y;
     }
 
-pub two-done : (p s a b : ℕ) (t u : List ℕ) (r : Answer) → twoFault p s a b t ≡ 0 → u ≡ pairSolved p p s a b t → Answers 0 r → allBytes t ≡ true → TwoSays p s a b t u r
-two-done p s a b t u r z e q y =
+pub two-done : (p k s a b : ℕ) (t u : List ℕ) (r : Answer) → twoFault p k s a b t ≡ 0 → u ≡ pairSolved p k s a b t → Answers 0 r → allBytes t ≡ true → TwoSays p k s a b t u r
+two-done p k s a b t u r z e q y =
     record {
-      answer = answers-as 0 (twoFault p s a b t) r (sym z) q;
-      stripe = e ∙ pick-done (twoFault p s a b t) (pairSolved p p s a b t) t z;
+      answer = answers-as 0 (twoFault p k s a b t) r (sym z) q;
+      stripe = e ∙ pick-done (twoFault p k s a b t) (pairSolved p k s a b t) t z;
       bytes = y;
     }

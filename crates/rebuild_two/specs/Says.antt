@@ -13,12 +13,12 @@ use Rattle.refusals.specs.declared.Answer.{Answer}
 use Rattle.refusals.specs.Answers.{Answers}
 
 -- the rebuild refuses by 1, 2, 3, 4 and 5: a and b are the lost disks, t is the stripe
-abbrev pub twoFault : ℕ → ℕ → ℕ → ℕ → List ℕ → ℕ
-twoFault p s a b t = firstOf (numbersFault p p s a) (firstOf (diskFault p b) (firstOf (when (eqb a b) 4) (longFault (stripeLong p p s) t)))
+abbrev pub twoFault : ℕ → ℕ → ℕ → ℕ → ℕ → List ℕ → ℕ
+twoFault p k s a b t = firstOf (numbersFault p k s a) (firstOf (diskFault k b) (firstOf (when (eqb a b) 4) (longFault (stripeLong p k s) t)))
 
 -- the stripe t becomes t′: both disks rebuilt, or as it was on a refusal
-pub record TwoSays (p s a b : ℕ) (t t′ : List ℕ) (r : Answer) : Type 0 where
-  pub answer : Answers (twoFault p s a b t) r
-  pub stripe : t′ ≡ pick (eqb (twoFault p s a b t) 0) (pairSolved p p s a b t) t
+pub record TwoSays (p k s a b : ℕ) (t t′ : List ℕ) (r : Answer) : Type 0 where
+  pub answer : Answers (twoFault p k s a b t) r
+  pub stripe : t′ ≡ pick (eqb (twoFault p k s a b t) 0) (pairSolved p k s a b t) t
   -- what was lent are bytes
   pub bytes : allBytes t ≡ true

@@ -1,6 +1,7 @@
 // The rebuild of two lost disks in place: document 01, "Two lost disks". Refusals are tested here; the walk is below.
 ghost use mathlib.Core.Path.{_≡_};
 ghost use mathlib.Core.Bool.{not};
+ghost use Prim.Native.Nat.{_≤_};
 ghost use lib.Dec.{eqb};
 ghost use Rattle.laws.specs.Choice.{when, firstOf};
 ghost use Rattle.liberation.specs.Sets.{numbersFault, diskFault};
@@ -9,21 +10,29 @@ ghost use Rattle.rebuild_two.specs.Says.{TwoSays};
 use refusals::Answer;
 
 // The refusal of a call on a stripe of `long` bytes, 0 for none.
-fn two_fault(width: usize, size: usize, first: usize, second: usize, long: usize) -> u8
-    ensures { λ r. ⌜ r ≡ firstOf (numbersFault width width size first) (firstOf (diskFault width second) (firstOf (when (eqb first second) 4) (when (not (eqb long (stripeLong width width size))) 5))) ⌝ }
+fn two_fault(
+    width: usize,
+    disks: usize,
+    size: usize,
+    first: usize,
+    second: usize,
+    long: usize,
+) -> u8
+    requires { ⌜ disks ≤ width ⌝ }
+    ensures { λ r. ⌜ r ≡ firstOf (numbersFault width disks size first) (firstOf (diskFault disks second) (firstOf (when (eqb first second) 4) (when (not (eqb long (stripeLong width disks size))) 5))) ⌝ }
 {
-    let fault = refusals::numbers_fault(width, width, size, first);
+    let fault = refusals::numbers_fault(width, disks, size, first);
     if fault != 0 {
         return fault;
     }
-    let other = refusals::disk_fault(width, second);
+    let other = refusals::disk_fault(disks, second);
     if other != 0 {
         return other;
     }
     if first == second {
         return 4;
     }
-    refusals::length_fault(long, (width + 2) * (width * size))
+    refusals::length_fault(long, (disks + 2) * (width * size))
 }
 
 // Rebuilds two lost disks in place. Refusals: 1 to 5; a refused call leaves the stripe as it was.
@@ -34,12 +43,12 @@ pub fn rebuild_two(
     second: usize,
     stripe: &mut [u8],
 ) -> Answer
-    ensures { λ r. ⌜ TwoSays width size first second (now (stripe .entry)) (now (stripe .exit)) r ⌝ }
+    ensures { λ r. ⌜ TwoSays width width size first second (now (stripe .entry)) (now (stripe .exit)) r ⌝ }
 {
-    let refusal = two_fault(width, size, first, second, stripe.len());
+    let refusal = two_fault(width, width, size, first, second, stripe.len());
     if refusal != 0 {
         return refusals::answered(refusal);
     }
-    pair_walk::solve_pair(width, size, first, second, stripe);
+    pair_walk::solve_pair(width, width, size, first, second, stripe);
     refusals::answered(0)
 }

@@ -25,7 +25,7 @@ surviving-requires c κs =
     let a = o .args in
     let w = in-order (a .width) (a .x) (a .y) (m .result) (m .ensures) in
     let q = o .pre .0 in
-    record { widest = q .widest; disks = omega arith; numbered = o .pre .1; small = omega arith; ordered = w .0; last = omega (arith, m .ensures); room = q .room }
+    record { widest = q .widest; disks = q .disks; numbered = o .pre .1; small = omega arith; ordered = w .0; last = omega (arith, m .ensures); room = q .room }
 
 -- the list is as long as before
 room : (c : tie.After-surviving) → length (c .surviving .last .1 .1 .1 .1 .1 .1 .1 .0) ≡ 33
@@ -35,11 +35,11 @@ long : (u : tie.After-surviving) → length (take (u .surviving .result) (u .sur
 long u = length-take-le (u .surviving .result) (u .surviving .last .1 .1 .1 .1 .1 .1 .1 .0) (u .surviving .ensures .fits)
 
 -- the places in the list
-places : (u : tie.After-surviving) → let a = u .before .before .before .before .before .args in take (u .surviving .result) (u .surviving .last .1 .1 .1 .1 .1 .1 .1 .0) ≡ survivors (a .width) (a .x) (a .y) (setOf (a .width) (a .width) (a .kind) (a .number))
+places : (u : tie.After-surviving) → let a = u .before .before .before .before .before .args in take (u .surviving .result) (u .surviving .last .1 .1 .1 .1 .1 .1 .1 .0) ≡ survivors (a .width) (a .x) (a .y) (setOf (a .width) (a .disks) (a .kind) (a .number))
 places u =
     let m = u .before .before .least in
     let a = u .before .before .before .before .before .args in
-    set-places (a .width) (a .x) (a .y) (m .result) (setOf (a .width) (a .width) (a .kind) (a .number)) (m .ensures) (u .surviving .ensures)
+    set-places (a .width) (a .x) (a .y) (m .result) (setOf (a .width) (a .disks) (a .kind) (a .number)) (m .ensures) (u .surviving .ensures)
 
 slice-aggregate-toggle-all : tie.Need-slice-aggregate-toggle-all
 slice-aggregate-toggle-all c = sym (long (c .before .before .before .before))
@@ -50,9 +50,9 @@ toggle-all-requires c κs =
     let m = u .before .before .least in
     let o = u .before .before .before .before .before in
     let a = o .args in
-    let xs = setOf (a .width) (a .width) (a .kind) (a .number) in
-    let n = a .width * (a .width + 2) in
-    let b = ap (allBelow n) (sym (ordered-survivors (a .width) (a .x) (a .y) (m .result) (m .ensures) xs)) ∙ survivors-below (a .width) (a .width) 1 (a .kind) (a .number) (m .result) (a .x + a .y - m .result) (u .surviving .result) (a .at .now) (u .surviving .last .1 .1 .1 .1 .1 .1 .1 .0) (a .marks .now) (o .pre .1) (room u) (o .pre .0 .marks ∙ omega arith) (u .surviving .ensures) in
+    let xs = setOf (a .width) (a .disks) (a .kind) (a .number) in
+    let n = a .width * (a .disks + 2) in
+    let b = ap (allBelow n) (sym (ordered-survivors (a .width) (a .x) (a .y) (m .result) (m .ensures) xs)) ∙ survivors-below (a .width) (a .disks) 1 (a .kind) (a .number) (m .result) (a .x + a .y - m .result) (u .surviving .result) (a .at .now) (u .surviving .last .1 .1 .1 .1 .1 .1 .1 .0) (a .marks .now) (o .pre .1) (room u) (o .pre .0 .marks ∙ omega arith) (u .surviving .ensures) in
     (omega (arith, room u, u .surviving .ensures .fits, long u), λ i h. omega (arith, places-marked n (take (u .surviving .result) (u .surviving .last .1 .1 .1 .1 .1 .1 .1 .0)) (survivors (a .width) (a .x) (a .y) xs) (places u) b i h, o .pre .0 .marks))
 
 returns : tie.Need-returns

@@ -53,7 +53,7 @@ diagonal-step-returns : (t : ℕ) → diagonal-step-lts.Need-returns (
 ) (diagonal-step-at t) diagonal-step.Post
 diagonal-step-returns t c =
     let a = c .before .before .args in
-    diagonal-none (a .width) (a .size) (a .x) (a .y) (a .left) (a .row) (a .stripe .now) (c .if1 .taken)
+    diagonal-none (a .width) (a .disks) (a .size) (a .x) (a .y) (a .left) (a .row) (a .stripe .now) (c .if1 .taken)
 
 diagonal-step-add-next : (t : ℕ) → diagonal-step-lts.Need-add-next (
   solve-reads.Asked,
@@ -77,7 +77,7 @@ diagonal-step-solve-requires t c κs =
     let z = c .before .before .before in
     let a = z .args in
     let number = diagonalOf (a .width) (a .x) (a .row) in
-    (z .pre .1 .0, diagonal-own (a .width) (a .width) number (a .y) (nextRow (a .width) (a .x) (a .y) (a .row)) (mod-lt (a .row + a .width - a .x) (omega arith)) (mod-lt (number + a .y) (omega arith)) (omega arith) refl)
+    (z .pre .1 .0, diagonal-own (a .width) (a .disks) number (a .y) (nextRow (a .width) (a .x) (a .y) (a .row)) (mod-lt (a .row + a .width - a .x) (omega arith)) (mod-lt (number + a .y) (omega arith)) (omega arith) refl)
 
 diagonal-step-row-step-requires : (t : ℕ) → diagonal-step-lts.Need-row-step-requires (
   solve-reads.Asked,
@@ -89,7 +89,7 @@ diagonal-step-row-step-requires t c κs =
     let v = c .before .before .before in
     let z = v .before .before .before .before in
     let a = z .args in
-    (omega arith, (sized-kept (a .width) (a .size) (a .stripe .now) (v .solve .last .1 .1 .1 .1 .1 .1 .1 .0) (z .pre .1 .0) (v .solve .kept .1 .1 .1 .1 .1 .1 .1 .0), (omega arith, omega arith, mod-lt (diagonalOf (a .width) (a .x) (a .row) + a .y) (omega arith))))
+    (omega arith, (sized-kept (a .width) (a .disks) (a .size) (a .stripe .now) (v .solve .last .1 .1 .1 .1 .1 .1 .1 .0) (z .pre .1 .0) (v .solve .kept .1 .1 .1 .1 .1 .1 .1 .0), (omega arith, omega arith, mod-lt (diagonalOf (a .width) (a .x) (a .row) + a .y) (omega arith))))
 
 diagonal-step-returns-2 : (t : ℕ) → diagonal-step-lts.Need-returns-2 (
   solve-reads.Asked,
@@ -102,7 +102,7 @@ diagonal-step-returns-2 t c =
     let v = w .before .before .before .before in
     let z = v .before .before .before .before in
     let a = z .args in
-    diagonal-more (a .width) (a .size) (a .x) (a .y) (a .left) (a .row) (a .stripe .now) (v .solve .last .1 .1 .1 .1 .1 .1 .1 .0) (w .row-step .last .1 .1 .1 .1 .1 .1 .0) (v .before .before .if1 .left) (v .solve .ensures) (w .row-step .ensures)
+    diagonal-more (a .width) (a .disks) (a .size) (a .x) (a .y) (a .left) (a .row) (a .stripe .now) (v .solve .last .1 .1 .1 .1 .1 .1 .1 .0) (w .row-step .last .1 .1 .1 .1 .1 .1 .1 .0) (v .before .before .if1 .left) (v .solve .ensures) (w .row-step .ensures)
 
 row-step-returns : (t : ℕ) → row-step-lts.Need-returns (
   solve-reads.Asked,
@@ -112,7 +112,7 @@ row-step-returns : (t : ℕ) → row-step-lts.Need-returns (
 ) (row-step-at t) row-step.Post
 row-step-returns t c =
     let a = c .before .before .args in
-    row-none (a .width) (a .size) (a .x) (a .y) (a .left) (a .row) (a .stripe .now) (c .if1 .taken)
+    row-none (a .width) (a .disks) (a .size) (a .x) (a .y) (a .left) (a .row) (a .stripe .now) (c .if1 .taken)
 
 row-step-solve-requires : (t : ℕ) → row-step-lts.Need-solve-requires (
   solve-reads.Asked,
@@ -123,7 +123,7 @@ row-step-solve-requires : (t : ℕ) → row-step-lts.Need-solve-requires (
 row-step-solve-requires t c κs =
     let z = c .before .before .before in
     let a = z .args in
-    (z .pre .1 .0, row-own (a .width) (a .width) (a .row) (a .x) (omega arith) (omega arith))
+    (z .pre .1 .0, row-own (a .width) (a .disks) (a .row) (a .x) (omega arith) (omega arith))
 
 row-step-returns-2 : (t : ℕ) → row-step-lts.Need-returns-2 (
   solve-reads.Asked,
@@ -136,7 +136,7 @@ row-step-returns-2 t c =
     let v = w .before .before .before .before in
     let z = v .before .before .before .before in
     let a = z .args in
-    row-more (a .width) (a .size) (a .x) (a .y) (a .left) (a .row) (a .stripe .now) (v .solve .last .1 .1 .1 .1 .1 .1 .1 .0) (w .diagonal-step .last .1 .1 .1 .1 .1 .1 .0) (v .before .before .if1 .left) (v .solve .ensures) (w .diagonal-step .ensures)
+    row-more (a .width) (a .disks) (a .size) (a .x) (a .y) (a .left) (a .row) (a .stripe .now) (v .solve .last .1 .1 .1 .1 .1 .1 .1 .0) (w .diagonal-step .last .1 .1 .1 .1 .1 .1 .1 .0) (v .before .before .if1 .left) (v .solve .ensures) (w .diagonal-step .ensures)
 
 pub +diagonal-step+row-step-spec : {M : Type 1} → statement M
 +diagonal-step+row-step-spec = close μ-diagonal-step μ-row-step (λ t. diagonal-step-lts.spec (

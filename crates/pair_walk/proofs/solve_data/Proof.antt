@@ -9,7 +9,7 @@ walk-disks-requires c κs =
     let g = c .before .before .goes-forward in
     let z = c .before .before .before .before in
     let a = z .args in
-    (z .pre .0, walked-forward (a .width) (a .a) (a .b) (g .result) (z .pre .1 .0) (z .pre .1 .1) (z .pre .1 .2) (g .ensures) (c .before .if1 .taken))
+    (z .pre .0, walked-forward (a .width) (a .disks) (a .a) (a .b) (g .result) (z .pre .1 .0) (z .pre .1 .1) (z .pre .1 .2) (g .ensures) (c .before .if1 .taken))
 
 returns : tie.Need-returns
 returns c =
@@ -17,7 +17,7 @@ returns c =
     let i = w .before .before in
     let g = i .before .goes-forward in
     let a = i .before .before .before .args in
-    data-forward (a .width) (a .size) (a .a) (a .b) (a .stripe .now) (w .walk-disks .last .1 .1 .1 .1 .0) (g .result) (g .ensures) (i .if1 .taken) (w .walk-disks .ensures)
+    data-forward (a .width) (a .disks) (a .size) (a .a) (a .b) (a .stripe .now) (w .walk-disks .last .1 .1 .1 .1 .1 .0) (g .result) (g .ensures) (i .if1 .taken) (w .walk-disks .ensures)
 
 returns-2 : tie.Need-returns-2
 returns-2 c =
@@ -25,7 +25,7 @@ returns-2 c =
     let i = w .before .before in
     let g = i .before .goes-forward in
     let a = i .before .before .before .args in
-    data-back (a .width) (a .size) (a .a) (a .b) (a .stripe .now) (w .walk-disks2 .last .1 .1 .1 .1 .0) (g .result) (g .ensures) (i .if1 .left) (w .walk-disks2 .ensures)
+    data-back (a .width) (a .disks) (a .size) (a .a) (a .b) (a .stripe .now) (w .walk-disks2 .last .1 .1 .1 .1 .1 .0) (g .result) (g .ensures) (i .if1 .left) (w .walk-disks2 .ensures)
 
 pub solve-data-spec : {M : Type 1} → statement M
 solve-data-spec =

@@ -9,21 +9,21 @@ returns c =
     let w = c .before .before in
     let i = w .before .before in
     let a = i .before .before .args in
-    ordered-data (a .width) (a .size) (a .a) (a .b) (a .stripe .now) (w .solve-data .last .1 .1 .1 .1 .0) (i .if1 .taken) (w .solve-data .ensures)
+    ordered-data (a .width) (a .disks) (a .size) (a .a) (a .b) (a .stripe .now) (w .solve-data .last .1 .1 .1 .1 .1 .0) (i .if1 .taken) (w .solve-data .ensures)
 
 returns-2 : tie.Need-returns-2
 returns-2 c =
     let w = c .before .before in
     let i = w .before .before in
     let a = i .before .before .before .args in
-    ordered-row (a .width) (a .size) (a .a) (a .b) (a .stripe .now) (w .with-row-parity .last .1 .1 .1 .0) (i .before .if1 .left) (i .if2 .taken) (w .with-row-parity .ensures)
+    ordered-row (a .width) (a .disks) (a .size) (a .a) (a .b) (a .stripe .now) (w .with-row-parity .last .1 .1 .1 .1 .0) (i .before .if1 .left) (i .if2 .taken) (w .with-row-parity .ensures)
 
 returns-3 : tie.Need-returns-3
 returns-3 c =
     let w = c .before .before in
     let i = w .before .before in
     let a = i .before .before .before .args in
-    ordered-diagonal (a .width) (a .size) (a .a) (a .b) (a .stripe .now) (w .with-diagonal-parity .last .1 .1 .1 .0) (i .before .if1 .left) (i .if2 .left) (w .with-diagonal-parity .ensures)
+    ordered-diagonal (a .width) (a .disks) (a .size) (a .a) (a .b) (a .stripe .now) (w .with-diagonal-parity .last .1 .1 .1 .1 .0) (i .before .if1 .left) (i .if2 .left) (w .with-diagonal-parity .ensures)
 
 pub solve-ordered-spec : {M : Type 1} → statement M
 solve-ordered-spec =

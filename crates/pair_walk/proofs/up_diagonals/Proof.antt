@@ -14,14 +14,14 @@ use Rattle.pair_walk.proofs.up_diagonals.Statement.{statement}
 use Rattle.pair_walk.proofs.up_diagonals.Tie as tie
 
 abbrev Inv-loop : tie.InvT-loop
-Inv-loop width size disk stripe₀ i₀ stripe i =
-    (i ≤ width) × (length stripe ≡ length stripe₀) × (upRest width size disk i stripe ≡ followed width width size disk (upDiagonals width width disk 0) stripe₀)
+Inv-loop width disks size disk stripe₀ i₀ stripe i =
+    (i ≤ width) × (length stripe ≡ length stripe₀) × (upRest width disks size disk i stripe ≡ followed width disks size disk (upDiagonals width width disk 0) stripe₀)
 
 abbrev μ-loop : tie.MeasureT-loop
-μ-loop width size disk stripe₀ i₀ stripe i = width - i
+μ-loop width disks size disk stripe₀ i₀ stripe i = width - i
 
 loop-holds : tie.Need-loop-holds Inv-loop μ-loop
-loop-holds c = let a = c .before .args in (omega arith, refl, up-first (a .width) (a .size) (a .disk) (a .stripe .now))
+loop-holds c = let a = c .before .args in (omega arith, refl, up-first (a .width) (a .disks) (a .size) (a .disk) (a .stripe .now))
 
 solve-requires : tie.Need-solve-requires Inv-loop μ-loop
 solve-requires c κs =
@@ -29,14 +29,14 @@ solve-requires c κs =
     let a = z .args in
     let l = c .before .before .loop in
     let b = mod-lt (l .i + a .width - a .disk) {m = a .width} (omega arith) in
-    (sized-kept (a .width) (a .size) (a .stripe .now) (l .stripe) (z .pre .0) (l .inv .1), diagonal-own (a .width) (a .width) (diagonalOf (a .width) (a .disk) (l .i)) (a .disk) (l .i) b (omega arith) (omega arith) (up-row (a .width) (a .disk) (l .i) (omega arith) (omega arith)))
+    (sized-kept (a .width) (a .disks) (a .size) (a .stripe .now) (l .stripe) (z .pre .0) (l .inv .1), diagonal-own (a .width) (a .disks) (diagonalOf (a .width) (a .disk) (l .i)) (a .disk) (l .i) b (omega arith) (omega arith) (up-row (a .width) (a .disk) (l .i) (omega arith) (omega arith)))
 
 loop-again : tie.Need-loop-again Inv-loop μ-loop
 loop-again c =
     let v = c .before .before .solve in
     let l = c .before .before .before .before .before .loop in
     let a = c .before .before .before .before .before .before .before .args in
-    (omega arith, omega (arith, l .inv .1), up-turn (a .width) (a .size) (a .disk) (l .i) (l .stripe) (v .last .1 .1 .1 .1 .1 .1 .1 .0) (omega arith) (v .ensures) ∙ l .inv .2)
+    (omega arith, omega (arith, l .inv .1), up-turn (a .width) (a .disks) (a .size) (a .disk) (l .i) (l .stripe) (v .last .1 .1 .1 .1 .1 .1 .1 .0) (omega arith) (v .ensures) ∙ l .inv .2)
 
 same-length : tie.Need-same-length Inv-loop μ-loop
 same-length c = c .before .loop .inv .1
@@ -45,7 +45,7 @@ returns : tie.Need-returns Inv-loop μ-loop
 returns c =
     let l = c .before .loop in
     let a = c .before .before .before .args in
-    sym (up-last (a .width) (a .size) (a .disk) (l .i) (l .stripe) (omega arith)) ∙ l .inv .2
+    sym (up-last (a .width) (a .disks) (a .size) (a .disk) (l .i) (l .stripe) (omega arith)) ∙ l .inv .2
 
 pub up-diagonals-spec : {M : Type 1} → statement M
 up-diagonals-spec =

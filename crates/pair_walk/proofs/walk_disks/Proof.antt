@@ -10,11 +10,11 @@ use Rattle.pair_walk.proofs.walk_disks.Statement.{statement}
 use Rattle.pair_walk.proofs.walk_disks.Tie as tie
 
 -- the other disk is a data disk
-below : (c : tie.After-other-disk) → c .other-disk .result < c .before .before .before .before .before .before .before .args .width
+below : (c : tie.After-other-disk) → c .other-disk .result < c .before .before .before .before .before .before .before .args .disks
 below c =
     let z = c .before .before .before .before .before .before .before in
     let a = z .args in
-    other-range (a .width) (a .x) (a .y) (z .pre .1) (c .other-disk .result) (c .other-disk .ensures)
+    other-range (a .width) (a .disks) (a .x) (a .y) (z .pre .1) (c .other-disk .result) (c .other-disk .ensures)
 
 solve-requires : tie.Need-solve-requires
 solve-requires c κs =
@@ -23,7 +23,7 @@ solve-requires c κs =
     let z = v .before .before .before in
     let a = z .args in
     let r = k .before .extra-row in
-    (sized-kept (a .width) (a .size) (a .stripe .now) (v .start .last .1 .1 .1 .1 .0) (z .pre .0) (v .start .kept .1 .1 .1 .1 .0), row-own (a .width) (a .width) (r .result) (k .other-disk .result) (r .ensures .1) (omega (arith, below k)))
+    (sized-kept (a .width) (a .disks) (a .size) (a .stripe .now) (v .start .last .1 .1 .1 .1 .1 .0) (z .pre .0) (v .start .kept .1 .1 .1 .1 .1 .0), row-own (a .width) (a .disks) (r .result) (k .other-disk .result) (r .ensures .1) (omega (arith, below k)))
 
 returns : tie.Need-returns
 returns c =
@@ -34,7 +34,7 @@ returns c =
     let z = v .before .before .before in
     let a = z .args in
     let r = k .before .extra-row in
-    walk-done (a .width) (a .size) (a .x) (a .y) (r .result) (k .other-disk .result) (a .stripe .now) (v .start .last .1 .1 .1 .1 .0) (u .solve .last .1 .1 .1 .1 .1 .1 .1 .0) (w .diagonal-step .last .1 .1 .1 .1 .1 .1 .0) (r .ensures .0) (k .other-disk .ensures) (v .start .ensures) (u .solve .ensures) (w .diagonal-step .ensures)
+    walk-done (a .width) (a .disks) (a .size) (a .x) (a .y) (r .result) (k .other-disk .result) (a .stripe .now) (v .start .last .1 .1 .1 .1 .1 .0) (u .solve .last .1 .1 .1 .1 .1 .1 .1 .0) (w .diagonal-step .last .1 .1 .1 .1 .1 .1 .1 .0) (r .ensures .0) (k .other-disk .ensures) (v .start .ensures) (u .solve .ensures) (w .diagonal-step .ensures)
 
 pub walk-disks-spec : {M : Type 1} → statement M
 walk-disks-spec =

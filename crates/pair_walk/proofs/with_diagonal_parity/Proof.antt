@@ -9,7 +9,7 @@ returns c =
     let w = c .before .before in
     let v = w .before .before .before .before in
     let a = v .before .before .before .args in
-    diagonal-done (a .width) (a .size) (a .disk) (a .stripe .now) (v .solve-rows .last .1 .1 .1 .1 .0) (w .solve-diagonals .last .1 .1 .1 .0) (v .solve-rows .ensures) (w .solve-diagonals .ensures)
+    diagonal-done (a .width) (a .disks) (a .size) (a .disk) (a .stripe .now) (v .solve-rows .last .1 .1 .1 .1 .0) (w .solve-diagonals .last .1 .1 .1 .0) (v .solve-rows .ensures) (w .solve-diagonals .ensures)
 
 pub with-diagonal-parity-spec : {M : Type 1} → statement M
 with-diagonal-parity-spec = tie.close (tie.spec (λ c κs. search needs) (λ c κs. search needs) (λ c. search needs) returns)

@@ -9,7 +9,7 @@ returns c =
     let w = c .before .before in
     let v = w .before .before .before .before in
     let a = v .before .before .before .args in
-    row-done (a .width) (a .size) (a .disk) (a .stripe .now) (v .up-diagonals .last .1 .1 .1 .0) (w .solve-rows .last .1 .1 .1 .1 .0) (v .up-diagonals .ensures) (w .solve-rows .ensures)
+    row-done (a .width) (a .disks) (a .size) (a .disk) (a .stripe .now) (v .up-diagonals .last .1 .1 .1 .1 .0) (w .solve-rows .last .1 .1 .1 .1 .0) (v .up-diagonals .ensures) (w .solve-rows .ensures)
 
 pub with-row-parity-spec : {M : Type 1} → statement M
 with-row-parity-spec = tie.close (tie.spec (λ c κs. search needs) (λ c κs. search needs) (λ c. search needs) returns)

@@ -10,7 +10,7 @@ use Rattle.laws.proofs.ChoiceLaws.{first-kept, first-next}
 use Rattle.laws.specs.Choice.{when, firstOf}
 use Rattle.liberation.specs.Sets.{numbersFault, diskFault}
 use Rattle.liberation_stripes.specs.Stripes.{stripeLong}
-use Rattle.stripes.proofs.StripeRefusals.{numbers-most}
+use Rattle.rebuild_two.proofs.TwoRefusals.{bytes-most}
 use Rattle.rebuild_two.proofs.two_fault.Statement.{statement}
 use Rattle.rebuild_two.proofs.two_fault.Tie as tie
 
@@ -18,18 +18,18 @@ numbers-fault-requires : tie.Need-numbers-fault-requires
 numbers-fault-requires c κs = search needs
 
 -- past the first refusals
-fine : (c : tie.Else1) → let a = c .before .before .args in numbersFault (a .width) (a .width) (a .size) (a .first) ≡ 0
+fine : (c : tie.Else1) → let a = c .before .before .args in numbersFault (a .width) (a .disks) (a .size) (a .first) ≡ 0
 fine c = sym (c .before .numbers-fault .ensures) ∙ c .if1 .left
 
 -- so the stripe's bytes can be counted
-most : (c : tie.Else1) → let a = c .before .before .args in (a .width ≤ 31) × (a .width * a .size ≤ 126976) × ((a .width + 2) * (a .width * a .size) ≤ 4190208)
-most c = let a = c .before .before .args in numbers-most (a .width) (a .size) (a .first) (fine c)
+most : (c : tie.Else1) → let a = c .before .before .args in (a .disks ≤ 31) × (a .width * a .size ≤ 126976) × ((a .disks + 2) * (a .width * a .size) ≤ 4190208)
+most c = let z = c .before .before in bytes-most (z .args .width) (z .args .disks) (z .args .size) (z .args .first) (z .pre) (fine c)
 
 returns : tie.Need-returns
 returns c =
     let f = c .before .numbers-fault in
     let a = c .before .before .args in
-    first-kept (f .result) (numbersFault (a .width) (a .width) (a .size) (a .first)) _ (f .ensures) (c .if1 .taken)
+    first-kept (f .result) (numbersFault (a .width) (a .disks) (a .size) (a .first)) _ (f .ensures) (c .if1 .taken)
 
 disk-fault-requires : tie.Need-disk-fault-requires
 disk-fault-requires c κs = search needs
@@ -39,21 +39,21 @@ returns-2 c =
     let k = c .before in
     let e = k .before in
     let a = e .before .before .args in
-    first-next _ (numbersFault (a .width) (a .width) (a .size) (a .first)) _ (fine e) (first-kept _ _ _ (k .disk-fault .ensures) (c .if2 .taken))
+    first-next _ (numbersFault (a .width) (a .disks) (a .size) (a .first)) _ (fine e) (first-kept _ _ _ (k .disk-fault .ensures) (c .if2 .taken))
 
 -- past refusal 3 for the second disk, what follows decides
-after : (c : tie.Else2) (n m : ℕ) → let a = c .before .before .before .before .args in n ≡ m → n ≡ firstOf (numbersFault (a .width) (a .width) (a .size) (a .first)) (firstOf (diskFault (a .width) (a .second)) m)
+after : (c : tie.Else2) (n m : ℕ) → let a = c .before .before .before .before .args in n ≡ m → n ≡ firstOf (numbersFault (a .width) (a .disks) (a .size) (a .first)) (firstOf (diskFault (a .disks) (a .second)) m)
 after c n m q =
     let k = c .before in
     let e = k .before in
     let a = e .before .before .args in
-    first-next n (numbersFault (a .width) (a .width) (a .size) (a .first)) (firstOf (diskFault (a .width) (a .second)) m) (fine e) (first-next n (diskFault (a .width) (a .second)) m (sym (k .disk-fault .ensures) ∙ c .if2 .left) q)
+    first-next n (numbersFault (a .width) (a .disks) (a .size) (a .first)) (firstOf (diskFault (a .disks) (a .second)) m) (fine e) (first-next n (diskFault (a .disks) (a .second)) m (sym (k .disk-fault .ensures) ∙ c .if2 .left) q)
 
 returns-3 : tie.Need-returns-3
 returns-3 c =
     let e = c .before in
     let a = e .before .before .before .before .args in
-    after e 4 _ (sym (ap (λ (b : Bool). firstOf (when b 4) (when (not (eqb (a .long) (stripeLong (a .width) (a .width) (a .size)))) 5)) (eq-eqb (a .first) (a .second) (c .if3 .taken))))
+    after e 4 _ (sym (ap (λ (b : Bool). firstOf (when b 4) (when (not (eqb (a .long) (stripeLong (a .width) (a .disks) (a .size)))) 5)) (eq-eqb (a .first) (a .second) (c .if3 .taken))))
 
 add-length-fault : tie.Need-add-length-fault
 add-length-fault c = omega (arith, most (c .before .before .before))
