@@ -29,7 +29,8 @@ use Rattle.offsets.proofs.OffsetLaws.{over-offsets}
 use Rattle.odd.specs.Toggled.{isOdd, oddFrom, toggledAll}
 use Rattle.odd.specs.Listed.{Marked}
 use Rattle.odd.proofs.OddLaws.{odd-offsets}
-use Rattle.stripes.specs.Cells.{survivors, Sized}
+use Rattle.set_offsets.specs.Cells.{survivors}
+use Rattle.stripes.specs.Cells.{Sized}
 use Rattle.pair_start.specs.Disks.{Walked}
 use Rattle.pair_start.proofs.ToggleLaws.{toggled-long, toggled-other}
 

@@ -19,8 +19,8 @@ use Rattle.liberation.specs.Plans.{diagonalOf}
 use Rattle.liberation_pairs.specs.Pairs.{nextRow, startSets}
 use Rattle.offsets.specs.Offsets.{scaled, Pushed}
 use Rattle.odd.specs.Toggled.{toggled, toggledAll}
-use Rattle.stripes.specs.Cells.{survivors}
-use Rattle.stripes.proofs.SetLists.{survivors-none, survivors-append, survivors-swap}
+use Rattle.set_offsets.specs.Cells.{survivors}
+use Rattle.set_offsets.proofs.SetLists.{survivors-none, survivors-append, survivors-swap}
 use Rattle.pair_start.specs.Disks.{Toggling}
 
 toggled-append : (xs ys ms : List ℕ) → toggledAll (xs ++ ys) ms ≡ toggledAll ys (toggledAll xs ms)

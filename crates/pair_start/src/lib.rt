@@ -5,7 +5,8 @@ ghost use Rattle.liberation.specs.Sets.{setOf};
 ghost use Rattle.liberation.specs.Plans.{extraRowOn};
 ghost use Rattle.liberation_pairs.specs.Pairs.{startSets, startCount, firstDisk, otherDisk, started};
 ghost use Rattle.odd.specs.Toggled.{toggledAll};
-ghost use Rattle.stripes.specs.Cells.{survivors, Sized};
+ghost use Rattle.set_offsets.specs.Cells.{survivors};
+ghost use Rattle.stripes.specs.Cells.{Sized};
 ghost use Rattle.pair_start.specs.Disks.{Toggling, Walked};
 
 // The marks of a set's surviving cells are toggled. Cells of one byte have their places as offsets.
@@ -22,8 +23,8 @@ fn toggle_set(
     requires { ⌜ Toggling width disks x y (now marks) (now at) × (number < width) ⌝ }
     ensures { λ _. ⌜ now (marks .exit) ≡ toggledAll (survivors width x y (setOf width disks kind number)) (now (marks .entry)) ⌝ }
 {
-    let low = stripes::least(x, y);
-    let n = stripes::surviving(width, disks, 1, kind, number, low, x + y - low, at);
+    let low = set_offsets::least(x, y);
+    let n = set_offsets::surviving(width, disks, 1, kind, number, low, x + y - low, at);
     odd::toggle_all(marks, &at[..n]);
 }
 

@@ -18,8 +18,8 @@ use Rattle.liberation.proofs.DistinctLaws.{extra-apart}
 use Rattle.liberation.proofs.LostLaws.{lost-diagonal}
 use Rattle.liberation_stripes.specs.Stripes.{without}
 use Rattle.offsets.proofs.KeptLaws.{Keeps, without-keeps, kept-same}
-use Rattle.stripes.specs.Cells.{ordinaryOf, extraIn}
-use Rattle.stripes.proofs.SetLists.{set-split, own-row, extra-row, extra-first}
+use Rattle.set_offsets.specs.Cells.{ordinaryOf, extraIn}
+use Rattle.set_offsets.proofs.SetLists.{set-split, own-row, extra-row, extra-first}
 
 -- the lost rows are rows
 pub lost-below : (p f r : ℕ) (xs : List ℕ) → 0 < p → isIn r (lostIn p f xs) ≡ true → r < p

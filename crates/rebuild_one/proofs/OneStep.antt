@@ -29,8 +29,8 @@ use Rattle.xor.proofs.PartLaws.{put-part}
 use Rattle.xor_within.specs.Beside.{Beside}
 use Rattle.offsets.specs.Offsets.{scaled, Pushed}
 use Rattle.offsets.proofs.OffsetLaws.{over-offsets}
-use Rattle.stripes.specs.Cells.{survivors}
-use Rattle.stripes.proofs.SetLists.{survivors-one, survivors-reached, size-fits}
+use Rattle.set_offsets.specs.Cells.{survivors}
+use Rattle.set_offsets.proofs.SetLists.{survivors-one, survivors-reached, size-fits}
 use Rattle.rebuild_one.specs.Cells.{Ready}
 use Rattle.rebuild_one.proofs.LostLaws.{lost-below}
 

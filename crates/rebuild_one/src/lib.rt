@@ -51,7 +51,7 @@ fn rebuild_cell(
     ensures { λ _. ⌜ withColumn width size disk (now (column .exit)) (now (stripe .entry)) ≡ solved size (place width row disk) (setOf width width kind number) (withColumn width size disk (now (column .entry)) (now (stripe .entry))) ⌝ }
 {
     let mut at = offsets::no_offsets();
-    let n = stripes::surviving(width, width, size, kind, number, disk, disk, &mut at);
+    let n = set_offsets::surviving(width, width, size, kind, number, disk, disk, &mut at);
     let start = row * size;
     let end = start + size;
     xor::gather(&mut column[start..end], stripe, &at[..n]);

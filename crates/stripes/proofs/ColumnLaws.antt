@@ -29,8 +29,9 @@ use Rattle.offsets.specs.Offsets.{scaled, Pushed}
 use Rattle.offsets.proofs.OffsetLaws.{over-offsets, each-offset}
 use Rattle.offsets.proofs.KeptLaws.{cell-walk, surviving-but}
 use Rattle.offsets.proofs.RunLaws.{run-cell, run-zero}
+use Rattle.set_offsets.proofs.SetLists.{both-pushed, survivors-one, surviving-past}
 use Rattle.stripes.proofs.LoopLaws.{all-same}
-use Rattle.stripes.proofs.SetLists.{both-pushed, survivors-one, surviving-past, others-are, row-own}
+use Rattle.stripes.proofs.OrdinaryLaws.{others-are, row-own}
 
 -- the cells of row i but that on disk d, as they are pushed
 pub row-pushed : {a b c : List ℕ} {n m : ℕ} (p k s d : ℕ) → 0 < p → d ≤ k → Pushed a b 0 n (scaled s (rowFrom (d - 0) p 0 0)) → Pushed b c n m (scaled s (rowFrom (k + 1 - (d + 1)) p 0 (d + 1))) → Pushed a c 0 m (scaled s (survivingIn p d (rowSet p k 0)))

@@ -1,5 +1,5 @@
--- Laws of the lists of a set's cells, of all rows as one run, of refusals and of the loops over the sets.
-pub mod SetLists
+-- Laws of a set without an ordinary cell, of all rows as one run, of refusals and of the loops over the sets.
+pub mod OrdinaryLaws
 pub mod ColumnLaws
 pub mod StripeRefusals
 pub mod LoopLaws

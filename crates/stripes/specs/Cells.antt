@@ -1,38 +1,13 @@
--- The cells of a set whose offsets are pushed into a list, and what the functions over a stripe ask.
+-- What the functions over a stripe ask.
 use mathlib.Core.Path.{_≡_}
 use mathlib.Core.Bool.{true}
-use mathlib.Core.List.{List, [], _∷_}
-use Prim.Native.Nat.{ℕ, suc, _+_, _≤_, _<_}
-use lib.Dec.{eqb}
+use mathlib.Core.List.{List}
+use Prim.Native.Nat.{ℕ, _≤_, _<_}
 use lib.ListN.{length}
-use Rattle.laws.specs.Choice.{pick}
 use Rattle.laws.specs.Lists.{isIn}
-use Rattle.liberation.specs.Sets.{place, rowSet, ordinary, hasExtra, extraOf, survivingIn}
+use Rattle.liberation.specs.Sets.{place}
 use Rattle.liberation_stripes.specs.Stripes.{stripeLong}
-
--- the cells on neither of the disks x and y
-abbrev pub survivors : ℕ → ℕ → ℕ → List ℕ → List ℕ
-survivors p x y xs = survivingIn p x (survivingIn p y xs)
-
--- a set's ordinary cells, one of each data disk and the parity cell; the disk of the parity cell; the extra cell, if the set has one
-abbrev pub ordinaryOf : ℕ → ℕ → ℕ → ℕ → List ℕ
-ordinaryOf p k kind i = pick (eqb kind 0) (rowSet p k i) (ordinary p k i)
-
-abbrev pub parityDisk : ℕ → ℕ → ℕ
-parityDisk k kind = pick (eqb kind 0) k (suc k)
-
-abbrev pub extraIn : ℕ → ℕ → ℕ → ℕ → List ℕ
-extraIn p k kind i = pick (eqb kind 0) [] (pick (hasExtra p k i) (extraOf p i ∷ []) [])
-
--- set i of p rows and k data disks, with cells of s bytes, is to be pushed into a list of `long` numbers without its cells on disks x and y
-pub record Listing (p k s i x y long : ℕ) : Type 0 where
-  pub widest : p ≤ 31
-  pub disks : k ≤ p
-  pub numbered : i < p
-  pub small : s ≤ 4096
-  pub ordered : x ≤ y
-  pub last : y ≤ p + 2
-  pub room : long ≡ 33
+use Rattle.set_offsets.specs.Cells.{ordinaryOf}
 
 -- a stripe of p rows and k data disks, with cells of s bytes, is within the widest array and the largest cells
 pub record Sized (p k s : ℕ) (t : List ℕ) : Type 0 where

@@ -9,8 +9,8 @@ use borrow.Author.Needs.{needs}
 use Rattle.laws.specs.Lists.{allBelow}
 use Rattle.liberation.specs.Sets.{setOf}
 use Rattle.odd.specs.Toggled.{toggledAll}
-use Rattle.stripes.specs.Cells.{survivors}
-use Rattle.stripes.proofs.SetLists.{survivors-below}
+use Rattle.set_offsets.specs.Cells.{survivors}
+use Rattle.set_offsets.proofs.SetLists.{survivors-below}
 use Rattle.pair_start.proofs.ToggleLaws.{in-order, ordered-survivors, set-places, places-marked}
 use Rattle.pair_start.proofs.toggle_set.Statement.{statement}
 use Rattle.pair_start.proofs.toggle_set.Tie as tie

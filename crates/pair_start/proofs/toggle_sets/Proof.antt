@@ -8,7 +8,7 @@ use borrow.Author.Needs.{needs}
 use Rattle.liberation.specs.Plans.{diagonalOf}
 use Rattle.liberation_pairs.specs.Pairs.{startSets}
 use Rattle.odd.specs.Toggled.{toggledAll}
-use Rattle.stripes.specs.Cells.{survivors}
+use Rattle.set_offsets.specs.Cells.{survivors}
 use Rattle.pair_start.proofs.ToggleLaws.{rowsRest, rows-turn, rows-last, still-toggling}
 use Rattle.pair_start.proofs.toggle_sets.Statement.{statement}
 use Rattle.pair_start.proofs.toggle_sets.Tie as tie

@@ -8,7 +8,7 @@ use borrow.Fn.Kinds.{In}
 use borrow.Fn.PlainCycle.{Measures, is, falls, and}
 use Rattle.liberation.specs.Plans.{diagonalOf}
 use Rattle.liberation_pairs.specs.Pairs.{nextRow}
-use Rattle.stripes.proofs.SetLists.{row-own, diagonal-own}
+use Rattle.stripes.proofs.OrdinaryLaws.{row-own, diagonal-own}
 use Rattle.stripes.proofs.solve.Reads as solve-reads
 use Rattle.pair_walk.proofs.WalkClauses.{sized-kept, diagonal-none, diagonal-more, row-none, row-more}
 use Rattle.pair_walk.proofs.diagonal_step.Reads as diagonal-step

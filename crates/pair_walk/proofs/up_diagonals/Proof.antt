@@ -8,7 +8,7 @@ use borrow.Author.Needs.{needs}
 use Rattle.liberation.specs.Plans.{diagonalOf}
 use Rattle.liberation_stripes.specs.Stripes.{followed}
 use Rattle.liberation_pairs.specs.Pairs.{upDiagonals}
-use Rattle.stripes.proofs.SetLists.{diagonal-own}
+use Rattle.stripes.proofs.OrdinaryLaws.{diagonal-own}
 use Rattle.pair_walk.proofs.WalkClauses.{sized-kept, up-row, upRest, up-first, up-turn, up-last}
 use Rattle.pair_walk.proofs.up_diagonals.Statement.{statement}
 use Rattle.pair_walk.proofs.up_diagonals.Tie as tie

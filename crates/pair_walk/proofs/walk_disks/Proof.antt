@@ -2,7 +2,7 @@
 use Prim.Native.Nat.{_<_}
 use native.Mathlib.Omega.{arith}
 use borrow.Author.Needs.{needs}
-use Rattle.stripes.proofs.SetLists.{row-own}
+use Rattle.stripes.proofs.OrdinaryLaws.{row-own}
 use Rattle.pair_start.proofs.StartLaws.{other-range}
 use Rattle.pair_walk.proofs.WalkClauses.{sized-kept}
 use Rattle.pair_walk.proofs.DiskLaws.{walk-done}

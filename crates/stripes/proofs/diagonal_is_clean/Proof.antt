@@ -1,10 +1,11 @@
 -- `diagonal_is_clean`: all cells of the set are pushed, and their XOR is tested.
-use mathlib.Core.Path.{_≡_, refl, sym}
+use mathlib.Core.Path.{_≡_, sym}
 use Prim.Native.Nat.{_+_}
 use lib.ListN.{length}
 use lib.Seq.{length-take-le}
 use borrow.Author.Needs.{needs}
-use Rattle.stripes.proofs.SetLists.{size-fits, survivors-reached, none-lost}
+use Rattle.set_offsets.proofs.SetLists.{size-fits, survivors-reached}
+use Rattle.stripes.proofs.OrdinaryLaws.{none-lost}
 use Rattle.stripes.proofs.diagonal_is_clean.Statement.{statement}
 use Rattle.stripes.proofs.diagonal_is_clean.Tie as tie
 
@@ -29,7 +30,7 @@ returns c =
     let u = c .before .before .before .before in
     let o = u .before .before .before .before in
     let a = o .args in
-    none-lost (a .width) (a .disks) (a .size) 1 (a .number) (a .disks + 2) (a .disks + 2) (u .surviving .result) (a .at .now) (u .surviving .last .1 .1 .1 .1 .1 .1 .1 .0) (a .stripe .now) (o .pre .1) (room u) (o .pre .0 .long) (u .surviving .ensures) (c .is-zero .result) refl refl (c .is-zero .ensures)
+    none-lost (a .width) (a .disks) (a .size) 1 (a .number) (u .surviving .result) (a .at .now) (u .surviving .last .1 .1 .1 .1 .1 .1 .1 .0) (a .stripe .now) (c .is-zero .result) (o .pre .1) (u .surviving .ensures) (c .is-zero .ensures)
 
 pub diagonal-is-clean-spec : {M : Type 1} → statement M
 diagonal-is-clean-spec =

@@ -8,7 +8,7 @@ use lib.Seq.{length-take-le}
 use borrow.Author.Needs.{needs}
 use Rattle.liberation.specs.Sets.{place}
 use Rattle.xor_within.specs.Beside.{Apart}
-use Rattle.stripes.proofs.SetLists.{own-disk, others-apart, others-solve}
+use Rattle.stripes.proofs.OrdinaryLaws.{own-disk, others-apart, others-solve}
 use Rattle.stripes.proofs.solve_by.Statement.{statement}
 use Rattle.stripes.proofs.solve_by.Tie as tie
 

@@ -7,7 +7,7 @@ use borrow.Author.Needs.{needs}
 use Rattle.liberation.specs.Plans.{allOf}
 use Rattle.liberation_stripes.specs.Stripes.{followed}
 use Rattle.stripes.proofs.LoopLaws.{rest, rest-first, rest-turn, rest-last}
-use Rattle.stripes.proofs.SetLists.{parity-own}
+use Rattle.stripes.proofs.OrdinaryLaws.{parity-own}
 use Rattle.stripes.proofs.solve_diagonals.Statement.{statement}
 use Rattle.stripes.proofs.solve_diagonals.Tie as tie
 

@@ -1,35 +1,29 @@
--- The cells of a set as they are pushed: those on data disks, the parity cell, the extra cell. A set has one ordinary cell on a disk, and the extra cell is none of them, so the set without an ordinary cell is the set without that disk, but for the extra cell.
+-- The cells of a set as they are pushed: those on data disks, the parity cell, the extra cell, each but on the lost disks.
 use mathlib.Core.Path.{_≡_, refl, sym, subst, ap, ap₂, _∙_}
-use mathlib.Core.Bool.{Bool, true, false, _&&_, _||_, not, and-false, or-comm}
-use mathlib.Core.Logic.{_⊎_, inl, inr, ⊎-elim}
+use mathlib.Core.Bool.{Bool, true, false, _&&_, _||_, or-comm}
+use mathlib.Core.Logic.{_⊎_, ⊎-elim}
 use mathlib.Core.List.{List, [], _∷_, _++_, append-nil}
 use Prim.Native.Nat.{ℕ, suc, _+_, _-_, _*_, _%_, _≤_, _<_}
-use native.Mathlib.Nat.{mod-lt, zero-add}
+use native.Mathlib.Nat.{zero-add}
 use native.Mathlib.Omega.{arith}
 use lib.Dec.{eqb, ltb, leb}
-use lib.ListN.{length, getD, set, take, replicate, length-append}
+use lib.ListN.{length, set, take, length-append}
 use borrow.Author.Tests.{eq-eqb, ne-eqb, eqb-true, eqb-false, ltb-true, lt-ltb, le-ltb, le-leb, lt-leb}
 use Rattle.laws.specs.Choice.{pick}
-use Rattle.laws.specs.Lists.{isIn, allBelow, same}
-use Rattle.laws.proofs.Flags.{and-l, and-r, and-i, or-cases, or-l, or-r, clash, same-flag}
-use Rattle.laws.proofs.ListLaws.{isIn-append}
-use Rattle.laws.proofs.MemberLaws.{at-in, in-below}
-use Rattle.laws.proofs.Modulo.{lt-or-le}
-use Rattle.liberation.specs.Sets.{place, diskAt, rowAt, rowFrom, diagonalFrom, rowSet, diagonalSet, ordinary, hasExtra, extraDisk, extraRow, extraOf, setOf, survivingIn}
-use Rattle.liberation.proofs.SetLaws.{disk-place, place-of, in-row, in-ordinary, in-ordinary-data, place-below, set-below}
-use Rattle.liberation.proofs.DistinctLaws.{extra-apart}
+use Rattle.laws.specs.Lists.{isIn, allBelow}
+use Rattle.laws.proofs.Flags.{and-l, and-r, and-i, or-cases}
+use Rattle.laws.proofs.MemberLaws.{in-below}
+use Rattle.liberation.specs.Sets.{place, diskAt, rowFrom, diagonalFrom, rowSet, diagonalSet, ordinary, hasExtra, extraDisk, extraRow, extraOf, setOf, survivingIn}
+use Rattle.liberation.proofs.SetLaws.{disk-place, in-row, in-ordinary, place-below, set-below}
 use Rattle.liberation.proofs.PlaceLaws.{disk-below}
-use Rattle.liberation_stripes.specs.Stripes.{without, solved, setClean, stripeLong}
+use Rattle.liberation_stripes.specs.Stripes.{without, stripeLong}
 use Rattle.liberation_stripes.proofs.CellLaws.{cell-fits}
-use Rattle.liberation_stripes.proofs.OverLaws.{in-without}
-use Rattle.xor.specs.Parts.{withPart, xorOffsets}
 use Rattle.xor.specs.Reach.{Reached}
-use Rattle.xor_within.specs.Beside.{Apart}
 use Rattle.offsets.specs.Offsets.{scaled, cellsFrom, Pushed}
-use Rattle.offsets.proofs.OffsetLaws.{over-offsets, length-scaled, scaled-append, each-offset, cells-reached}
+use Rattle.offsets.proofs.OffsetLaws.{length-scaled, scaled-append, cells-reached}
 use Rattle.offsets.proofs.PushLaws.{walk-last, walk-long, pushed-none, pushed-one, pushed-then}
-use Rattle.offsets.proofs.KeptLaws.{Keeps, surviving-keeps, without-keeps, both-keep, kept-append, kept-below, kept-short, kept-same, kept-all, surviving-twice, rowIn, row-in-below, cell-walk, surviving-two}
-use Rattle.stripes.specs.Cells.{survivors, ordinaryOf, parityDisk, extraIn, Ordinary}
+use Rattle.offsets.proofs.KeptLaws.{Keeps, surviving-keeps, both-keep, kept-append, kept-below, kept-short, kept-same, kept-all, surviving-twice, rowIn, row-in-below, cell-walk, surviving-two}
+use Rattle.set_offsets.specs.Cells.{survivors, ordinaryOf, parityDisk, extraIn}
 
 survivors-keep : (p x y : ℕ) → Keeps (λ c. eqb (diskAt p c) y || eqb (diskAt p c) x) (survivors p x y)
 survivors-keep p x y = both-keep (surviving-keeps p x) (surviving-keeps p y)
@@ -123,7 +117,7 @@ module _ (p k kind i : ℕ) where
 
   module _ (numbered : i < p) where
     -- what each extra cell has, if there is one: its disk is a data disk, and it is no ordinary cell
-    extra-kept : {gone : ℕ → Bool} {kept : List ℕ → List ℕ} → Keeps gone kept → ((kind ≡ 0 → ⊥) → hasExtra p k i ≡ true → gone (extraOf p i) ≡ false) → kept (extraIn p k kind i) ≡ extraIn p k kind i
+    pub extra-kept : {gone : ℕ → Bool} {kept : List ℕ → List ℕ} → Keeps gone kept → ((kind ≡ 0 → ⊥) → hasExtra p k i ≡ true → gone (extraOf p i) ≡ false) → kept (extraIn p k kind i) ≡ extraIn p k kind i
     extra-kept {gone} {kept} w f = go (eqb kind 0) (hasExtra p k i) refl refl
       where
         go : (a b : Bool) → eqb kind 0 ≡ a → hasExtra p k i ≡ b → kept (pick a [] (pick b (extraOf p i ∷ []) [])) ≡ pick a [] (pick b (extraOf p i ∷ []) [])
@@ -156,38 +150,6 @@ module _ (p k kind i : ℕ) where
         go : (b : Bool) → isIn (place p r c) (pick b (rowSet p k i) (ordinary p k i)) ≡ true → r ≡ pick b i (pick (ltb c k) ((i + c) % p) i)
         go true e = eqb-true r i (and-l (eqb r i) (leb c k) (sym (in-row p k i r c h numbered) ∙ e))
         go false e = ⊎-elim on-data on-parity (or-cases (ltb c k && eqb r ((i + c) % p)) (eqb c (suc k) && eqb r i) (sym (in-ordinary p k i r c h numbered) ∙ e))
-
-  -- the set without its ordinary cell on disk c
-  module _ (c r : ℕ) (o : Ordinary p k kind i c r) where
-    abbrev cell : ℕ
-    cell = place p r c
-
-    -- the cells of the set on disk c are that cell
-    same-disk : (y : ℕ) → isIn y (ordinaryOf p k kind i) ≡ true → diskAt p y ≡ c → cell ≡ y
-    same-disk y h e =
-        let q : place p (rowAt p y) c ≡ y = ap (place p (rowAt p y)) (sym e) ∙ place-of p y in
-        let b : rowAt p y < p = mod-lt y (omega (arith, o .row)) in
-        let s : rowAt p y ≡ r = own-row (o .numbered) (rowAt p y) c b (ap (λ (x : ℕ). isIn x (ordinaryOf p k kind i)) q ∙ h) ∙ sym (own-row (o .numbered) r c (o .row) (o .own)) in
-        ap (λ (x : ℕ). place p x c) (sym s) ∙ q
-
-    pub others-are : without (place p r c) (setOf p k kind i) ≡ survivors p c c (ordinaryOf p k kind i) ++ extraIn p k kind i
-    others-are =
-        ap (without cell) set-split
-        ∙ kept-append (without-keeps cell) (ordinaryOf p k kind i) (extraIn p k kind i)
-        ∙ ap₂ _++_ (kept-same (without-keeps cell) (surviving-keeps p c) (ordinaryOf p k kind i) flags ∙ sym (survivors-one p c (ordinaryOf p k kind i))) (extra-kept (o .numbered) (without-keeps cell) none)
-      where
-        flags : (y : ℕ) → isIn y (ordinaryOf p k kind i) ≡ true → eqb cell y ≡ eqb (diskAt p y) c
-        flags y h =
-            same-flag (eqb cell y) (eqb (diskAt p y) c)
-            (λ e. eq-eqb (diskAt p y) c (ap (diskAt p) (sym (eqb-true cell y e)) ∙ disk-place p r c (o .row)))
-            (λ e. eq-eqb cell y (same-disk y h (eqb-true (diskAt p y) c e)))
-
-        none : (kind ≡ 0 → ⊥) → hasExtra p k i ≡ true → eqb cell (extraOf p i) ≡ false
-        none n h =
-            ne-eqb cell (extraOf p i)
-            (λ e. clash (isIn (extraOf p i) (ordinary p k i))
-            (ap (λ (x : ℕ). isIn x (ordinary p k i)) (sym e) ∙ sym (ap (λ (b : Bool). isIn cell (pick b (rowSet p k i) (ordinary p k i))) (ne-eqb kind 0 n)) ∙ o .own)
-            (extra-apart p k i (o .numbered) h))
 
 -- what is pushed when a list of cells is empty, or one cell
 pub none-pushed : {xs : List ℕ} (s n : ℕ) (l : List ℕ) → n ≤ length l → xs ≡ [] → Pushed l l n n (scaled s xs)
@@ -251,52 +213,7 @@ module _ (s r n : ℕ) (old at xs t : List ℕ) (room : length at ≡ 33) (pushe
   pub reached : Reached s (length t) (take r at)
   reached = subst (Reached s (length t)) (sym (pushed .list)) (cells-reached s n (length t) xs below (omega arith) (omega (arith, pushed .count, pushed .fits, length-scaled s xs)))
 
-  -- they lie apart from a cell that is none of them
-  pub apart-from : (x : ℕ) → x < n → isIn x xs ≡ false → Apart (x * s) s (length t) (take r at)
-  apart-from x h none =
-      record {
-        sources = reached;
-        fits = omega (arith, cell-fits n s x h);
-        apart = subst (λ (l : List ℕ). (i : ℕ) → i < length l → (getD l i 0 + s ≤ x * s) ⊎ (x * s + s ≤ getD l i 0)) (sym (pushed .list)) (each-offset (λ a. (a + s ≤ x * s) ⊎ (x * s + s ≤ a)) s xs apart);
-      }
-    where
-      other : (i : ℕ) → i < length xs → getD xs i 0 ≡ x → ⊥
-      other i l e = clash (isIn x xs) (ap (λ (y : ℕ). isIn y xs) (sym e) ∙ at-in i xs l) none
-
-      apart : (i : ℕ) → i < length xs → (getD xs i 0 * s + s ≤ x * s) ⊎ (x * s + s ≤ getD xs i 0 * s)
-      apart i l = ⊎-elim (λ q. inl (cell-fits x s (getD xs i 0) q)) (λ q. inr (after (other i l) q)) (lt-or-le (getD xs i 0) x)
-        where
-          after : (getD xs i 0 ≡ x → ⊥) → x ≤ getD xs i 0 → x * s + s ≤ getD xs i 0 * s
-          after n q = let m : x < getD xs i 0 = omega arith in cell-fits (getD xs i 0) s x m
-
--- an ordinary cell of a set is a cell of the stripe
-module _ (p k kind i c r : ℕ) (o : Ordinary p k kind i c r) where
-  pub own-below : place p r c < p * (k + 2)
-  own-below =
-      in-below (p * (k + 2)) (place p r c) (setOf p k kind i) (set-below p k kind i (o .numbered))
-      (ap (isIn (place p r c)) (set-split p k kind i) ∙ isIn-append (place p r c) (ordinaryOf p k kind i) (extraIn p k kind i) ∙ or-l (isIn (place p r c) (ordinaryOf p k kind i)) (isIn (place p r c) (extraIn p k kind i)) (o .own))
-
-  pub own-disk : c < k + 2
-  own-disk = omega (arith, disk-below p (k + 2) (place p r c) own-below, disk-place p r c (o .row))
-
-  -- the offsets of the others lie apart from it, and their XOR put there is the set's step
-  module _ (s n : ℕ) (old at t : List ℕ) (room : length at ≡ 33) (long : length t ≡ stripeLong p k s) (pushed : Pushed old at 0 n (scaled s (survivors p c c (ordinaryOf p k kind i) ++ extraIn p k kind i))) where
-    list : Pushed old at 0 n (scaled s (without (place p r c) (setOf p k kind i)))
-    list = subst (λ (xs : List ℕ). Pushed old at 0 n (scaled s xs)) (sym (others-are p k kind i c r o)) pushed
-
-    in-stripe : allBelow (p * (k + 2)) (without (place p r c) (setOf p k kind i)) ≡ true
-    in-stripe = kept-below (without-keeps (place p r c)) (p * (k + 2)) (setOf p k kind i) (set-below p k kind i (o .numbered))
-
-    pub others-apart : Apart (place p r c * s) s (length t) (take n at)
-    others-apart = apart-from s n (p * (k + 2)) old at (without (place p r c) (setOf p k kind i)) t room list in-stripe (long ∙ omega arith) (place p r c) own-below none
-      where
-        none : isIn (place p r c) (without (place p r c) (setOf p k kind i)) ≡ false
-        none = in-without (place p r c) (place p r c) (setOf p k kind i) ∙ ap (λ (b : Bool). isIn (place p r c) (setOf p k kind i) && not b) (eq-eqb (place p r c) (place p r c) refl) ∙ and-false (isIn (place p r c) (setOf p k kind i))
-
-    pub others-solve : (u : List ℕ) → u ≡ withPart s (place p r c * s) (xorOffsets s t (take n at)) t → u ≡ solved s (place p r c) (setOf p k kind i) t
-    others-solve u e = e ∙ ap (λ (l : List ℕ). withPart s (place p r c * s) l t) (ap (xorOffsets s t) (list .list) ∙ over-offsets s t (without (place p r c) (setOf p k kind i)))
-
--- the survivors of a set: in the stripe, and all of it where no disk is lost
+-- the survivors of a set are in the stripe
 module _ (p k s kind i x y n : ℕ) (old at t : List ℕ) (numbered : i < p) (room : length at ≡ 33) (long : length t ≡ stripeLong p k s) (pushed : Pushed old at 0 n (scaled s (survivors p x y (setOf p k kind i)))) where
   pub survivors-below : allBelow (p * (k + 2)) (survivors p x y (setOf p k kind i)) ≡ true
   survivors-below = kept-below (survivors-keep p x y) (p * (k + 2)) (setOf p k kind i) (set-below p k kind i numbered)
@@ -307,25 +224,3 @@ module _ (p k s kind i x y n : ℕ) (old at t : List ℕ) (numbered : i < p) (ro
 
   pub survivors-reached : Reached s (length t) (take n at)
   survivors-reached = reached s n (p * (k + 2)) old at (survivors p x y (setOf p k kind i)) t room pushed survivors-below (long ∙ omega arith)
-
-  pub none-lost : (r : Bool) → x ≡ k + 2 → y ≡ k + 2 → r ≡ same (xorOffsets s t (take n at)) (replicate s 0) → r ≡ setClean p k s t kind i
-  none-lost r e q h =
-      h
-      ∙ ap (λ (l : List ℕ). same l (replicate s 0))
-      (ap (xorOffsets s t) (pushed .list ∙ ap (scaled s) (ap₂ (λ (a b : ℕ). survivors p a b (setOf p k kind i)) e q ∙ survivors-past p (k + 2) (setOf p k kind i) (set-below p k kind i numbered)))
-      ∙ over-offsets s t (setOf p k kind i))
-
--- ordinary cells: of a row set on each data disk and P, of a diagonal set on each data disk and Q
-pub row-own : (p k i c : ℕ) → i < p → c ≤ k → Ordinary p k 0 i c i
-row-own p k i c h l = record { numbered = h; row = h; own = in-row p k i i c h h ∙ and-i (eqb i i) (leb c k) (eq-eqb i i refl) (le-leb c k l) }
-
-pub diagonal-own : (p k i c r : ℕ) → i < p → r < p → c < k → r ≡ (i + c) % p → Ordinary p k 1 i c r
-diagonal-own p k i c r h b l e = record { numbered = h; row = b; own = in-ordinary-data p k i r c b h l ∙ eq-eqb r ((i + c) % p) e }
-
-pub parity-own : (p k i : ℕ) → i < p → Ordinary p k 1 i (k + 1) i
-parity-own p k i h =
-    record {
-      numbered = h;
-      row = h;
-      own = in-ordinary p k i i (k + 1) h h ∙ or-r (ltb (k + 1) k && eqb i ((i + (k + 1)) % p)) (eqb (k + 1) (suc k) && eqb i i) (and-i (eqb (k + 1) (suc k)) (eqb i i) (eq-eqb (k + 1) (suc k) (omega arith)) (eq-eqb i i refl));
-    }

@@ -1,9 +1,9 @@
 -- `surviving`: the ordinary cells, then the extra cell, each but on the lost disks.
 use native.Mathlib.Omega.{arith}
 use borrow.Author.Needs.{needs}
-use Rattle.stripes.proofs.SetLists.{ordinary-most, set-pushed}
-use Rattle.stripes.proofs.surviving.Statement.{statement}
-use Rattle.stripes.proofs.surviving.Tie as tie
+use Rattle.set_offsets.proofs.SetLists.{ordinary-most, set-pushed}
+use Rattle.set_offsets.proofs.surviving.Statement.{statement}
+use Rattle.set_offsets.proofs.surviving.Tie as tie
 
 push-extra-requires : tie.Need-push-extra-requires
 push-extra-requires c κs =

@@ -4,10 +4,10 @@ use mathlib.Core.List.{List, _++_}
 use Prim.Native.Nat.{ℕ}
 use native.Mathlib.Omega.{arith}
 use borrow.Author.Needs.{needs}
-use Rattle.stripes.specs.Cells.{survivors, ordinaryOf, extraIn}
-use Rattle.stripes.proofs.SetLists.{ordinary-most, extra-survives, both-pushed}
-use Rattle.stripes.proofs.others.Statement.{statement}
-use Rattle.stripes.proofs.others.Tie as tie
+use Rattle.set_offsets.specs.Cells.{survivors, ordinaryOf, extraIn}
+use Rattle.set_offsets.proofs.SetLists.{ordinary-most, extra-survives, both-pushed}
+use Rattle.set_offsets.proofs.others.Statement.{statement}
+use Rattle.set_offsets.proofs.others.Tie as tie
 
 push-extra-requires : tie.Need-push-extra-requires
 push-extra-requires c κs =

@@ -6,10 +6,10 @@ use native.Mathlib.Omega.{arith}
 use borrow.Author.Needs.{needs}
 use Rattle.liberation.specs.Sets.{place, extraRow}
 use Rattle.offsets.specs.Offsets.{scaled, Pushed}
-use Rattle.stripes.specs.Cells.{survivors}
-use Rattle.stripes.proofs.SetLists.{survivors-none, none-pushed, extra-row, extra-first, extra-absent, extra-some}
-use Rattle.stripes.proofs.push_extra.Statement.{statement}
-use Rattle.stripes.proofs.push_extra.Tie as tie
+use Rattle.set_offsets.specs.Cells.{survivors}
+use Rattle.set_offsets.proofs.SetLists.{survivors-none, none-pushed, extra-row, extra-first, extra-absent, extra-some}
+use Rattle.set_offsets.proofs.push_extra.Statement.{statement}
+use Rattle.set_offsets.proofs.push_extra.Tie as tie
 
 returns : tie.Need-returns
 returns c =

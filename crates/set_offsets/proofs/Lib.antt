@@ -1,0 +1,2 @@
+-- Laws of the lists of a set's cells.
+pub mod SetLists
