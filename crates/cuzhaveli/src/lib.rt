@@ -53,7 +53,7 @@ pub extern "C" fn cuzhaveli_package_space(width: usize, size: usize, bytes: u64,
 // Writes P and Q of a lent stripe.
 #[no_mangle]
 pub extern "C" fn cuzhaveli_encode_stripe(width: usize, size: usize, stripe: &mut [u8]) -> Answer
-    ensures { λ r. ⌜ EncodeSays width size (now (stripe .entry)) (now (stripe .exit)) r ⌝ }
+    ensures { λ r. ⌜ EncodeSays width width size (now (stripe .entry)) (now (stripe .exit)) r ⌝ }
 {
     stripes::encode_stripe(width, size, stripe)
 }
@@ -61,7 +61,7 @@ pub extern "C" fn cuzhaveli_encode_stripe(width: usize, size: usize, stripe: &mu
 // Is a lent stripe clean?
 #[no_mangle]
 pub extern "C" fn cuzhaveli_check_stripe(width: usize, size: usize, stripe: &[u8]) -> Checked
-    ensures { λ r. ⌜ CheckSays width size (now (stripe .entry)) r ⌝ }
+    ensures { λ r. ⌜ CheckSays width width size (now (stripe .entry)) r ⌝ }
 {
     stripes::check_stripe(width, size, stripe)
 }

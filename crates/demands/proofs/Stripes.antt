@@ -38,11 +38,11 @@ pub record Encodes (p s : ℕ) (t t′ : List ℕ) : Type 0 where
   -- no other clean stripe has those data
   pub only : (u : List ℕ) → isStripe p p s u ≡ true → clean p p s u ≡ true → ((x : ℕ) → x < p * p → cellAt s u x ≡ cellAt s t x) → u ≡ t′
 
-pub encodes : (p s : ℕ) (t t′ : List ℕ) (r : Answer) → EncodeSays p s t t′ r → r .refusal ≡ 0 → Encodes p s t t′
+pub encodes : (p s : ℕ) (t t′ : List ℕ) (r : Answer) → EncodeSays p p s t t′ r → r .refusal ≡ 0 → Encodes p s t t′
 encodes p s t t′ r k z =
-    let e : stripeFault p s t ≡ 0 = sym (k .answer .refusal) ∙ z in
+    let e : stripeFault p p s t ≡ 0 = sym (k .answer .refusal) ∙ z in
     let done : t′ ≡ encoded p p s t = k .stripe ∙ ap (λ (n : ℕ). pick (eqb n 0) (encoded p p s t) t) e in
-    let ok : isStripe p p s t ≡ true = is-stripe p s t (within-limits p s t e .long) (k .bytes) in
+    let ok : isStripe p p s t ≡ true = is-stripe p s t (within-limits p p s t (omega arith) e .long) (k .bytes) in
     record {
       stripe = ap (isStripe p p s) done ∙ encoded-stripe p p s t ok;
       is-clean = ap (clean p p s) done ∙ encoded-clean p p s t ok;
@@ -51,7 +51,7 @@ encodes p s t t′ r k z =
     }
 
 -- "The check says yes exactly for clean stripes."
-pub checks : (p s : ℕ) (t : List ℕ) (r : Checked) → CheckSays p s t r → r .answer .refusal ≡ 0 → r .clean ≡ clean p p s t
+pub checks : (p s : ℕ) (t : List ℕ) (r : Checked) → CheckSays p p s t r → r .answer .refusal ≡ 0 → r .clean ≡ clean p p s t
 checks p s t r k z = k .clean ∙ ap (λ (n : ℕ). eqb n 0 && clean p p s t) (sym (k .answer .refusal) ∙ z)
 
 -- what an accepted rebuild shows of its arguments

@@ -24,76 +24,76 @@ use Rattle.stripes.specs.Cells.{Sized}
 use Rattle.stripes.specs.Says.{stripeFault, EncodeSays, CheckSays}
 
 -- the refusal is that of the length where the numbers are accepted
-pub fault-last : (p s n m : ℕ) → numbersFault p p s 0 ≡ 0 → m ≡ when (not (eqb n (stripeLong p p s))) 5 → m ≡ firstOf (widthFault p) (firstOf (sizeFault s) (when (not (eqb n (stripeLong p p s))) 5))
-fault-last p s n m z e = first-next m (firstOf (widthFault p) (sizeFault s)) (when (not (eqb n (stripeLong p p s))) 5) (sym (numbers-first p p s) ∙ z) e ∙ first-assoc (widthFault p) (sizeFault s) (when (not (eqb n (stripeLong p p s))) 5)
+pub fault-last : (p k s n m : ℕ) → numbersFault p k s 0 ≡ 0 → m ≡ when (not (eqb n (stripeLong p k s))) 5 → m ≡ firstOf (widthFault p) (firstOf (sizeFault s) (when (not (eqb n (stripeLong p k s))) 5))
+fault-last p k s n m z e = first-next m (firstOf (widthFault p) (sizeFault s)) (when (not (eqb n (stripeLong p k s))) 5) (sym (numbers-first p k s) ∙ z) e ∙ first-assoc (widthFault p) (sizeFault s) (when (not (eqb n (stripeLong p k s))) 5)
 
 -- and where they are not
-pub fault-first : (p s n m : ℕ) → m ≡ numbersFault p p s 0 → (m ≡ 0 → ⊥) → m ≡ firstOf (widthFault p) (firstOf (sizeFault s) (when (not (eqb n (stripeLong p p s))) 5))
-fault-first p s n m e z = first-kept m (firstOf (widthFault p) (sizeFault s)) (when (not (eqb n (stripeLong p p s))) 5) (e ∙ numbers-first p p s) z ∙ first-assoc (widthFault p) (sizeFault s) (when (not (eqb n (stripeLong p p s))) 5)
+pub fault-first : (p k s n m : ℕ) → m ≡ numbersFault p k s 0 → (m ≡ 0 → ⊥) → m ≡ firstOf (widthFault p) (firstOf (sizeFault s) (when (not (eqb n (stripeLong p k s))) 5))
+fault-first p k s n m e z = first-kept m (firstOf (widthFault p) (sizeFault s)) (when (not (eqb n (stripeLong p k s))) 5) (e ∙ numbers-first p k s) z ∙ first-assoc (widthFault p) (sizeFault s) (when (not (eqb n (stripeLong p k s))) 5)
 
 -- a stripe within the limits has few enough bytes to count
-bytes-most : (p s : ℕ) → p ≤ 31 → s ≤ 4096 → (p * s ≤ 126976) × ((p + 2) * (p * s) ≤ 4190208)
-bytes-most p s h k =
-    let l : p * s ≤ 31 * 4096 = mul-le-mul h k in
-    let m : p + 2 ≤ 33 = omega arith in
-    (omega arith, omega (arith, mul-le-mul m l))
+bytes-most : (p k s : ℕ) → p ≤ 31 → k ≤ p → s ≤ 4096 → (p * s ≤ 126976) × ((k + 2) * (p * s) ≤ 4190208)
+bytes-most p k s h most l =
+    let m : p * s ≤ 31 * 4096 = mul-le-mul h l in
+    let n : k + 2 ≤ 33 = omega arith in
+    (omega arith, omega (arith, mul-le-mul n m))
 
-pub numbers-most : (p s f : ℕ) → numbersFault p p s f ≡ 0 → (p ≤ 31) × (p * s ≤ 126976) × ((p + 2) * (p * s) ≤ 4190208)
-numbers-most p s f e =
-    let q = numbers-of p p s f e in
+pub numbers-most : (p k s f : ℕ) → k ≤ p → numbersFault p k s f ≡ 0 → (p ≤ 31) × (p * s ≤ 126976) × ((k + 2) * (p * s) ≤ 4190208)
+numbers-most p k s f most e =
+    let q = numbers-of p k s f e in
     let w = width-most p (q .0) in
-    let b = bytes-most p s w (q .2) in
+    let b = bytes-most p k s w most (q .2) in
     (w, b .0, b .1)
 
 -- no refusal: the stripe is within the limits
-pub fault-none : (p s : ℕ) (t : List ℕ) → stripeFault p s t ≡ 0 → Sized p p s t
-fault-none p s t e =
-    let w = first-none (widthFault p) (firstOf (sizeFault s) (longFault (stripeLong p p s) t)) e in
-    let v = first-none (sizeFault s) (longFault (stripeLong p p s) t) (w .1) in
+pub fault-none : (p k s : ℕ) (t : List ℕ) → k ≤ p → stripeFault p k s t ≡ 0 → Sized p k s t
+fault-none p k s t most e =
+    let w = first-none (widthFault p) (firstOf (sizeFault s) (longFault (stripeLong p k s) t)) e in
+    let v = first-none (sizeFault s) (longFault (stripeLong p k s) t) (w .1) in
     record {
       widest = width-most p (width-of p (w .0));
-      disks = omega arith;
+      disks = most;
       small = size-of s (v .0) .1;
-      long = long-of (stripeLong p p s) t (v .1);
+      long = long-of (stripeLong p k s) t (v .1);
     }
 
 -- and has rows
-pub fault-some : (p s : ℕ) (t : List ℕ) → stripeFault p s t ≡ 0 → 0 < p
-fault-some p s t e =
-    let w = first-none (widthFault p) (firstOf (sizeFault s) (longFault (stripeLong p p s) t)) e in
+pub fault-some : (p k s : ℕ) (t : List ℕ) → stripeFault p k s t ≡ 0 → 0 < p
+fault-some p k s t e =
+    let w = first-none (widthFault p) (firstOf (sizeFault s) (longFault (stripeLong p k s) t)) e in
     omega (arith, width-least p (width-of p (w .0)))
 
-pub encode-refused : (p s n : ℕ) (t : List ℕ) (r : Answer) → n ≡ stripeFault p s t → (n ≡ 0 → ⊥) → Answers n r → allBytes t ≡ true → EncodeSays p s t t r
-encode-refused p s n t r e z a b =
+pub encode-refused : (p k s n : ℕ) (t : List ℕ) (r : Answer) → n ≡ stripeFault p k s t → (n ≡ 0 → ⊥) → Answers n r → allBytes t ≡ true → EncodeSays p k s t t r
+encode-refused p k s n t r e z a b =
     record {
-      answer = answers-as n (stripeFault p s t) r e a;
-      stripe = pick-refused n (stripeFault p s t) (encoded p p s t) t e z;
+      answer = answers-as n (stripeFault p k s t) r e a;
+      stripe = pick-refused n (stripeFault p k s t) (encoded p k s t) t e z;
       bytes = b;
     }
 
 -- P by the row sets, then Q by the diagonal sets
-both-kinds : (p s : ℕ) (t u v : List ℕ) → u ≡ followed p p s p (allOf p 0 0) t → v ≡ followed p p s (p + 1) (allOf p 1 0) u → v ≡ encoded p p s t
+both-kinds : (p k s : ℕ) (t u v : List ℕ) → u ≡ followed p k s k (allOf p 0 0) t → v ≡ followed p k s (k + 1) (allOf p 1 0) u → v ≡ encoded p k s t
 unfolding encoded
-both-kinds p s t u v e q =
-    let o : p + 1 ≡ suc p = omega arith in
+both-kinds p k s t u v e q =
+    let o : k + 1 ≡ suc k = omega arith in
     q
-    ∙ ap₂ (λ (f : ℕ) (l : List ℕ). followed p p s f (allOf p 1 0) l) o e
-    ∙ sym (ap₂ (λ (x y : List Step). followed p p s (suc p) y (followed p p s p x t)) (plan-row-parity p p) (plan-diagonal-parity p p))
+    ∙ ap₂ (λ (f : ℕ) (l : List ℕ). followed p k s f (allOf p 1 0) l) o e
+    ∙ sym (ap₂ (λ (x y : List Step). followed p k s (suc k) y (followed p k s k x t)) (plan-row-parity p k) (plan-diagonal-parity p k))
 
-pub encode-done : (p s : ℕ) (t u v : List ℕ) (r : Answer) → stripeFault p s t ≡ 0 → u ≡ followed p p s p (allOf p 0 0) t → v ≡ followed p p s (p + 1) (allOf p 1 0) u → Answers 0 r → allBytes t ≡ true → EncodeSays p s t v r
-encode-done p s t u v r z e q a b =
+pub encode-done : (p k s : ℕ) (t u v : List ℕ) (r : Answer) → stripeFault p k s t ≡ 0 → u ≡ followed p k s k (allOf p 0 0) t → v ≡ followed p k s (k + 1) (allOf p 1 0) u → Answers 0 r → allBytes t ≡ true → EncodeSays p k s t v r
+encode-done p k s t u v r z e q a b =
     record {
-      answer = answers-as 0 (stripeFault p s t) r (sym z) a;
-      stripe = both-kinds p s t u v e q ∙ pick-done (stripeFault p s t) (encoded p p s t) t z;
+      answer = answers-as 0 (stripeFault p k s t) r (sym z) a;
+      stripe = both-kinds p k s t u v e q ∙ pick-done (stripeFault p k s t) (encoded p k s t) t z;
       bytes = b;
     }
 
-pub check-refused : (p s n : ℕ) (t : List ℕ) (a : Answer) → n ≡ stripeFault p s t → (n ≡ 0 → ⊥) → Answers n a → CheckSays p s t (record { answer = a; clean = false })
-check-refused p s n t a e z k = record { answer = answers-as n (stripeFault p s t) a e k; clean = and-refused n (stripeFault p s t) (clean p p s t) e z }
+pub check-refused : (p k s n : ℕ) (t : List ℕ) (a : Answer) → n ≡ stripeFault p k s t → (n ≡ 0 → ⊥) → Answers n a → CheckSays p k s t (record { answer = a; clean = false })
+check-refused p k s n t a e z h = record { answer = answers-as n (stripeFault p k s t) a e h; clean = and-refused n (stripeFault p k s t) (clean p k s t) e z }
 
 -- not refused
-pub check-done : (p s : ℕ) (t : List ℕ) (a : Answer) (b : Bool) → stripeFault p s t ≡ 0 → Answers 0 a → b ≡ clean p p s t → CheckSays p s t (record { answer = a; clean = b })
-check-done p s t a b z k e = record { answer = answers-as 0 (stripeFault p s t) a (sym z) k; clean = e ∙ and-done (stripeFault p s t) (clean p p s t) z }
+pub check-done : (p k s : ℕ) (t : List ℕ) (a : Answer) (b : Bool) → stripeFault p k s t ≡ 0 → Answers 0 a → b ≡ clean p k s t → CheckSays p k s t (record { answer = a; clean = b })
+check-done p k s t a b z h e = record { answer = answers-as 0 (stripeFault p k s t) a (sym z) h; clean = e ∙ and-done (stripeFault p k s t) (clean p k s t) z }
 
 -- clean if the sets of both kinds are: a row set is not, or the diagonal sets decide
 pub clean-rows : (p k s : ℕ) (t : List ℕ) (b : Bool) → b ≡ allTo p (λ i. setClean p k s t 0 i) → b ≡ false → false ≡ clean p k s t

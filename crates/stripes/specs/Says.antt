@@ -1,4 +1,4 @@
--- The promises of the two public calls, for accepted and refused calls alike. Stripes have p data disks.
+-- The promises of the two public calls, for accepted and refused calls alike. Stripes have p rows and k data disks.
 use mathlib.Core.Path.{_≡_}
 use mathlib.Core.Bool.{true, _&&_}
 use mathlib.Core.List.{List}
@@ -13,16 +13,16 @@ use Rattle.refusals.specs.Answers.{Answers}
 use Rattle.stripes.specs.declared.Checked.{Checked}
 
 -- both calls refuse by 1, 2 and 5
-abbrev pub stripeFault : ℕ → ℕ → List ℕ → ℕ
-stripeFault p s t = firstOf (widthFault p) (firstOf (sizeFault s) (longFault (stripeLong p p s) t))
+abbrev pub stripeFault : ℕ → ℕ → ℕ → List ℕ → ℕ
+stripeFault p k s t = firstOf (widthFault p) (firstOf (sizeFault s) (longFault (stripeLong p k s) t))
 
 -- the stripe t becomes t′: encoded, or as it was on a refusal
-pub record EncodeSays (p s : ℕ) (t t′ : List ℕ) (r : Answer) : Type 0 where
-  pub answer : Answers (stripeFault p s t) r
-  pub stripe : t′ ≡ pick (eqb (stripeFault p s t) 0) (encoded p p s t) t
+pub record EncodeSays (p k s : ℕ) (t t′ : List ℕ) (r : Answer) : Type 0 where
+  pub answer : Answers (stripeFault p k s t) r
+  pub stripe : t′ ≡ pick (eqb (stripeFault p k s t) 0) (encoded p k s t) t
   -- what was lent are bytes
   pub bytes : allBytes t ≡ true
 
-pub record CheckSays (p s : ℕ) (t : List ℕ) (r : Checked) : Type 0 where
-  pub answer : Answers (stripeFault p s t) (r .answer)
-  pub clean : r .clean ≡ (eqb (stripeFault p s t) 0 && clean p p s t)
+pub record CheckSays (p k s : ℕ) (t : List ℕ) (r : Checked) : Type 0 where
+  pub answer : Answers (stripeFault p k s t) (r .answer)
+  pub clean : r .clean ≡ (eqb (stripeFault p k s t) 0 && clean p k s t)

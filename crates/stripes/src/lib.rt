@@ -139,21 +139,22 @@ fn is_clean(width: usize, disks: usize, size: usize, stripe: &[u8]) -> bool
 }
 
 // The refusal of a call on a stripe of `long` bytes, 0 for none.
-fn stripe_fault(width: usize, size: usize, long: usize) -> u8
-    ensures { λ r. ⌜ r ≡ firstOf (widthFault width) (firstOf (sizeFault size) (when (not (eqb long (stripeLong width width size))) 5)) ⌝ }
+fn stripe_fault(width: usize, disks: usize, size: usize, long: usize) -> u8
+    requires { ⌜ disks ≤ width ⌝ }
+    ensures { λ r. ⌜ r ≡ firstOf (widthFault width) (firstOf (sizeFault size) (when (not (eqb long (stripeLong width disks size))) 5)) ⌝ }
 {
-    let fault = refusals::numbers_fault(width, width, size, 0);
+    let fault = refusals::numbers_fault(width, disks, size, 0);
     if fault != 0 {
         return fault;
     }
-    refusals::length_fault(long, (width + 2) * (width * size))
+    refusals::length_fault(long, (disks + 2) * (width * size))
 }
 
 // Writes P and Q of a stripe. Refusals: 1, 2, 5; a refused call leaves the stripe as it was.
 pub fn encode_stripe(width: usize, size: usize, stripe: &mut [u8]) -> Answer
-    ensures { λ r. ⌜ EncodeSays width size (now (stripe .entry)) (now (stripe .exit)) r ⌝ }
+    ensures { λ r. ⌜ EncodeSays width width size (now (stripe .entry)) (now (stripe .exit)) r ⌝ }
 {
-    let fault = stripe_fault(width, size, stripe.len());
+    let fault = stripe_fault(width, width, size, stripe.len());
     if fault != 0 {
         return refusals::answered(fault);
     }
@@ -164,9 +165,9 @@ pub fn encode_stripe(width: usize, size: usize, stripe: &mut [u8]) -> Answer
 
 // Is a stripe clean? Refusals: 1, 2, 5.
 pub fn check_stripe(width: usize, size: usize, stripe: &[u8]) -> Checked
-    ensures { λ r. ⌜ CheckSays width size (now (stripe .entry)) r ⌝ }
+    ensures { λ r. ⌜ CheckSays width width size (now (stripe .entry)) r ⌝ }
 {
-    let refusal = stripe_fault(width, size, stripe.len());
+    let refusal = stripe_fault(width, width, size, stripe.len());
     if refusal != 0 {
         return Checked {
             answer: refusals::answered(refusal),

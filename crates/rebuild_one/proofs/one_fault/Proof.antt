@@ -18,7 +18,7 @@ fine c = sym (c .before .numbers-fault .ensures) ∙ c .if1 .left
 
 -- so the bytes can be counted
 most : (c : tie.Else1) → let a = c .before .before .args in (a .width ≤ 31) × (a .width * a .size ≤ 126976) × ((a .width + 2) * (a .width * a .size) ≤ 4190208)
-most c = let a = c .before .before .args in numbers-most (a .width) (a .size) (a .disk) (fine c)
+most c = let a = c .before .before .args in numbers-most (a .width) (a .width) (a .size) (a .disk) (omega arith) (fine c)
 
 returns : tie.Need-returns
 returns c =
