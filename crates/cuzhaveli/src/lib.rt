@@ -75,7 +75,7 @@ pub extern "C" fn cuzhaveli_rebuild_one(
     stripe: &[u8],
     column: &mut [u8],
 ) -> Answer
-    ensures { λ r. ⌜ OneSays width size disk (now (stripe .entry)) (now (column .entry)) (now (column .exit)) r ⌝ }
+    ensures { λ r. ⌜ OneSays width width size disk (now (stripe .entry)) (now (column .entry)) (now (column .exit)) r ⌝ }
 {
     rebuild_one::rebuild_one(width, size, disk, stripe, column)
 }

@@ -55,18 +55,18 @@ pub checks : (p s : ℕ) (t : List ℕ) (r : Checked) → CheckSays p p s t r �
 checks p s t r k z = k .clean ∙ ap (λ (n : ℕ). eqb n 0 && clean p p s t) (sym (k .answer .refusal) ∙ z)
 
 -- what an accepted rebuild shows of its arguments
-taken : (p s f : ℕ) (t o o′ : List ℕ) (r : Answer) → OneSays p s f t o o′ r → r .refusal ≡ 0 → Fit p s f (length t) (length o)
-taken p s f t o o′ r k z = fault-none p s f (length t) (length o) (sym (k .answer .refusal) ∙ z)
+taken : (p s f : ℕ) (t o o′ : List ℕ) (r : Answer) → OneSays p p s f t o o′ r → r .refusal ≡ 0 → Fit p p s f (length t) (length o)
+taken p s f t o o′ r k z = fault-none p p s f (length t) (length o) (omega arith) (sym (k .answer .refusal) ∙ z)
 
-stripe-is : (p s f : ℕ) (t o o′ : List ℕ) (r : Answer) → OneSays p s f t o o′ r → r .refusal ≡ 0 → isStripe p p s t ≡ true
+stripe-is : (p s f : ℕ) (t o o′ : List ℕ) (r : Answer) → OneSays p p s f t o o′ r → r .refusal ≡ 0 → isStripe p p s t ≡ true
 stripe-is p s f t o o′ r k z = is-stripe p s t (taken p s f t o o′ r k z .stripe) (k .bytes)
 
-column-is : (p s f : ℕ) (t o o′ : List ℕ) (r : Answer) → OneSays p s f t o o′ r → r .refusal ≡ 0 → o′ ≡ rebuilt p p s f t
+column-is : (p s f : ℕ) (t o o′ : List ℕ) (r : Answer) → OneSays p p s f t o o′ r → r .refusal ≡ 0 → o′ ≡ rebuilt p p s f t
 column-is p s f t o o′ r k z = k .column ∙ ap (λ (n : ℕ). pick (eqb n 0) (rebuilt p p s f t) o) (sym (k .answer .refusal) ∙ z)
 
 -- Demand 2 for one lost disk: survivors of a clean stripe u bring the disk back as it was in u, whatever stood in the lost column.
 pub brings-back :
-    (p s f : ℕ) (t u o o′ : List ℕ) (r : Answer) → isStripe p p s u ≡ true → clean p p s u ≡ true → OneSays p s f t o o′ r → r .refusal ≡ 0
+    (p s f : ℕ) (t u o o′ : List ℕ) (r : Answer) → isStripe p p s u ≡ true → clean p p s u ≡ true → OneSays p p s f t o o′ r → r .refusal ≡ 0
     → ((x : ℕ) → x < p * (p + 2) → (diskAt p x ≡ f → ⊥) → cellAt s t x ≡ cellAt s u x) → o′ ≡ columnOf p s f u
 brings-back p s f t u o o′ r v c k z h =
     let a = taken p s f t o o′ r k z in
@@ -74,7 +74,7 @@ brings-back p s f t u o o′ r v c k z h =
 
 -- "What the stripe holds for the lost disk is never used": two accepted calls on stripes alike off that disk write one column, on dirty stripes too.
 pub never-used :
-    (p s f : ℕ) (t u o o′ n n′ : List ℕ) (r q : Answer) → OneSays p s f t o o′ r → r .refusal ≡ 0 → OneSays p s f u n n′ q → q .refusal ≡ 0
+    (p s f : ℕ) (t u o o′ n n′ : List ℕ) (r q : Answer) → OneSays p p s f t o o′ r → r .refusal ≡ 0 → OneSays p p s f u n n′ q → q .refusal ≡ 0
     → ((x : ℕ) → x < p * (p + 2) → (diskAt p x ≡ f → ⊥) → cellAt s t x ≡ cellAt s u x) → o′ ≡ n′
 never-used p s f t u o o′ n n′ r q k z m y h =
     let a = taken p s f t o o′ r k z in
@@ -85,7 +85,7 @@ never-used p s f t u o o′ n n′ r q k z m y h =
 -- The last sentence of demand 3: stripes alike in every cell marked 1 in the list that `read_list` writes give one rebuilt disk, dirty stripes too.
 pub one-column :
     (p s f : ℕ) (t u o o′ n n′ l l′ : List ℕ) (r q a : Answer)
-    → OneSays p s f t o o′ r → r .refusal ≡ 0 → OneSays p s f u n n′ q → q .refusal ≡ 0 → ListSays p p f l l′ a → a .refusal ≡ 0
+    → OneSays p p s f t o o′ r → r .refusal ≡ 0 → OneSays p p s f u n n′ q → q .refusal ≡ 0 → ListSays p p f l l′ a → a .refusal ≡ 0
     → ((x : ℕ) → getD l′ x 0 ≡ 1 → cellAt s t x ≡ cellAt s u x) → o′ ≡ n′
 one-column p s f t u o o′ n n′ l l′ r q a k z m y w e h =
     let i = taken p s f t o o′ r k z in

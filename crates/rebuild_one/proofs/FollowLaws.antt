@@ -32,65 +32,65 @@ step-passed p k f zero st (next {s = x} g rest) h e = subst (λ (y : Step). (y .
 step-passed p k f (suc i) st (next g rest) h e = step-passed p k f i st rest (omega arith) e
 
 -- so each step of our plan names a row, and its set holds the lost cell of that row
-pub plan-passed : (p f i : ℕ) → isWidth p ≡ true → f ≤ p + 1 → (a : StepAt (planOf p p f) i) → i < p → (a .this .row < p) × (isIn (a .this .row) (lostIn p f (setOf p p (a .this .kind) (a .this .number))) ≡ true)
-plan-passed p f i w h a l = step-passed p p f i (a .this) (accepted-passes p p f (planOf p p f) (plan-accepted p p f w (omega arith) h)) (omega (arith, plan-length p p f w (omega arith) h)) (a .split)
+pub plan-passed : (p k f i : ℕ) → isWidth p ≡ true → k ≤ p → f ≤ k + 1 → (a : StepAt (planOf p k f) i) → i < p → (a .this .row < p) × (isIn (a .this .row) (lostIn p f (setOf p k (a .this .kind) (a .this .number))) ≡ true)
+plan-passed p k f i w most h a l = step-passed p k f i (a .this) (accepted-passes p k f (planOf p k f) (plan-accepted p k f w most h)) (omega (arith, plan-length p k f w most h)) (a .split)
 
 -- the loop over the steps: i of them done
-pub record Stepping (p s f : ℕ) (t col₀ col : List ℕ) (i : ℕ) : Type 0 where
+pub record Stepping (p k s f : ℕ) (t col₀ col : List ℕ) (i : ℕ) : Type 0 where
   pub within : i ≤ p
   pub long : length col ≡ p * s
-  pub rest : followed p p s f (drop i (planOf p p f)) (withColumn p s f col t) ≡ followed p p s f (planOf p p f) (withColumn p s f col₀ t)
+  pub rest : followed p k s f (drop i (planOf p k f)) (withColumn p s f col t) ≡ followed p k s f (planOf p k f) (withColumn p s f col₀ t)
 
-pub stepping-start : (p s f : ℕ) (t col : List ℕ) → length col ≡ p * s → Stepping p s f t col col 0
-stepping-start p s f t col e = record { within = omega arith; long = e; rest = refl }
+pub stepping-start : (p k s f : ℕ) (t col : List ℕ) → length col ≡ p * s → Stepping p k s f t col col 0
+stepping-start p k s f t col e = record { within = omega arith; long = e; rest = refl }
 
-pub stepping-turn : (p s f : ℕ) (t col₀ col col′ : List ℕ) (i : ℕ) (a : StepAt (planOf p p f) i) → i < p → length col′ ≡ length col
-    → withColumn p s f col′ t ≡ solved s (place p (a .this .row) f) (setOf p p (a .this .kind) (a .this .number)) (withColumn p s f col t)
-    → Stepping p s f t col₀ col i → Stepping p s f t col₀ col′ (i + 1)
+pub stepping-turn : (p k s f : ℕ) (t col₀ col col′ : List ℕ) (i : ℕ) (a : StepAt (planOf p k f) i) → i < p → length col′ ≡ length col
+    → withColumn p s f col′ t ≡ solved s (place p (a .this .row) f) (setOf p k (a .this .kind) (a .this .number)) (withColumn p s f col t)
+    → Stepping p k s f t col₀ col i → Stepping p k s f t col₀ col′ (i + 1)
 unfolding followed
-stepping-turn p s f t col₀ col col′ i a h l e k =
-    let ss : List Step = planOf p p f in
+stepping-turn p k s f t col₀ col col′ i a h l e st =
+    let ss : List Step = planOf p k f in
     record {
       within = omega arith;
-      long = l ∙ k .long;
+      long = l ∙ st .long;
       rest =
-          ap (λ (j : ℕ). followed p p s f (drop j ss) (withColumn p s f col′ t)) (add-one i)
-          ∙ ap (followed p p s f (drop (suc i) ss)) e
-          ∙ sym (ap (λ (y : List Step). followed p p s f y (withColumn p s f col t)) (a .split))
-          ∙ k .rest;
+          ap (λ (j : ℕ). followed p k s f (drop j ss) (withColumn p s f col′ t)) (add-one i)
+          ∙ ap (followed p k s f (drop (suc i) ss)) e
+          ∙ sym (ap (λ (y : List Step). followed p k s f y (withColumn p s f col t)) (a .split))
+          ∙ st .rest;
     }
 
 -- a stripe's column depends on the other disks alone
-module _ (p s f : ℕ) (wide : isWidth p ≡ true) (disk : f ≤ p + 1) where
-  rebuilt-off : (t u : List ℕ) → isStripe p p s t ≡ true → isStripe p p s u ≡ true → ((x : ℕ) → (diskAt p x ≡ f → ⊥) → cellAt s t x ≡ cellAt s u x) → rebuilt p p s f t ≡ rebuilt p p s f u
+module _ (p k s f : ℕ) (wide : isWidth p ≡ true) (most : k ≤ p) (disk : f ≤ k + 1) where
+  rebuilt-off : (t u : List ℕ) → isStripe p k s t ≡ true → isStripe p k s u ≡ true → ((x : ℕ) → (diskAt p x ≡ f → ⊥) → cellAt s t x ≡ cellAt s u x) → rebuilt p k s f t ≡ rebuilt p k s f u
   unfolding rebuilt
   rebuilt-off t u ht hu same =
-      cells-equal p s (columnOf p s f (after t)) (columnOf p s f (after u)) (column-long p p s f (after t) below (stripe t ht)) (column-long p p s f (after u) below (stripe u hu))
-      (λ r m. column-cell p s f r (after t) m ∙ steps-agree p p s f (planOf p p f) (plan-accepted p p f wide (omega arith) disk) t u ht hu (λ x n e. same x n) r m ∙ sym (column-cell p s f r (after u) m))
+      cells-equal p s (columnOf p s f (after t)) (columnOf p s f (after u)) (column-long p k s f (after t) below (stripe t ht)) (column-long p k s f (after u) below (stripe u hu))
+      (λ r m. column-cell p s f r (after t) m ∙ steps-agree p k s f (planOf p k f) (plan-accepted p k f wide most disk) t u ht hu (λ x n e. same x n) r m ∙ sym (column-cell p s f r (after u) m))
     where
       after : List ℕ → List ℕ
-      after v = followed p p s f (planOf p p f) v
+      after v = followed p k s f (planOf p k f) v
 
-      below : f < p + 2
+      below : f < k + 2
       below = omega arith
 
-      stripe : (v : List ℕ) → isStripe p p s v ≡ true → isStripe p p s (after v) ≡ true
-      stripe v h = followed-stripe p p s f (accepted-passes p p f (planOf p p f) (plan-accepted p p f wide (omega arith) disk)) v h
+      stripe : (v : List ℕ) → isStripe p k s v ≡ true → isStripe p k s (after v) ≡ true
+      stripe v h = followed-stripe p k s f (accepted-passes p k f (planOf p k f) (plan-accepted p k f wide most disk)) v h
 
   -- all steps done
-  pub stepping-end : (t col₀ col : List ℕ) (i : ℕ) → p ≤ i → length t ≡ stripeLong p p s → length col₀ ≡ p * s → allBytes t ≡ true → allBytes col₀ ≡ true → Stepping p s f t col₀ col i → col ≡ rebuilt p p s f t
+  pub stepping-end : (t col₀ col : List ℕ) (i : ℕ) → p ≤ i → length t ≡ stripeLong p k s → length col₀ ≡ p * s → allBytes t ≡ true → allBytes col₀ ≡ true → Stepping p k s f t col₀ col i → col ≡ rebuilt p k s f t
   unfolding rebuilt followed
-  stepping-end t col₀ col i h lt lc bt bc k =
-      sym (column-with p s f col t (k .long) fits)
-      ∙ ap (columnOf p s f) (sym (ap (λ (y : List Step). followed p p s f y (withColumn p s f col t)) (drop-of-length-le (planOf p p f) few)) ∙ k .rest)
-      ∙ rebuilt-off (withColumn p s f col₀ t) t (stripe-of p p s (withColumn p s f col₀ t) (length-column p s f col₀ t lc fits ∙ lt ∙ omega arith) bytes) (stripe-of p p s t (lt ∙ omega arith) bt)
+  stepping-end t col₀ col i h lt lc bt bc st =
+      sym (column-with p s f col t (st .long) fits)
+      ∙ ap (columnOf p s f) (sym (ap (λ (y : List Step). followed p k s f y (withColumn p s f col t)) (drop-of-length-le (planOf p k f) few)) ∙ st .rest)
+      ∙ rebuilt-off (withColumn p s f col₀ t) t (stripe-of p k s (withColumn p s f col₀ t) (length-column p s f col₀ t lc fits ∙ lt ∙ omega arith) bytes) (stripe-of p k s t (lt ∙ omega arith) bt)
       (λ x n. cell-off p s f col₀ t lc fits x (omega (arith, width-least p wide)) n)
     where
       fits : f * (p * s) + p * s ≤ length t
-      fits = let l : f < p + 2 = omega arith in omega (arith, cell-fits (p + 2) (p * s) f l)
+      fits = let l : f < k + 2 = omega arith in omega (arith, cell-fits (k + 2) (p * s) f l)
 
-      few : length (planOf p p f) ≤ i
-      few = omega (arith, plan-length p p f wide (omega arith) disk)
+      few : length (planOf p k f) ≤ i
+      few = omega (arith, plan-length p k f wide most disk)
 
       bytes : allBytes (withColumn p s f col₀ t) ≡ true
       bytes = bytes-append (take (f * (p * s)) t) (col₀ ++ drop (f * (p * s) + p * s) t) (bytes-take (f * (p * s)) t bt) (bytes-append col₀ (drop (f * (p * s) + p * s) t) bc (bytes-drop (f * (p * s) + p * s) t bt))

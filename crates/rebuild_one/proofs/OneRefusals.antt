@@ -17,36 +17,38 @@ use Rattle.refusals.proofs.AnswerLaws.{answers-as}
 use Rattle.rebuild_one.specs.Says.{lengthsFault, oneFault, OneSays}
 
 -- none of the refusals: all is within the limits and the lengths are those required
-pub record Fit (p s f n m : ℕ) : Type 0 where
+pub record Fit (p k s f n m : ℕ) : Type 0 where
   pub width : isWidth p ≡ true
+  pub disks : k ≤ p
   pub some : 0 < s
   pub small : s ≤ 4096
-  pub disk : f ≤ p + 1
-  pub stripe : n ≡ stripeLong p p s
+  pub disk : f ≤ k + 1
+  pub stripe : n ≡ stripeLong p k s
   pub column : m ≡ p * s
 
-pub fault-none : (p s f n m : ℕ) → lengthsFault p s f n m ≡ 0 → Fit p s f n m
-fault-none p s f n m e =
-    let a : Bool = eqb n (stripeLong p p s) in
+pub fault-none : (p k s f n m : ℕ) → k ≤ p → lengthsFault p k s f n m ≡ 0 → Fit p k s f n m
+fault-none p k s f n m most e =
+    let a : Bool = eqb n (stripeLong p k s) in
     let b : Bool = eqb m (p * s) in
-    let w = first-none (numbersFault p p s f) (firstOf (when (not a) 5) (when (not b) 5)) e in
+    let w = first-none (numbersFault p k s f) (firstOf (when (not a) 5) (when (not b) 5)) e in
     let v = first-none (when (not a) 5) (when (not b) 5) (w .1) in
-    let q = numbers-of p p s f (w .0) in
+    let q = numbers-of p k s f (w .0) in
     record {
       width = q .0;
+      disks = most;
       some = q .1;
       small = q .2;
       disk = q .3;
-      stripe = eqb-true n (stripeLong p p s) (not-false a (when-none (not a) 4 (v .0)));
+      stripe = eqb-true n (stripeLong p k s) (not-false a (when-none (not a) 4 (v .0)));
       column = eqb-true m (p * s) (not-false b (when-none (not b) 4 (v .1)));
     }
 
 -- a refusal
-pub refused : (p s f n : ℕ) (t o : List ℕ) (r : Answer) → n ≡ oneFault p s f t o → (n ≡ 0 → ⊥) → Answers n r → allBytes t ≡ true → OneSays p s f t o o r
-refused p s f n t o r e z a b =
-    record { answer = answers-as n (oneFault p s f t o) r e a; column = pick-refused n (oneFault p s f t o) (rebuilt p p s f t) o e z; bytes = b }
+pub refused : (p k s f n : ℕ) (t o : List ℕ) (r : Answer) → n ≡ oneFault p k s f t o → (n ≡ 0 → ⊥) → Answers n r → allBytes t ≡ true → OneSays p k s f t o o r
+refused p k s f n t o r e z a b =
+    record { answer = answers-as n (oneFault p k s f t o) r e a; column = pick-refused n (oneFault p k s f t o) (rebuilt p k s f t) o e z; bytes = b }
 
 -- the accepted call
-pub accepted : (p s f : ℕ) (t o o′ : List ℕ) (r : Answer) → oneFault p s f t o ≡ 0 → o′ ≡ rebuilt p p s f t → Answers 0 r → allBytes t ≡ true → OneSays p s f t o o′ r
-accepted p s f t o o′ r z e a b =
-    record { answer = answers-as 0 (oneFault p s f t o) r (sym z) a; column = e ∙ pick-done (oneFault p s f t o) (rebuilt p p s f t) o z; bytes = b }
+pub accepted : (p k s f : ℕ) (t o o′ : List ℕ) (r : Answer) → oneFault p k s f t o ≡ 0 → o′ ≡ rebuilt p k s f t → Answers 0 r → allBytes t ≡ true → OneSays p k s f t o o′ r
+accepted p k s f t o o′ r z e a b =
+    record { answer = answers-as 0 (oneFault p k s f t o) r (sym z) a; column = e ∙ pick-done (oneFault p k s f t o) (rebuilt p k s f t) o z; bytes = b }

@@ -66,9 +66,9 @@ lost-without p f row (x ∷ xs) h = go (eqb (place p row f) x) (eqb (diskAt p x)
         ∙ sym (ap (λ (t : Bool). pick t (without row (lostIn p f xs)) (rowAt p x ∷ without row (lostIn p f xs))) (ne-eqb row (rowAt p x) n))
     go false false e q rest = ap (λ (t : Bool). pick t (rowAt p x ∷ lostIn p f (without (place p row f) xs)) (lostIn p f (without (place p row f) xs))) q ∙ rest
 
-module _ (p s f row kind number : ℕ) (t col : List ℕ) (ready : Ready p s f row kind number t col) where
+module _ (p k s f row kind number : ℕ) (t col : List ℕ) (ready : Ready p k s f row kind number t col) where
   abbrev xs : List ℕ
-  xs = setOf p p kind number
+  xs = setOf p k kind number
 
   -- the stripe with the column put in
   abbrev whole : List ℕ
@@ -78,7 +78,7 @@ module _ (p s f row kind number : ℕ) (t col : List ℕ) (ready : Ready p s f r
   some = omega (arith, ready .rows)
 
   disk-fits : f * (p * s) + p * s ≤ length t
-  disk-fits = let l : f < p + 2 = omega (arith, ready .disk) in omega (arith, cell-fits (p + 2) (p * s) f l, ready .stripe)
+  disk-fits = let l : f < k + 2 = omega (arith, ready .disk) in omega (arith, cell-fits (k + 2) (p * s) f l, ready .stripe)
 
   pub row-fits : row * s + s ≤ length col
   row-fits = omega (arith, cell-fits p s row (ready .rows), ready .column)
@@ -111,7 +111,7 @@ module _ (p s f row kind number : ℕ) (t col : List ℕ) (ready : Ready p s f r
   alive-long : length alive ≡ s
   alive-long =
       over-long s (cellAt s t) (survivingIn p f xs)
-      (cells-long (p * (p + 2)) s (survivingIn p f xs) t (ready .stripe ∙ omega arith) (survivors-below p p f kind number (ready .within .numbered)))
+      (cells-long (p * (k + 2)) s (survivingIn p f xs) t (ready .stripe ∙ omega arith) (survivors-below p k f kind number (ready .within .numbered)))
 
   -- the offsets of the survivors: each has the length of the row's part, and lies in the stripe
   module _ (n : ℕ) (old at : List ℕ) (room : length at ≡ 33) (pushed : Pushed old at 0 n (scaled s (survivors p f f xs))) where
@@ -120,8 +120,8 @@ module _ (p s f row kind number : ℕ) (t col : List ℕ) (ready : Ready p s f r
 
     pub sources-fit : (length (midOf (row * s) (row * s + s - row * s) col) ≤ length t) × Reached (length (midOf (row * s) (row * s + s - row * s) col)) (length t) (take n at)
     sources-fit = (
-      omega (arith, mid-long, size-fits p p s kind number f f n old at t (ready .within .numbered) room (ready .stripe) pushed),
-      subst (λ (m : ℕ). Reached m (length t) (take n at)) (sym mid-long) (survivors-reached p p s kind number f f n old at t (ready .within .numbered) room (ready .stripe) pushed),
+      omega (arith, mid-long, size-fits p k s kind number f f n old at t (ready .within .numbered) room (ready .stripe) pushed),
+      subst (λ (m : ℕ). Reached m (length t) (take n at)) (sym mid-long) (survivors-reached p k s kind number f f n old at t (ready .within .numbered) room (ready .stripe) pushed),
     )
 
     -- ys is their XOR: it is put into the row's part of the column

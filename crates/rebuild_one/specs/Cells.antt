@@ -2,7 +2,7 @@
 use mathlib.Core.Path.{_≡_}
 use mathlib.Core.Bool.{true}
 use mathlib.Core.List.{List}
-use Prim.Native.Nat.{ℕ, _+_, _*_, _%_, _≤_, _<_}
+use Prim.Native.Nat.{ℕ, _+_, _*_, _≤_, _<_}
 use lib.ListN.{length}
 use Rattle.laws.specs.Lists.{isIn}
 use Rattle.liberation.specs.Sets.{isWidth, setOf, lostIn}
@@ -13,18 +13,18 @@ use Rattle.planner.specs.declared.Steps.{Steps}
 use Rattle.planner.specs.Records.{Holds}
 
 -- a step for disk f of a stripe t, with a lent column: the set holds the lost cell of the row
-pub record Ready (p s f row kind number : ℕ) (t col : List ℕ) : Type 0 where
-  pub within : Within p p number
-  pub odd : p % 2 ≡ 1
+pub record Ready (p k s f row kind number : ℕ) (t col : List ℕ) : Type 0 where
+  pub within : Within p k number
   pub rows : row < p
-  pub own : isIn row (lostIn p f (setOf p p kind number)) ≡ true
-  pub disk : f ≤ p + 1
+  pub own : isIn row (lostIn p f (setOf p k kind number)) ≡ true
+  pub disk : f ≤ k + 1
   pub size : s ≤ 4096
-  pub stripe : length t ≡ stripeLong p p s
+  pub stripe : length t ≡ stripeLong p k s
   pub column : length col ≡ p * s
 
 -- the steps of our plan for disk f
-pub record Ours (p f : ℕ) (steps : Steps) : Type 0 where
+pub record Ours (p k f : ℕ) (steps : Steps) : Type 0 where
   pub width : isWidth p ≡ true
-  pub disk : f ≤ p + 1
-  pub held : Holds (planOf p p f) steps
+  pub disks : k ≤ p
+  pub disk : f ≤ k + 1
+  pub held : Holds (planOf p k f) steps

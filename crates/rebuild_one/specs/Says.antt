@@ -13,16 +13,16 @@ use Rattle.refusals.specs.declared.Answer.{Answer}
 use Rattle.refusals.specs.Answers.{Answers}
 
 -- the rebuild refuses by 1, 2, 3 and 5: n and m are the bytes of the stripe and of the column
-abbrev pub lengthsFault : ℕ → ℕ → ℕ → ℕ → ℕ → ℕ
-lengthsFault p s f n m = firstOf (numbersFault p p s f) (firstOf (when (not (eqb n (stripeLong p p s))) 5) (when (not (eqb m (p * s))) 5))
+abbrev pub lengthsFault : ℕ → ℕ → ℕ → ℕ → ℕ → ℕ → ℕ
+lengthsFault p k s f n m = firstOf (numbersFault p k s f) (firstOf (when (not (eqb n (stripeLong p k s))) 5) (when (not (eqb m (p * s))) 5))
 
 -- t is the stripe, o the column
-abbrev pub oneFault : ℕ → ℕ → ℕ → List ℕ → List ℕ → ℕ
-oneFault p s f t o = lengthsFault p s f (length t) (length o)
+abbrev pub oneFault : ℕ → ℕ → ℕ → ℕ → List ℕ → List ℕ → ℕ
+oneFault p k s f t o = lengthsFault p k s f (length t) (length o)
 
 -- the column o becomes o′
-pub record OneSays (p s f : ℕ) (t o o′ : List ℕ) (r : Answer) : Type 0 where
-  pub answer : Answers (oneFault p s f t o) r
-  pub column : o′ ≡ pick (eqb (oneFault p s f t o) 0) (rebuilt p p s f t) o
+pub record OneSays (p k s f : ℕ) (t o o′ : List ℕ) (r : Answer) : Type 0 where
+  pub answer : Answers (oneFault p k s f t o) r
+  pub column : o′ ≡ pick (eqb (oneFault p k s f t o) 0) (rebuilt p k s f t) o
   -- what was lent are bytes
   pub bytes : allBytes t ≡ true

@@ -4,7 +4,7 @@ use refusals::Answer;
 ghost use mathlib.Core.Path.{_≡_};
 ghost use mathlib.Core.Bool.{true};
 ghost use mathlib.Core.List.{[], _∷_};
-ghost use Prim.Native.Nat.{_+_, _*_, _%_, _≤_, _<_};
+ghost use Prim.Native.Nat.{_+_, _*_, _≤_, _<_};
 ghost use lib.Dec.{ltb};
 ghost use lib.ListN.{length};
 ghost use Rattle.laws.specs.Choice.{pick};
@@ -15,15 +15,25 @@ ghost use Rattle.sets.specs.Limits.{Within};
 ghost use Rattle.rebuild_one.specs.Cells.{Ready, Ours};
 ghost use Rattle.rebuild_one.specs.Says.{lengthsFault, oneFault, OneSays};
 
-// The row of the set's other cell on the lost disk, the width if there is none. Only a diagonal whose extra cell is on that disk has two cells there: the extra one and an ordinary one.
-fn other_row(width: usize, disk: usize, row: usize, kind: usize, number: usize) -> usize
-    requires { ⌜ Within width width number × (width % 2 ≡ 1) × (row < width) × (isIn row (lostIn width disk (setOf width width kind number)) ≡ true) ⌝ }
-    ensures { λ r. ⌜ without row (lostIn width disk (setOf width width kind number)) ≡ pick (ltb r width) (r ∷ []) [] ⌝ }
+// The row of the set's other cell on the lost disk, the width if there is none. Only a diagonal whose extra cell is on that disk has two cells there, the extra one and an ordinary one: a diagonal whose extra cell would be on an absent disk has none, and P and Q have no extra cells.
+fn other_row(
+    width: usize,
+    disks: usize,
+    disk: usize,
+    row: usize,
+    kind: usize,
+    number: usize,
+) -> usize
+    requires { ⌜ Within width disks number × (row < width) × (isIn row (lostIn width disk (setOf width disks kind number)) ≡ true) ⌝ }
+    ensures { λ r. ⌜ without row (lostIn width disk (setOf width disks kind number)) ≡ pick (ltb r width) (r ∷ []) [] ⌝ }
 {
     if kind == 0 {
         return width;
     }
     if number == 0 {
+        return width;
+    }
+    if disks <= disk {
         return width;
     }
     if sets::extra_disk(width, number) != disk {
@@ -39,6 +49,7 @@ fn other_row(width: usize, disk: usize, row: usize, kind: usize, number: usize) 
 // One step: the lost disk's cell of this row becomes the XOR of the set's other cells. The surviving ones come from the stripe; another lost one, which an earlier step has rebuilt, from the column.
 fn rebuild_cell(
     width: usize,
+    disks: usize,
     size: usize,
     disk: usize,
     row: usize,
@@ -47,15 +58,15 @@ fn rebuild_cell(
     stripe: &[u8],
     column: &mut [u8],
 )
-    requires { ⌜ Ready width size disk row kind number (now stripe) (now column) ⌝ }
-    ensures { λ _. ⌜ withColumn width size disk (now (column .exit)) (now (stripe .entry)) ≡ solved size (place width row disk) (setOf width width kind number) (withColumn width size disk (now (column .entry)) (now (stripe .entry))) ⌝ }
+    requires { ⌜ Ready width disks size disk row kind number (now stripe) (now column) ⌝ }
+    ensures { λ _. ⌜ withColumn width size disk (now (column .exit)) (now (stripe .entry)) ≡ solved size (place width row disk) (setOf width disks kind number) (withColumn width size disk (now (column .entry)) (now (stripe .entry))) ⌝ }
 {
     let mut at = offsets::no_offsets();
-    let n = set_offsets::surviving(width, width, size, kind, number, disk, disk, &mut at);
+    let n = set_offsets::surviving(width, disks, size, kind, number, disk, disk, &mut at);
     let start = row * size;
     let end = start + size;
     xor::gather(&mut column[start..end], stripe, &at[..n]);
-    let other = other_row(width, disk, row, kind, number);
+    let other = other_row(width, disks, disk, row, kind, number);
     if other < width {
         at[0] = start;
         at[1] = other * size;
@@ -64,10 +75,18 @@ fn rebuild_cell(
 }
 
 // The steps of our plan, in order.
-fn follow(width: usize, size: usize, disk: usize, steps: Steps, stripe: &[u8], column: &mut [u8])
-    requires { ⌜ Ours width disk steps × (size ≤ 4096) ⌝ }
-    requires { ⌜ (length (now stripe) ≡ stripeLong width width size) × (length (now column) ≡ width * size) ⌝ }
-    ensures { λ _. ⌜ now (column .exit) ≡ rebuilt width width size disk (now (stripe .entry)) ⌝ }
+fn follow(
+    width: usize,
+    disks: usize,
+    size: usize,
+    disk: usize,
+    steps: Steps,
+    stripe: &[u8],
+    column: &mut [u8],
+)
+    requires { ⌜ Ours width disks disk steps × (size ≤ 4096) ⌝ }
+    requires { ⌜ (length (now stripe) ≡ stripeLong width disks size) × (length (now column) ≡ width * size) ⌝ }
+    ensures { λ _. ⌜ now (column .exit) ≡ rebuilt width disks size disk (now (stripe .entry)) ⌝ }
 {
     let rows = steps.rows;
     let kinds = steps.kinds;
@@ -77,20 +96,28 @@ fn follow(width: usize, size: usize, disk: usize, steps: Steps, stripe: &[u8], c
         let row = rows[i] as usize;
         let kind = kinds[i] as usize;
         let number = numbers[i] as usize;
-        rebuild_cell(width, size, disk, row, kind, number, stripe, column);
+        rebuild_cell(width, disks, size, disk, row, kind, number, stripe, column);
         i += 1;
     }
 }
 
 // The refusal of a call on a stripe and a column of these many bytes, 0 for none.
-pub fn one_fault(width: usize, size: usize, disk: usize, stripe: usize, column: usize) -> u8
-    ensures { λ r. ⌜ r ≡ lengthsFault width size disk stripe column ⌝ }
+pub fn one_fault(
+    width: usize,
+    disks: usize,
+    size: usize,
+    disk: usize,
+    stripe: usize,
+    column: usize,
+) -> u8
+    requires { ⌜ disks ≤ width ⌝ }
+    ensures { λ r. ⌜ r ≡ lengthsFault width disks size disk stripe column ⌝ }
 {
-    let fault = refusals::numbers_fault(width, width, size, disk);
+    let fault = refusals::numbers_fault(width, disks, size, disk);
     if fault != 0 {
         return fault;
     }
-    let short = refusals::length_fault(stripe, (width + 2) * (width * size));
+    let short = refusals::length_fault(stripe, (disks + 2) * (width * size));
     if short != 0 {
         return short;
     }
@@ -99,12 +126,12 @@ pub fn one_fault(width: usize, size: usize, disk: usize, stripe: usize, column: 
 
 // Makes our plan and follows it, where a call on these slices is not refused: for callers that have tested that.
 pub fn rebuild_column(width: usize, size: usize, disk: usize, stripe: &[u8], column: &mut [u8])
-    requires { ⌜ oneFault width size disk (now stripe) (now column) ≡ 0 ⌝ }
+    requires { ⌜ oneFault width width size disk (now stripe) (now column) ≡ 0 ⌝ }
     ensures { λ _. ⌜ now (column .exit) ≡ rebuilt width width size disk (now (stripe .entry)) ⌝ }
 {
     let plan = planner::plan_steps(width, disk);
     let steps = plan.steps;
-    follow(width, size, disk, steps, stripe, column);
+    follow(width, width, size, disk, steps, stripe, column);
 }
 
 // Rebuilds one lost disk into the column. Refusals: 1, 2, 3, 5; a refused call leaves the column as it was.
@@ -115,9 +142,9 @@ pub fn rebuild_one(
     stripe: &[u8],
     column: &mut [u8],
 ) -> Answer
-    ensures { λ r. ⌜ OneSays width size disk (now (stripe .entry)) (now (column .entry)) (now (column .exit)) r ⌝ }
+    ensures { λ r. ⌜ OneSays width width size disk (now (stripe .entry)) (now (column .entry)) (now (column .exit)) r ⌝ }
 {
-    let refusal = one_fault(width, size, disk, stripe.len(), column.len());
+    let refusal = one_fault(width, width, size, disk, stripe.len(), column.len());
     if refusal != 0 {
         return refusals::answered(refusal);
     }

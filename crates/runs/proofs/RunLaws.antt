@@ -21,7 +21,7 @@ use Rattle.runs.specs.Claims.{Call, isAccepted, steps, acceptedIn, writt
 pub next-stripe : (x : Run) (c : Call) → isAccepted x c ≡ true → (c .which ≡ x .next) × (x .next < x .stripes)
 next-stripe x c e =
     let i = c .which in
-    let one = oneFault (x .width) (x .size) (x .disk) (c .stripe) (c .column) in
+    let one = oneFault (x .width) (x .width) (x .size) (x .disk) (c .stripe) (c .column) in
     let z = first-none one (nextFault x i) (eqb-true (stepFault x i (c .stripe) (c .column)) 0 e) in
     let a : Bool = leb (x .stripes) (x .next) in
     let b : Bool = not (eqb i (x .next)) in

@@ -43,15 +43,15 @@ open-done p s f n a z k =
     }
 
 -- the refusal of a step from its tests, where the rebuild's own are passed
-pub fault-is : (x : Run) (i n m : ℕ) (a b : Bool) → lengthsFault (x .width) (x .size) (x .disk) n m ≡ 0 → leb (x .stripes) (x .next) ≡ a → eqb i (x .next) ≡ b → when (a || not b) 10 ≡ stepLengthsFault x i n m
-fault-is x i n m a b z u v = sym (ap₂ (λ (c d : Bool). firstOf (lengthsFault (x .width) (x .size) (x .disk) n m) (when (c || not d) 10)) u v ∙ ap (λ (c : ℕ). firstOf c (when (a || not b) 10)) z)
+pub fault-is : (x : Run) (i n m : ℕ) (a b : Bool) → lengthsFault (x .width) (x .width) (x .size) (x .disk) n m ≡ 0 → leb (x .stripes) (x .next) ≡ a → eqb i (x .next) ≡ b → when (a || not b) 10 ≡ stepLengthsFault x i n m
+fault-is x i n m a b z u v = sym (ap₂ (λ (c d : Bool). firstOf (lengthsFault (x .width) (x .width) (x .size) (x .disk) n m) (when (c || not d) 10)) u v ∙ ap (λ (c : ℕ). firstOf c (when (a || not b) 10)) z)
 
 -- no refusal: there is a next stripe
 pub not-over : (x : Run) (i n m : ℕ) → stepLengthsFault x i n m ≡ 0 → x .next < x .stripes
 not-over x i n m e =
     let a : Bool = leb (x .stripes) (x .next) in
     let b : Bool = not (eqb i (x .next)) in
-    leb-false (x .stripes) (x .next) (or-false-l a b (when-none (a || b) 9 (first-none (lengthsFault (x .width) (x .size) (x .disk) n m) (when (a || b) 10) e .1)))
+    leb-false (x .stripes) (x .next) (or-false-l a b (when-none (a || b) 9 (first-none (lengthsFault (x .width) (x .width) (x .size) (x .disk) n m) (when (a || b) 10) e .1)))
 
 pub step-refused : (x : Run) (i n : ℕ) (t o : List ℕ) (a : Answer) → n ≡ stepFault x i t o → (n ≡ 0 → ⊥) → Answers n a → allBytes t ≡ true → StepSays x x i t o o a
 step-refused x i n t o a e z k b =
@@ -63,8 +63,8 @@ step-refused x i n t o a e z k b =
     }
 
 -- no refusal: the rebuild of one disk is not refused either
-pub step-fits : (x : Run) (i : ℕ) (t o : List ℕ) → stepFault x i t o ≡ 0 → oneFault (x .width) (x .size) (x .disk) t o ≡ 0
-step-fits x i t o z = first-none (oneFault (x .width) (x .size) (x .disk) t o) (nextFault x i) z .0
+pub step-fits : (x : Run) (i : ℕ) (t o : List ℕ) → stepFault x i t o ≡ 0 → oneFault (x .width) (x .width) (x .size) (x .disk) t o ≡ 0
+step-fits x i t o z = first-none (oneFault (x .width) (x .width) (x .size) (x .disk) t o) (nextFault x i) z .0
 
 -- and the stripe is rebuilt
 pub step-done : (x : Run) (i : ℕ) (t o o′ : List ℕ) (a : Answer) → stepFault x i t o ≡ 0 → o′ ≡ runColumn x t → Answers 0 a → allBytes t ≡ true → StepSays x (moved x) i t o o′ a
@@ -77,12 +77,12 @@ step-done x i t o o′ a z e k b =
     }
 
 -- "and rebuilds that stripe": an accepted step is an accepted rebuild of the record's disk, so all that holds of rebuilds holds of steps
-pub step-rebuilds : (x x′ : Run) (i : ℕ) (t o o′ : List ℕ) (a : Answer) → StepSays x x′ i t o o′ a → a .refusal ≡ 0 → OneSays (x .width) (x .size) (x .disk) t o o′ a
+pub step-rebuilds : (x x′ : Run) (i : ℕ) (t o o′ : List ℕ) (a : Answer) → StepSays x x′ i t o o′ a → a .refusal ≡ 0 → OneSays (x .width) (x .width) (x .size) (x .disk) t o o′ a
 step-rebuilds x x′ i t o o′ a k z =
     let e : stepFault x i t o ≡ 0 = answers-none (stepFault x i t o) a (k .answer) z in
     let one = step-fits x i t o e in
     record {
-      answer = answers-as (stepFault x i t o) (oneFault (x .width) (x .size) (x .disk) t o) a (e ∙ sym one) (k .answer);
+      answer = answers-as (stepFault x i t o) (oneFault (x .width) (x .width) (x .size) (x .disk) t o) a (e ∙ sym one) (k .answer);
       column = k .column ∙ ap (λ (n : ℕ). pick (eqb n 0) (runColumn x t) o) (e ∙ sym one);
       bytes = k .bytes;
     }

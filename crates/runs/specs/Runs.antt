@@ -43,7 +43,7 @@ nextFault x i = when (leb (x .stripes) (x .next) || not (eqb i (x .next))) 10
 
 -- a step for stripe i refuses by 1, 2, 3, 5 and 10: n and m are the bytes of the stripe and of the column
 abbrev pub stepLengthsFault : Run → ℕ → ℕ → ℕ → ℕ
-stepLengthsFault x i n m = firstOf (lengthsFault (x .width) (x .size) (x .disk) n m) (nextFault x i)
+stepLengthsFault x i n m = firstOf (lengthsFault (x .width) (x .width) (x .size) (x .disk) n m) (nextFault x i)
 
 -- t is the stripe, o the column
 abbrev pub stepFault : Run → ℕ → List ℕ → List ℕ → ℕ

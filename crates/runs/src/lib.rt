@@ -61,7 +61,7 @@ pub fn open_run(width: usize, size: usize, disk: usize, stripes: u32) -> RunAnsw
 fn step_fault(run: Run, which: u64, stripe: usize, column: usize) -> u8
     ensures { λ r. ⌜ r ≡ stepLengthsFault run which stripe column ⌝ }
 {
-    let fault = rebuild_one::one_fault(run.width, run.size, run.disk, stripe, column);
+    let fault = rebuild_one::one_fault(run.width, run.width, run.size, run.disk, stripe, column);
     if fault != 0 {
         return fault;
     }

@@ -6,7 +6,7 @@ use native.Mathlib.Omega.{arith}
 use lib.ListN.{getD}
 use borrow.Author.Needs.{needs}
 use Rattle.liberation.specs.Plans.{planOf}
-use Rattle.liberation.proofs.Widths.{width-odd, width-most}
+use Rattle.liberation.proofs.Widths.{width-most}
 use Rattle.liberation.proofs.RecordLaws.{StepAt, step-at, plan-length, plan-number}
 use Rattle.xor.proofs.SourceLaws.{bytes-all}
 use Rattle.rebuild_one.proofs.FollowLaws.{Stepping, stepping-start, stepping-turn, stepping-end, plan-passed}
@@ -14,19 +14,19 @@ use Rattle.rebuild_one.proofs.follow.Statement.{statement}
 use Rattle.rebuild_one.proofs.follow.Tie as tie
 
 abbrev Inv-loop : tie.InvT-loop
-Inv-loop width size disk stripe column₀ rows kinds numbers i₀ column i = Stepping width size disk stripe column₀ column i
+Inv-loop width disks size disk stripe column₀ rows kinds numbers i₀ column i = Stepping width disks size disk stripe column₀ column i
 
 abbrev μ-loop : tie.MeasureT-loop
-μ-loop width size disk stripe column₀ rows kinds numbers i₀ column i = width - i
+μ-loop width disks size disk stripe column₀ rows kinds numbers i₀ column i = width - i
 
 small : (c : tie.In-loop Inv-loop μ-loop) → let z = c .before .before .before .before .before .before .before in z .args .width ≤ 31
 small c = let z = c .before .before .before .before .before .before .before in width-most (z .args .width) (z .pre .0 .0 .width)
 
 -- the step of this turn
-this : (c : tie.In-loop Inv-loop μ-loop) → let a = c .before .before .before .before .before .before .before .args in StepAt (planOf (a .width) (a .width) (a .disk)) (c .before .loop .i)
+this : (c : tie.In-loop Inv-loop μ-loop) → let a = c .before .before .before .before .before .before .before .args in StepAt (planOf (a .width) (a .disks) (a .disk)) (c .before .loop .i)
 this c =
     let z = c .before .before .before .before .before .before .before in
-    step-at _ _ (omega (arith, plan-length (z .args .width) (z .args .width) (z .args .disk) (z .pre .0 .0 .width) (omega arith) (z .pre .0 .0 .disk)))
+    step-at _ _ (omega (arith, plan-length (z .args .width) (z .args .disks) (z .args .disk) (z .pre .0 .0 .width) (z .pre .0 .0 .disks) (z .pre .0 .0 .disk)))
 
 -- and where the arrays have it
 row : (c : tie.In-loop Inv-loop μ-loop) → getD (c .before .before .before .before .before .before .before .args .steps .rows) (c .before .loop .i) 0 ≡ this c .this .row
@@ -39,7 +39,7 @@ number : (c : tie.In-loop Inv-loop μ-loop) → getD (c .before .before .before 
 number c = ap (λ (x : List ℕ). getD x (c .before .loop .i) 0) (c .before .before .before .before .before .before .before .pre .0 .0 .held .numbers) ∙ this c .held (λ s. s .number)
 
 loop-holds : tie.Need-loop-holds Inv-loop μ-loop
-loop-holds c = stepping-start _ _ _ _ _ (c .before .before .before .before .before .pre .1 .1)
+loop-holds c = stepping-start _ _ _ _ _ _ (c .before .before .before .before .before .pre .1 .1)
 
 array-read-row : tie.Need-array-read-row Inv-loop μ-loop
 array-read-row c = omega (arith, small c)
@@ -65,11 +65,11 @@ rebuild-cell-requires c κs =
     let z = t .before .before .before .before .before .before .before in
     let a = z .args in
     let w = z .pre .0 .0 .width in
+    let most = z .pre .0 .0 .disks in
     let d = z .pre .0 .0 .disk in
-    let passed = plan-passed (a .width) (a .disk) (t .before .loop .i) w d (this t) (t .loop-test .taken) in
+    let passed = plan-passed (a .width) (a .disks) (a .disk) (t .before .loop .i) w most d (this t) (t .loop-test .taken) in
     record {
-      within = record { widest = small t; disks = omega arith; numbered = omega (arith, number t, plan-number (a .width) (a .width) (a .disk) (t .before .loop .i) w (omega arith) d (this t) (t .loop-test .taken)) };
-      odd = width-odd (a .width) w;
+      within = record { widest = small t; disks = most; numbered = omega (arith, number t, plan-number (a .width) (a .disks) (a .disk) (t .before .loop .i) w most d (this t) (t .loop-test .taken)) };
       rows = omega (arith, row t, passed .0);
       own = rw (row t, kind t, number t) (passed .1);
       disk = d;
@@ -90,7 +90,7 @@ loop-again c =
     let t = c .before .before .before .before in
     let l = t .before .loop in
     let a = t .before .before .before .before .before .before .before .args in
-    stepping-turn (a .width) (a .size) (a .disk) (a .stripe .now) (a .column .now) (l .column) (m .last .1 .1 .1 .1 .1 .1 .1 .0) (l .i) (this t) (t .loop-test .taken) (m .kept .1 .1 .1 .1 .1 .1 .1 .0) (rw (row t, kind t, number t) at (m .ensures)) (l .inv)
+    stepping-turn (a .width) (a .disks) (a .size) (a .disk) (a .stripe .now) (a .column .now) (l .column) (m .last .1 .1 .1 .1 .1 .1 .1 .1 .0) (l .i) (this t) (t .loop-test .taken) (m .kept .1 .1 .1 .1 .1 .1 .1 .1 .0) (rw (row t, kind t, number t) at (m .ensures)) (l .inv)
 
 same-length : tie.Need-same-length Inv-loop μ-loop
 same-length c = let z = c .before .before .before .before .before .before .before in c .before .loop .inv .long ∙ sym (z .pre .1 .1)
@@ -101,7 +101,7 @@ returns c =
     let k = c .before .before .before .before .before in
     let z = k .before .before in
     let a = z .args in
-    stepping-end (a .width) (a .size) (a .disk) (z .pre .0 .0 .width) (z .pre .0 .0 .disk) (a .stripe .now) (a .column .now) (l .column) (l .i) (omega arith) (z .pre .1 .0) (z .pre .1 .1)
+    stepping-end (a .width) (a .disks) (a .size) (a .disk) (z .pre .0 .0 .width) (z .pre .0 .0 .disks) (z .pre .0 .0 .disk) (a .stripe .now) (a .column .now) (l .column) (l .i) (omega arith) (z .pre .1 .0) (z .pre .1 .1)
     (bytes-all (a .stripe .now) (k .before .shared-slice-known .given)) (bytes-all (a .column .now) (k .slice-known .given)) (l .inv)
 
 pub follow-spec : {M : Type 1} → statement M

@@ -13,18 +13,18 @@ numbers-fault-requires : tie.Need-numbers-fault-requires
 numbers-fault-requires c κs = search needs
 
 -- past refusals 1, 2 and 3
-fine : (c : tie.Else1) → let a = c .before .before .args in numbersFault (a .width) (a .width) (a .size) (a .disk) ≡ 0
+fine : (c : tie.Else1) → let a = c .before .before .args in numbersFault (a .width) (a .disks) (a .size) (a .disk) ≡ 0
 fine c = sym (c .before .numbers-fault .ensures) ∙ c .if1 .left
 
 -- so the bytes can be counted
-most : (c : tie.Else1) → let a = c .before .before .args in (a .width ≤ 31) × (a .width * a .size ≤ 126976) × ((a .width + 2) * (a .width * a .size) ≤ 4190208)
-most c = let a = c .before .before .args in numbers-most (a .width) (a .width) (a .size) (a .disk) (omega arith) (fine c)
+most : (c : tie.Else1) → let a = c .before .before .args in (a .width ≤ 31) × (a .width * a .size ≤ 126976) × ((a .disks + 2) * (a .width * a .size) ≤ 4190208)
+most c = let o = c .before .before in let a = o .args in numbers-most (a .width) (a .disks) (a .size) (a .disk) (o .pre) (fine c)
 
 returns : tie.Need-returns
 returns c =
     let f = c .before .numbers-fault in
     let a = c .before .before .args in
-    first-kept (f .result) (numbersFault (a .width) (a .width) (a .size) (a .disk)) _ (f .ensures) (c .if1 .taken)
+    first-kept (f .result) (numbersFault (a .width) (a .disks) (a .size) (a .disk)) _ (f .ensures) (c .if1 .taken)
 
 add-length-fault : tie.Need-add-length-fault
 add-length-fault c = omega (arith, most c)
@@ -43,7 +43,7 @@ returns-2 c =
     let k = c .before in
     let e = k .before in
     let a = e .before .before .args in
-    first-next _ (numbersFault (a .width) (a .width) (a .size) (a .disk)) _ (fine e) (first-kept _ _ _ (k .length-fault .ensures) (c .if2 .taken))
+    first-next _ (numbersFault (a .width) (a .disks) (a .size) (a .disk)) _ (fine e) (first-kept _ _ _ (k .length-fault .ensures) (c .if2 .taken))
 
 mul-length-fault-3 : tie.Need-mul-length-fault-3
 mul-length-fault-3 c = omega (arith, most (c .before .before))
@@ -57,7 +57,7 @@ returns-3 c =
     let k = i .before in
     let e = k .before in
     let a = e .before .before .args in
-    first-next _ (numbersFault (a .width) (a .width) (a .size) (a .disk)) _ (fine e) (first-next _ _ _ (sym (k .length-fault .ensures) ∙ i .if2 .left) (c .length-fault2 .ensures))
+    first-next _ (numbersFault (a .width) (a .disks) (a .size) (a .disk)) _ (fine e) (first-next _ _ _ (sym (k .length-fault .ensures) ∙ i .if2 .left) (c .length-fault2 .ensures))
 
 pub one-fault-spec : {M : Type 1} → statement M
 one-fault-spec = tie.close (tie.spec numbers-fault-requires returns add-length-fault mul-length-fault mul-length-fault-2 length-fault-requires returns-2 mul-length-fault-3 length-fault-requires-2 returns-3)

@@ -1,57 +1,51 @@
--- `other_row`: a row set has one cell on the disk, and so has a diagonal set whose extra cell is elsewhere. Of two cells there, one is that of the row.
+-- `other_row`: a row set has one cell on the disk, and so has a diagonal set whose extra cell is elsewhere or absent. Of two cells there, one is that of the row.
+use mathlib.Core.Path.{_≡_, sym, _∙_}
 use native.Mathlib.Omega.{arith}
 use borrow.Author.Needs.{needs}
-use mathlib.Core.Path.{_≡_, sym, _∙_}
-use Prim.Native.Nat.{_≤_}
 use Rattle.liberation.specs.Sets.{extraDisk}
-use Rattle.liberation.proofs.SetLaws.{extra-range}
-use Rattle.rebuild_one.proofs.LostLaws.{alone-row, alone-first, alone-off, other-extra, other-ordinary}
+use Rattle.rebuild_one.proofs.LostLaws.{alone-row, alone-first, alone-parity, alone-off, other-extra, other-ordinary}
 use Rattle.rebuild_one.proofs.other_row.Statement.{statement}
 use Rattle.rebuild_one.proofs.other_row.Tie as tie
 
 returns : tie.Need-returns
-returns c = let o = c .before in let a = o .args in alone-row (a .width) (a .disk) (a .row) (a .kind) (a .number) (o .pre .0 .numbered) (o .pre .2) (o .pre .3) (c .if1 .taken)
+returns c = let o = c .before in let a = o .args in alone-row (a .width) (a .disks) (a .disk) (a .row) (a .kind) (a .number) (o .pre .0 .numbered) (o .pre .1) (o .pre .2) (c .if1 .taken)
 
 returns-2 : tie.Need-returns-2
-returns-2 c = let o = c .before .before in let a = o .args in alone-first (a .width) (a .disk) (a .row) (a .kind) (a .number) (o .pre .0 .numbered) (o .pre .2) (o .pre .3) (c .if2 .taken)
+returns-2 c = let o = c .before .before in let a = o .args in alone-first (a .width) (a .disks) (a .disk) (a .row) (a .kind) (a .number) (o .pre .0 .numbered) (o .pre .1) (o .pre .2) (c .if2 .taken)
 
 returns-3 : tie.Need-returns-3
-returns-3 c =
-    let e = c .before .extra-disk in
-    let o = c .before .before .before .before in
-    let a = o .args in
-    alone-off (a .width) (a .disk) (a .row) (a .kind) (a .number) (o .pre .0 .numbered) (o .pre .2) (o .pre .3) (λ q. c .if3 .taken (e .ensures ∙ q))
-
--- the extra cell is on the lost disk
-on : (c : tie.Else3) → let a = c .before .before .before .before .args in extraDisk (a .width) (a .number) ≡ a .disk
-on c = sym (c .before .extra-disk .ensures) ∙ c .if3 .left
+returns-3 c = let o = c .before .before .before in let a = o .args in alone-parity (a .width) (a .disks) (a .disk) (a .row) (a .kind) (a .number) (o .pre .0 .numbered) (o .pre .1) (o .pre .2) (c .if3 .taken)
 
 returns-4 : tie.Need-returns-4
 returns-4 c =
-    let f = c .before .before .before in
-    let o = f .before .before in
+    let e = c .before .extra-disk in
+    let o = c .before .before .before .before .before in
     let a = o .args in
-    other-extra (a .width) (a .disk) (a .row) (a .kind) (a .number) (o .pre .0 .numbered) (o .pre .2) (o .pre .3) (o .pre .1) (f .before .if1 .left) (f .if2 .left) (on (c .before)) (c .if4 .taken)
+    alone-off (a .width) (a .disks) (a .disk) (a .row) (a .kind) (a .number) (o .pre .0 .numbered) (o .pre .1) (o .pre .2) (λ q. c .if4 .taken (e .ensures ∙ q))
 
--- which is a data disk
-low : (c : tie.Else4) → let a = c .before .before .before .before .before .args in a .disk ≤ a .width
-low c =
-    let f = c .before .before .before in
-    let o = f .before .before in
-    let a = o .args in
-    let h : 1 ≤ a .number = omega arith in
-    omega (arith, on (c .before), extra-range (a .width) (a .number) (o .pre .1) h (o .pre .0 .numbered))
-
-row-on-requires : tie.Need-row-on-requires
-row-on-requires c κs = let o = c .before .before .before .before .before in (o .pre .0 .widest, o .pre .0 .numbered, omega (arith, low c))
+-- the extra cell is on the lost disk, a data disk
+on : (c : tie.Else4) → let a = c .before .before .before .before .before .args in extraDisk (a .width) (a .number) ≡ a .disk
+on c = sym (c .before .extra-disk .ensures) ∙ c .if4 .left
 
 returns-5 : tie.Need-returns-5
 returns-5 c =
-    let d = c .before in
-    let f = d .before .before .before in
+    let g = c .before .before .before in
+    let f = g .before in
     let o = f .before .before in
     let a = o .args in
-    other-ordinary (a .width) (a .disk) (a .row) (a .kind) (a .number) (o .pre .0 .numbered) (o .pre .2) (o .pre .3) (o .pre .1) (f .before .if1 .left) (f .if2 .left) (on (d .before)) (c .row-on .result) (d .if4 .left) (c .row-on .ensures (low d))
+    other-extra (a .width) (a .disks) (a .disk) (a .row) (a .kind) (a .number) (o .pre .0 .numbered) (o .pre .1) (o .pre .2) (f .before .if1 .left) (f .if2 .left) (g .if3 .left) (on (c .before)) (c .if5 .taken)
+
+row-on-requires : tie.Need-row-on-requires
+row-on-requires c κs = let o = c .before .before .before .before .before .before in (o .pre .0 .widest, o .pre .0 .numbered, omega (arith, o .pre .0 .disks))
+
+returns-6 : tie.Need-returns-6
+returns-6 c =
+    let d = c .before in
+    let g = d .before .before .before in
+    let f = g .before in
+    let o = f .before .before in
+    let a = o .args in
+    other-ordinary (a .width) (a .disks) (a .disk) (a .row) (a .kind) (a .number) (o .pre .0 .numbered) (o .pre .1) (o .pre .2) (f .before .if1 .left) (f .if2 .left) (g .if3 .left) (on (d .before)) (c .row-on .result) (d .if5 .left) (c .row-on .ensures (omega (arith, o .pre .0 .disks)))
 
 pub other-row-spec : {M : Type 1} → statement M
 other-row-spec =
@@ -59,10 +53,11 @@ other-row-spec =
     (tie.spec
     returns
     returns-2
-    (λ c κs. search needs)
     returns-3
-    (λ c. search needs)
-    (λ c. search needs)
+    (λ c κs. search needs)
     returns-4
+    (λ c. search needs)
+    (λ c. search needs)
+    returns-5
     row-on-requires
-    returns-5)
+    returns-6)

@@ -1,6 +1,7 @@
 -- `rebuild_column`: our plan is made, which is not refused, and followed.
 use mathlib.Core.Path.{sym, subst}
 use mathlib.Core.List.{List, []}
+use native.Mathlib.Omega.{arith}
 use lib.ListN.{length}
 use Rattle.laws.proofs.ChoiceLaws.{pick-done}
 use Rattle.liberation.specs.Sets.{planFault}
@@ -13,8 +14,8 @@ use Rattle.rebuild_one.proofs.rebuild_column.Statement.{statement}
 use Rattle.rebuild_one.proofs.rebuild_column.Tie as tie
 
 -- all is within the limits
-fit : (c : tie.Start) → let a = c .args in Fit (a .width) (a .size) (a .disk) (length (a .stripe .now)) (length (a .column .now))
-fit c = let a = c .args in fault-none (a .width) (a .size) (a .disk) (length (a .stripe .now)) (length (a .column .now)) (c .pre)
+fit : (c : tie.Start) → let a = c .args in Fit (a .width) (a .width) (a .size) (a .disk) (length (a .stripe .now)) (length (a .column .now))
+fit c = let a = c .args in fault-none (a .width) (a .width) (a .size) (a .disk) (length (a .stripe .now)) (length (a .column .now)) (omega arith) (c .pre)
 
 plan-steps-requires : tie.Need-plan-steps-requires
 plan-steps-requires c κs = search needs
@@ -28,7 +29,7 @@ follow-requires c κs =
     let ours : List Step = planOf (a .width) (a .width) (a .disk) in
     let none = plan-none (a .width) (a .width) (a .disk) (q .width) (q .disk) in
     let planned = sym (pick-done (planFault (a .width) (a .width) (a .disk)) ours [] none) in
-    ((record { width = q .width; disk = q .disk; held = subst (λ (ss : List Step). Holds ss (d .plan-steps .result .steps)) planned (d .plan-steps .ensures .steps) }, q .small), (q .stripe, q .column))
+    ((record { width = q .width; disks = q .disks; disk = q .disk; held = subst (λ (ss : List Step). Holds ss (d .plan-steps .result .steps)) planned (d .plan-steps .ensures .steps) }, q .small), (q .stripe, q .column))
 
 same-length : tie.Need-same-length
 same-length c = search needs

@@ -11,7 +11,7 @@ use Rattle.runs.proofs.step_fault.Statement.{statement}
 use Rattle.runs.proofs.step_fault.Tie as tie
 
 -- past the refusals of the rebuild
-fine : (c : tie.Else1) → let a = c .before .before .args in lengthsFault (a .run .width) (a .run .size) (a .run .disk) (a .stripe) (a .column) ≡ 0
+fine : (c : tie.Else1) → let a = c .before .before .args in lengthsFault (a .run .width) (a .run .width) (a .run .size) (a .run .disk) (a .stripe) (a .column) ≡ 0
 fine c = sym (c .before .one-fault .ensures) ∙ c .if1 .left
 
 one-fault-requires : tie.Need-one-fault-requires
@@ -21,7 +21,7 @@ returns : tie.Need-returns
 returns c =
     let f = c .before .one-fault in
     let a = c .before .before .args in
-    first-kept (f .result) (lengthsFault (a .run .width) (a .run .size) (a .run .disk) (a .stripe) (a .column)) (nextFault (a .run) (a .which)) (f .ensures) (c .if1 .taken)
+    first-kept (f .result) (lengthsFault (a .run .width) (a .run .width) (a .run .size) (a .run .disk) (a .stripe) (a .column)) (nextFault (a .run) (a .which)) (f .ensures) (c .if1 .taken)
 
 returns-2 : tie.Need-returns-2
 returns-2 c =
