@@ -16,8 +16,10 @@ use Rattle.laws.proofs.Flags.{and-l, and-r, and-i, flag, same-flag}
 use Rattle.laws.proofs.Modulo.{lt-or-le}
 use Rattle.laws.proofs.MemberLaws.{same-true, same-self}
 use Rattle.liberation.specs.Sets.{widthFault, diskFault}
-use Rattle.plan_text.specs.Text.{namesLine, digitsOf, inputOf, valueTo, firstValue, afterFirst, secondValue, isForm, inputFault, planText, refusedLine, printed}
-use Rattle.plan_text.proofs.TextLaws.{one-digit, two-digits, field-most, input-fields}
+use Rattle.text.specs.Fields.{digitsOf}
+use Rattle.text.proofs.FieldLaws.{one-digit, two-digits, field-most}
+use Rattle.plan_text.specs.Text.{namesLine, inputOf, valueTo, firstValue, afterFirst, secondValue, isForm, inputFault, planText, refusedLine, printed}
+use Rattle.plan_text.proofs.TextLaws.{input-fields}
 
 -- what the three tests of the code say of the form
 pub no-form-first : (t : List ℕ) → 100 ≤ firstValue t → isForm t ≡ false

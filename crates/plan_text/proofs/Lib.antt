@@ -1,5 +1,4 @@
 -- Laws of the printed plan.
-pub mod WriteLaws
 pub mod TextLaws
 pub mod FormLaws
 pub mod NewLaws

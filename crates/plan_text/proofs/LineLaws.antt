@@ -20,8 +20,8 @@ use Rattle.planner.specs.Records.{Holds}
 use Rattle.planner.proofs.MarkingLoop.{surviving-few}
 use Rattle.liberation.proofs.RecordLaws.{StepAt, step-at, plan-length, plan-number}
 use Rattle.plan_text.specs.Text.{lineOf, newFrom, linesFrom}
-use Rattle.plan_text.specs.Writing.{Wrote}
-use Rattle.plan_text.proofs.WriteLaws.{wrote-none, wrote-more}
+use Rattle.text.specs.Writing.{Wrote}
+use Rattle.text.proofs.WriteLaws.{wrote-none, wrote-more}
 use Rattle.plan_text.proofs.TextLaws.{line-most}
 
 -- the row of a step of our plan

@@ -10,10 +10,10 @@ use lib.Seq.{take-at}
 use Rattle.laws.specs.Choice.{when, firstOf}
 use Rattle.liberation.specs.Sets.{isWidth, planFault}
 use Rattle.plan_text.specs.Text.{firstValue, secondValue, isForm, planText, refusedLine}
-use Rattle.plan_text.specs.Writing.{Wrote}
+use Rattle.text.specs.Writing.{Wrote}
 use Rattle.plan_text.specs.Says.{TextIs, TextSays}
 use Rattle.plan_text.specs.declared.Text.{Text}
-use Rattle.plan_text.proofs.WriteLaws.{wrote-zeros}
+use Rattle.text.proofs.WriteLaws.{wrote-zeros}
 use Rattle.plan_text.proofs.FormLaws.{form-fault, no-form-printed, printed-refusal, printed-plan}
 
 pub text-holds : {o o₁ : List ℕ} {r : ℕ} {t : List ℕ} → o ≡ replicate 458 0 → Wrote o o₁ 0 r t → TextIs t (record { bytes = o₁; length = r })

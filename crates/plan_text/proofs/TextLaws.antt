@@ -1,65 +1,35 @@
--- The pieces that the writers put, joined to the texts of the definitions, and how long these can be.
+-- The pieces that the writers put, joined to the texts of the definitions, how long a line can be, and the numbers of an input by its bytes.
 use mathlib.Core.Path.{_≡_, sym, ap, ap₂, _∙_}
-use mathlib.Core.Bool.{Bool, true, false}
+use mathlib.Core.Bool.{Bool}
 use mathlib.Core.List.{List, [], _∷_, _++_, append-assoc}
-use Prim.Native.Nat.{ℕ, _+_, _-_, _*_, _/_, _%_, _≤_, _<_}
+use Prim.Native.Nat.{ℕ, _+_, _-_, _*_, _≤_}
 use native.Mathlib.Omega.{arith}
-use lib.Dec.{eqb, ltb}
+use lib.Dec.{eqb}
 use lib.ListN.{length, getD, drop, length-append}
 use lib.Seq.{getD-drop}
-use borrow.Author.Tests.{lt-ltb, le-ltb, eq-eqb, ne-eqb}
+use borrow.Author.Tests.{eq-eqb, ne-eqb}
 use Rattle.laws.specs.Choice.{pick}
 use Rattle.liberation.specs.Plans.{Step, step}
-use Rattle.plan_text.specs.Text.{digitsOf, letterOf, lineOf, namesLine, inputOf, valueTo, secondValue}
+use Rattle.text.specs.Fields.{digitsOf, stepFields}
+use Rattle.text.proofs.FieldLaws.{field-most, step-most}
+use Rattle.plan_text.specs.Text.{lineOf, namesLine, inputOf, valueTo, secondValue}
 
--- one digit, or two
-pub one-digit : (n : ℕ) → n < 10 → (48 + n) ∷ [] ≡ digitsOf n
-one-digit n h = sym (ap (λ (b : Bool). pick b ((48 + n) ∷ []) ((48 + n / 10) ∷ ((48 + n % 10) ∷ []))) (lt-ltb n 10 h))
-
-pub two-digits : (n : ℕ) → 10 ≤ n → (48 + n / 10) ∷ ((48 + n % 10) ∷ []) ≡ digitsOf n
-two-digits n h = sym (ap (λ (b : Bool). pick b ((48 + n) ∷ []) ((48 + n / 10) ∷ ((48 + n % 10) ∷ []))) (le-ltb n 10 h))
-
-pub digits-most : (n : ℕ) → length (digitsOf n) ≤ 2
-digits-most n = go (ltb n 10)
-  where
-    go : (b : Bool) → length (pick b ((48 + n) ∷ []) ((48 + n / 10) ∷ ((48 + n % 10) ∷ []))) ≤ 2
-    go true = omega arith
-    go false = omega arith
-
--- a number and the byte after it
-pub field-most : (n stop : ℕ) → length (digitsOf n ++ (stop ∷ [])) ≤ 3
-field-most n stop = omega (arith, length-append (digitsOf n) (stop ∷ []), digits-most n)
-
--- R or D
-pub letter-row : (kind : ℕ) → kind ≡ 0 → 82 ∷ (44 ∷ []) ≡ letterOf kind ∷ (44 ∷ [])
-letter-row kind e = sym (ap (λ (b : Bool). pick b 82 68 ∷ (44 ∷ [])) (eq-eqb kind 0 e))
-
-pub letter-diagonal : (kind : ℕ) → (kind ≡ 0 → ⊥) → 68 ∷ (44 ∷ []) ≡ letterOf kind ∷ (44 ∷ [])
-letter-diagonal kind n = sym (ap (λ (b : Bool). pick b 82 68 ∷ (44 ∷ [])) (ne-eqb kind 0 n))
-
--- the fields of a line, of the refusal, of the input
-pub line-fields :
-    (i row kind number new : ℕ)
-    → (((digitsOf i ++ (44 ∷ [])) ++ (digitsOf row ++ (44 ∷ []))) ++ (letterOf kind ∷ (44 ∷ []))) ++ (digitsOf number ++ (44 ∷ [])) ++ (digitsOf new ++ (10 ∷ [])) ≡ lineOf i (step row kind number) new
+-- the fields of a line, of the input
+pub line-fields : (i row kind number new : ℕ) → ((digitsOf i ++ (44 ∷ [])) ++ stepFields row kind number 44) ++ (digitsOf new ++ (10 ∷ [])) ≡ lineOf i (step row kind number) new
 line-fields i row kind number new = simp append-assoc
 
 pub line-most : (i : ℕ) (s : Step) (new : ℕ) → length (lineOf i s new) ≤ 14
 line-most i s new =
     let a : List ℕ = digitsOf i ++ (44 ∷ []) in
-    let b : List ℕ = digitsOf (s .row) ++ (44 ∷ []) in
-    let c : List ℕ = letterOf (s .kind) ∷ (44 ∷ []) in
-    let d : List ℕ = digitsOf (s .number) ++ (44 ∷ []) in
-    let e : List ℕ = digitsOf new ++ (10 ∷ []) in
+    let b : List ℕ = stepFields (s .row) (s .kind) (s .number) 44 in
+    let c : List ℕ = digitsOf new ++ (10 ∷ []) in
     omega (
       arith,
       ap length (sym (line-fields i (s .row) (s .kind) (s .number) new)),
-      length-append (((a ++ b) ++ c) ++ d) e,
-      length-append ((a ++ b) ++ c) d,
       length-append (a ++ b) c,
       length-append a b,
       field-most i 44,
-      field-most (s .row) 44,
-      field-most (s .number) 44,
+      step-most (s .row) (s .kind) (s .number) 44,
       field-most new 10,
     )
 

@@ -1,4 +1,3 @@
 -- The printed plan.
 pub mod Text
-pub mod Writing
 pub mod Says

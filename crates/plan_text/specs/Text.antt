@@ -8,6 +8,7 @@ use Rattle.laws.specs.Choice.{pick, firstOf}
 use Rattle.laws.specs.Lists.{same, added}
 use Rattle.liberation.specs.Sets.{setOf, survivingIn, widthFault, diskFault}
 use Rattle.liberation.specs.Plans.{Step, planOf}
+use Rattle.text.specs.Fields.{digitsOf, stepFields}
 
 -- fixed byte strings, each line ended by LF: `p,lost` and `step,row,set,number,new`; `refused,`
 abbrev pub namesLine : List ℕ
@@ -20,10 +21,6 @@ headLine =
 
 abbrev pub refusedWord : List ℕ
 refusedWord = 114 ∷ (101 ∷ (102 ∷ (117 ∷ (115 ∷ (101 ∷ (100 ∷ (44 ∷ [])))))))
-
--- a number below 100 in decimal, no leading zero except 0 itself
-abbrev pub digitsOf : ℕ → List ℕ
-digitsOf n = pick (ltb n 10) ((48 + n) ∷ []) ((48 + n / 10) ∷ ((48 + n % 10) ∷ []))
 
 -- the input for width a and lost disk b
 abbrev pub inputOf : ℕ → ℕ → List ℕ
@@ -47,13 +44,9 @@ secondValue t = valueTo 10 (afterFirst t)
 unfoldable pub isForm : List ℕ → Bool
 isForm t = ltb (firstValue t) 100 && (ltb (secondValue t) 100 && same t (inputOf (firstValue t) (secondValue t)))
 
--- "R or D"
-abbrev pub letterOf : ℕ → ℕ
-letterOf kind = pick (eqb kind 0) 82 68
-
 -- a line: step, row, set, number, new
 abbrev pub lineOf : ℕ → Step → ℕ → List ℕ
-lineOf i s new = digitsOf i ++ (44 ∷ (digitsOf (s .row) ++ (44 ∷ (letterOf (s .kind) ∷ (44 ∷ (digitsOf (s .number) ++ (44 ∷ (digitsOf new ++ (10 ∷ [])))))))))
+lineOf i s new = digitsOf i ++ (44 ∷ (stepFields (s .row) (s .kind) (s .number) 44 ++ (digitsOf new ++ (10 ∷ []))))
 
 -- the column `new`, step by step: "cells no earlier step read"; ys are the cells that the steps before these read
 unfoldable pub newFrom : ℕ → ℕ → List ℕ → List Step → List ℕ

@@ -1,14 +1,14 @@
 // The printed plan as text: the input's form, the plan's lines or a refusal.
 ghost use mathlib.Core.Path.{_≡_};
 ghost use mathlib.Core.Bool.{true};
-ghost use mathlib.Core.List.{[], _∷_, _++_};
+ghost use mathlib.Core.List.{[]};
 ghost use Prim.Native.Nat.{_+_, _-_, _*_, _≤_, _<_};
 ghost use lib.ListN.{length, getD, drop, replicate};
 ghost use Rattle.liberation.specs.Sets.{isWidth};
 ghost use Rattle.liberation.specs.Plans.{step, planOf, marksFrom};
 ghost use Rattle.planner.specs.Records.{Holds};
-ghost use Rattle.plan_text.specs.Text.{digitsOf, letterOf, lineOf, newFrom, linesFrom, planText, refusedLine, inputOf, valueTo, firstValue, secondValue, isForm};
-ghost use Rattle.plan_text.specs.Writing.{Wrote};
+ghost use Rattle.text.specs.Writing.{Wrote};
+ghost use Rattle.plan_text.specs.Text.{lineOf, newFrom, linesFrom, planText, refusedLine, inputOf, valueTo, firstValue, secondValue, isForm};
 ghost use Rattle.plan_text.specs.Says.{TextIs, TextSays};
 use planner::Steps;
 
@@ -19,62 +19,7 @@ pub struct Text {
     pub length: usize,
 }
 
-// Puts one byte at a place, and says where it ends, as every function does that puts something.
-fn put_byte(out: &mut [u8], at: usize, byte: u8) -> usize
-    requires { ⌜ at < length (now out) ⌝ }
-    ensures { λ r. ⌜ Wrote (now (out .entry)) (now (out .exit)) at r (byte ∷ []) ⌝ }
-{
-    out[at] = byte;
-    at + 1
-}
-
-// Puts a text.
-fn put(out: &mut [u8], at: usize, text: &[u8]) -> usize
-    requires { ⌜ at + length (now text) ≤ length (now out) ⌝ }
-    ensures { λ r. ⌜ Wrote (now (out .entry)) (now (out .exit)) at r (now (text .entry)) ⌝ }
-{
-    let mut i = 0;
-    while i < text.len() {
-        out[at + i] = text[i];
-        i += 1;
-    }
-    at + i
-}
-
-// Puts a number below 100 in decimal.
-fn put_number(out: &mut [u8], at: usize, n: usize) -> usize
-    requires { ⌜ (n < 100) × (at + 2 ≤ length (now out)) ⌝ }
-    ensures { λ r. ⌜ Wrote (now (out .entry)) (now (out .exit)) at r (digitsOf n) ⌝ }
-{
-    if n < 10 {
-        return put_byte(out, at, 48 + n as u8);
-    }
-    let next = put_byte(out, at, 48 + (n / 10) as u8);
-    put_byte(out, next, 48 + (n % 10) as u8)
-}
-
-// Puts a number and the byte that ends its field.
-fn put_field(out: &mut [u8], at: usize, n: usize, stop: u8) -> usize
-    requires { ⌜ (n < 100) × (at + 3 ≤ length (now out)) ⌝ }
-    ensures { λ r. ⌜ Wrote (now (out .entry)) (now (out .exit)) at r (digitsOf n ++ (stop ∷ [])) ⌝ }
-{
-    let next = put_number(out, at, n);
-    put_byte(out, next, stop)
-}
-
-// Puts the letter of a set's kind and a comma.
-fn put_kind(out: &mut [u8], at: usize, kind: usize) -> usize
-    requires { ⌜ at + 2 ≤ length (now out) ⌝ }
-    ensures { λ r. ⌜ Wrote (now (out .entry)) (now (out .exit)) at r (letterOf kind ∷ (44 ∷ [])) ⌝ }
-{
-    if kind == 0 {
-        put(out, at, b"R,")
-    } else {
-        put(out, at, b"D,")
-    }
-}
-
-// Puts the line of a step.
+// Puts the line of a step, and says where it ends, as every function does that puts something.
 fn put_line(
     out: &mut [u8],
     at: usize,
@@ -87,11 +32,9 @@ fn put_line(
     requires { ⌜ (index < 100) × (row < 100) × (number < 100) × (new < 100) × (at + 14 ≤ length (now out)) ⌝ }
     ensures { λ r. ⌜ Wrote (now (out .entry)) (now (out .exit)) at r (lineOf index (step row kind number) new) ⌝ }
 {
-    let second = put_field(out, at, index, 44);
-    let third = put_field(out, second, row, 44);
-    let fourth = put_kind(out, third, kind);
-    let fifth = put_field(out, fourth, number, 44);
-    put_field(out, fifth, new, 10)
+    let fields = text::put_field(out, at, index, 44);
+    let last = text::put_step(out, fields, row, kind, number, 44);
+    text::put_field(out, last, new, 10)
 }
 
 // Puts the line of a refusal.
@@ -99,8 +42,8 @@ fn put_refusal(out: &mut [u8], at: usize, number: usize) -> usize
     requires { ⌜ (number < 100) × (at + 11 ≤ length (now out)) ⌝ }
     ensures { λ r. ⌜ Wrote (now (out .entry)) (now (out .exit)) at r (refusedLine number) ⌝ }
 {
-    let next = put(out, at, b"refused,");
-    put_field(out, next, number, 10)
+    let next = text::put(out, at, b"refused,");
+    text::put_field(out, next, number, 10)
 }
 
 // Puts the input for two numbers.
@@ -108,9 +51,9 @@ fn put_input(out: &mut [u8], at: usize, first: usize, second: usize) -> usize
     requires { ⌜ (first < 100) × (second < 100) × (at + 13 ≤ length (now out)) ⌝ }
     ensures { λ r. ⌜ Wrote (now (out .entry)) (now (out .exit)) at r (inputOf first second) ⌝ }
 {
-    let values = put(out, at, b"p,lost\n");
-    let comma = put_field(out, values, first, 44);
-    put_field(out, comma, second, 10)
+    let values = text::put(out, at, b"p,lost\n");
+    let comma = text::put_field(out, values, first, 44);
+    text::put_field(out, comma, second, 10)
 }
 
 // The byte at a place, 0 past the end.
@@ -207,7 +150,7 @@ fn put_plan(out: &mut [u8], at: usize, width: usize, disk: usize, steps: Steps) 
     requires { ⌜ (isWidth width ≡ true) × (disk ≤ width + 1) × Holds (planOf width width disk) steps × (at + 458 ≤ length (now out)) ⌝ }
     ensures { λ r. ⌜ Wrote (now (out .entry)) (now (out .exit)) at r (planText width disk) ⌝ }
 {
-    let lines = put(out, at, b"step,row,set,number,new\n");
+    let lines = text::put(out, at, b"step,row,set,number,new\n");
     let n = width * (width + 2);
     let mut marks = sets::no_marks();
     put_steps(out, lines, width, disk, steps, &mut marks[..n])

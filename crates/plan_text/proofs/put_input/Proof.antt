@@ -1,8 +1,9 @@
 -- `put_input`: the names line and the two numbers, one behind the other, are the input.
 use native.Mathlib.Omega.{arith}
 use borrow.Author.Needs.{needs}
-use Rattle.plan_text.proofs.WriteLaws.{wrote-more, wrote-same}
-use Rattle.plan_text.proofs.TextLaws.{input-fields, field-most}
+use Rattle.text.proofs.WriteLaws.{wrote-more, wrote-same}
+use Rattle.text.proofs.FieldLaws.{field-most}
+use Rattle.plan_text.proofs.TextLaws.{input-fields}
 use Rattle.plan_text.proofs.put_input.Tie as tie
 use Rattle.plan_text.proofs.put_input.Statement.{statement}
 

@@ -9,7 +9,7 @@ use borrow.Author.Needs.{needs}
 use Rattle.liberation.proofs.Widths.{width-most}
 use Rattle.liberation.proofs.MarkLists.{length-marks, take-marks, cells-most}
 use Rattle.plan_text.specs.Text.{planText}
-use Rattle.plan_text.proofs.WriteLaws.{wrote-more, wrote-long}
+use Rattle.text.proofs.WriteLaws.{wrote-more, wrote-long}
 use Rattle.plan_text.proofs.put_plan.Tie as tie
 use Rattle.plan_text.proofs.put_plan.Statement.{statement}
 

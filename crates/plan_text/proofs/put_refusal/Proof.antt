@@ -1,6 +1,6 @@
 -- `put_refusal`: the word, then the number on the same line.
 use borrow.Author.Needs.{needs}
-use Rattle.plan_text.proofs.WriteLaws.{wrote-more}
+use Rattle.text.proofs.WriteLaws.{wrote-more}
 use Rattle.plan_text.proofs.put_refusal.Tie as tie
 use Rattle.plan_text.proofs.put_refusal.Statement.{statement}
 

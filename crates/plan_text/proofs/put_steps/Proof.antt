@@ -9,7 +9,7 @@ use Rattle.liberation.specs.Plans.{planOf}
 use Rattle.liberation.proofs.Widths.{width-most}
 use Rattle.liberation.proofs.MarkLists.{length-marks}
 use Rattle.liberation.proofs.RecordLaws.{plan-length}
-use Rattle.plan_text.proofs.WriteLaws.{wrote-long}
+use Rattle.text.proofs.WriteLaws.{wrote-long}
 use Rattle.plan_text.proofs.LineLaws.{PlanStep, plan-step, new-few, Printing, printing-start, printing-turn, printing-end}
 use Rattle.plan_text.proofs.put_steps.Tie as tie
 use Rattle.plan_text.proofs.put_steps.Statement.{statement}

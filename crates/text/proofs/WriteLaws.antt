@@ -7,7 +7,7 @@ use native.Mathlib.Omega.{arith}
 use lib.ListN.{length, getD, take, drop, set, replicate, length-append, length-drop, take-append-drop}
 use lib.Seq.{length-take-le, set-split, append-snoc, take-at, drop-at, drop-drop, take-length, paste, paste-suc}
 use Rattle.laws.proofs.LengthLaws.{drop-replicate}
-use Rattle.plan_text.specs.Writing.{Wrote}
+use Rattle.text.specs.Writing.{Wrote}
 
 -- one byte
 pub wrote-byte : (o : List ℕ) (at b : ℕ) → at < length o → Wrote o (set o at b) at (at + 1) (b ∷ [])

@@ -1,9 +1,9 @@
 -- `put_number`: one digit below 10, else two, one behind the other.
 use borrow.Author.Needs.{needs}
-use Rattle.plan_text.proofs.WriteLaws.{wrote-same, wrote-more}
-use Rattle.plan_text.proofs.TextLaws.{one-digit, two-digits}
-use Rattle.plan_text.proofs.put_number.Tie as tie
-use Rattle.plan_text.proofs.put_number.Statement.{statement}
+use Rattle.text.proofs.WriteLaws.{wrote-same, wrote-more}
+use Rattle.text.proofs.FieldLaws.{one-digit, two-digits}
+use Rattle.text.proofs.put_number.Tie as tie
+use Rattle.text.proofs.put_number.Statement.{statement}
 
 cast-put-byte : tie.Need-cast-put-byte
 cast-put-byte c = search needs

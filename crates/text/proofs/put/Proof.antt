@@ -5,9 +5,9 @@ use native.Mathlib.Omega.{arith}
 use lib.ListN.{length}
 use lib.Seq.{paste, paste-zero, length-paste}
 use borrow.Author.Needs.{needs}
-use Rattle.plan_text.proofs.WriteLaws.{copied-more, copied-all}
-use Rattle.plan_text.proofs.put.Tie as tie
-use Rattle.plan_text.proofs.put.Statement.{statement}
+use Rattle.text.proofs.WriteLaws.{copied-more, copied-all}
+use Rattle.text.proofs.put.Tie as tie
+use Rattle.text.proofs.put.Statement.{statement}
 
 abbrev Inv-loop : tie.InvT-loop
 Inv-loop out₀ at text i₀ out i = (i ≤ length text) × (out ≡ paste out₀ at text i)

@@ -1,10 +1,10 @@
 -- `put_field`: the digits, of which there are at most two, and the byte behind them.
 use native.Mathlib.Omega.{arith}
 use borrow.Author.Needs.{needs}
-use Rattle.plan_text.proofs.WriteLaws.{wrote-more}
-use Rattle.plan_text.proofs.TextLaws.{digits-most}
-use Rattle.plan_text.proofs.put_field.Tie as tie
-use Rattle.plan_text.proofs.put_field.Statement.{statement}
+use Rattle.text.proofs.WriteLaws.{wrote-more}
+use Rattle.text.proofs.FieldLaws.{digits-most}
+use Rattle.text.proofs.put_field.Tie as tie
+use Rattle.text.proofs.put_field.Statement.{statement}
 
 put-number-requires : tie.Need-put-number-requires
 put-number-requires c κs = search needs

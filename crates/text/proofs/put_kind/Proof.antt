@@ -1,9 +1,9 @@
 -- `put_kind`: `R,` for a row set, else `D,`.
 use borrow.Author.Needs.{needs}
-use Rattle.plan_text.proofs.WriteLaws.{wrote-same}
-use Rattle.plan_text.proofs.TextLaws.{letter-row, letter-diagonal}
-use Rattle.plan_text.proofs.put_kind.Tie as tie
-use Rattle.plan_text.proofs.put_kind.Statement.{statement}
+use Rattle.text.proofs.WriteLaws.{wrote-same}
+use Rattle.text.proofs.FieldLaws.{letter-row, letter-diagonal}
+use Rattle.text.proofs.put_kind.Tie as tie
+use Rattle.text.proofs.put_kind.Statement.{statement}
 
 slice-aggregate-put : tie.Need-slice-aggregate-put
 slice-aggregate-put c = search needs

@@ -1,8 +1,8 @@
 -- `put_byte`: one byte stored is the piece of that byte.
 use borrow.Author.Needs.{needs}
-use Rattle.plan_text.proofs.WriteLaws.{wrote-byte}
-use Rattle.plan_text.proofs.put_byte.Tie as tie
-use Rattle.plan_text.proofs.put_byte.Statement.{statement}
+use Rattle.text.proofs.WriteLaws.{wrote-byte}
+use Rattle.text.proofs.put_byte.Tie as tie
+use Rattle.text.proofs.put_byte.Statement.{statement}
 
 slice-write-out : tie.Need-slice-write-out
 slice-write-out c = search needs
