@@ -8,10 +8,11 @@ use Prim.Native.Nat.{ℕ, zero, suc, _+_, _-_, _*_, _%_, _≤_, _<_}
 use native.Mathlib.Nat.{mod-lt}
 use native.Mathlib.Omega.{arith}
 use lib.Dec.{eqb, ltb, leb}
-use borrow.Author.Tests.{eqb-true, eqb-false, eq-eqb, ne-eqb, leb-true, le-leb, ltb-true, lt-ltb}
+use borrow.Author.Tests.{eqb-true, eq-eqb, ne-eqb, leb-true, le-leb, ltb-true, lt-ltb}
 use Rattle.laws.specs.Choice.{pick}
 use Rattle.laws.specs.Lists.{isIn}
-use Rattle.laws.proofs.Flags.{flag, and-l, and-r, and-i, or-cases, same-flag}
+use Rattle.laws.proofs.Flags.{and-l, and-r, and-i, or-cases, same-flag}
+use Rattle.laws.proofs.OrderLaws.{eq-or-lt}
 use Rattle.laws.proofs.TestLaws.{eqb-sym}
 use Rattle.liberation.specs.Sets.{place, rowAt, diskAt, rowFrom, rowSet, diagonalFrom, ordinary, extraRow, extraDisk, extraOf, hasExtra, diagonalSet, lostIn, survivingIn}
 use Rattle.liberation.specs.Plans.{secondRow, extraRowOn}
@@ -140,11 +141,8 @@ row-off (suc n) p i d c h o = lost-off p c i d (rowFrom n p i (suc d)) h (off-fi
 row-from : (n p i d c : ℕ) → i < p → d ≤ c → c < d + n → lostIn p c (rowFrom n p i d) ≡ i ∷ []
 unfolding rowFrom
 row-from zero p i d c h l m = absurd (omega arith)
-row-from (suc n) p i d c h l m = ⊎-elim (λ e. here (eqb-true d c e)) (λ e. lost-off p c i d (rowFrom n p i (suc d)) h (eqb-false d c e) ∙ row-from n p i (suc d) c h (later (eqb-false d c e)) (omega arith)) (flag (eqb d c))
+row-from (suc n) p i d c h l m = ⊎-elim here (λ g. lost-off p c i d (rowFrom n p i (suc d)) h (λ e. omega arith) ∙ row-from n p i (suc d) c h g (omega arith)) (eq-or-lt d c l)
   where
-    later : (d ≡ c → ⊥) → suc d ≤ c
-    later q = omega arith
-
     here : d ≡ c → lostIn p c (place p i d ∷ rowFrom n p i (suc d)) ≡ i ∷ []
     here e = ap (λ (x : ℕ). lostIn p c (place p i x ∷ rowFrom n p i (suc d))) e ∙ lost-here p c i (rowFrom n p i (suc d)) h ∙ ap (λ (l : List ℕ). i ∷ l) (row-off n p i (suc d) c h (inl (omega arith)))
 
@@ -166,11 +164,8 @@ diagonal-from : (n p z d c : ℕ) → 0 < p → d ≤ c → c < d + n → lostIn
 unfolding diagonalFrom
 diagonal-from zero p z d c h l m = absurd (omega arith)
 diagonal-from (suc n) p z d c h l m =
-    ⊎-elim (λ e. here (eqb-true d c e)) (λ e. lost-off p c ((z + d) % p) d (diagonalFrom n p z (suc d)) (mod-lt (z + d) h) (eqb-false d c e) ∙ diagonal-from n p z (suc d) c h (later (eqb-false d c e)) (omega arith)) (flag (eqb d c))
+    ⊎-elim here (λ g. lost-off p c ((z + d) % p) d (diagonalFrom n p z (suc d)) (mod-lt (z + d) h) (λ e. omega arith) ∙ diagonal-from n p z (suc d) c h g (omega arith)) (eq-or-lt d c l)
   where
-    later : (d ≡ c → ⊥) → suc d ≤ c
-    later q = omega arith
-
     here : d ≡ c → lostIn p c (place p ((z + d) % p) d ∷ diagonalFrom n p z (suc d)) ≡ ((z + c) % p) ∷ []
     here e =
         ap (λ (x : ℕ). lostIn p c (place p ((z + x) % p) x ∷ diagonalFrom n p z (suc d))) e

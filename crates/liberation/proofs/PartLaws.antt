@@ -12,7 +12,7 @@ use borrow.Author.Tests.{le-leb, lt-ltb, le-ltb, ltb-true}
 use Rattle.laws.specs.Choice.{pick, when, firstOf}
 use Rattle.laws.specs.Lists.{isIn}
 use Rattle.laws.proofs.Flags.{and-l, and-r, or-l, or-r}
-use Rattle.laws.proofs.Modulo.{lt-or-le}
+use Rattle.laws.proofs.OrderLaws.{lt-or-le}
 use Rattle.laws.proofs.TestLaws.{eqb-same}
 use Rattle.liberation.specs.Sets.{place, rowSet, diagonalSet, setOf, lostIn}
 use Rattle.liberation.specs.Plans.{Step, allOf, planOf}

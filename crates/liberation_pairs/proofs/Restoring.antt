@@ -13,7 +13,7 @@ use Rattle.laws.specs.Choice.{pick}
 use Rattle.laws.specs.Lists.{isIn}
 use Rattle.laws.proofs.Flags.{or-false-l, or-false-r, clash}
 use Rattle.laws.proofs.MemberLaws.{in-head}
-use Rattle.laws.proofs.Modulo.{lt-or-le}
+use Rattle.laws.proofs.OrderLaws.{lt-or-le}
 use Rattle.laws.proofs.Primes.{Prime}
 use Rattle.liberation.specs.Sets.{place, diskAt, diagonalSet}
 use Rattle.liberation.specs.Plans.{extraRowOn, diagonalOf}

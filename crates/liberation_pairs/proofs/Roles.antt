@@ -9,7 +9,8 @@ use native.Mathlib.Omega.{arith}
 use lib.Dec.{eqb, leb}
 use borrow.Author.Tests.{eqb-true, eqb-false, eq-eqb, leb-true, leb-false}
 use Rattle.laws.proofs.Flags.{and-l, and-r, or-cases, or-l, or-r, clash}
-use Rattle.laws.proofs.Modulo.{mul-mod-r, lt-or-le}
+use Rattle.laws.proofs.Modulo.{mul-mod-r}
+use Rattle.laws.proofs.OrderLaws.{lt-or-le}
 use Rattle.laws.proofs.Primes.{Prime, inverse}
 use Rattle.laws.proofs.Residues.{sub-small}
 use Rattle.laws.specs.Choice.{pick}

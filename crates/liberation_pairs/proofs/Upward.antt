@@ -11,6 +11,7 @@ use lib.Dec.{eqb, ltb}
 use borrow.Author.Tests.{eqb-true, eqb-false, eq-eqb, ne-eqb, lt-ltb, le-ltb}
 use Rattle.laws.specs.Lists.{isIn}
 use Rattle.laws.proofs.Flags.{flag, and-i, or-cases, or-l, or-r}
+use Rattle.laws.proofs.OrderLaws.{eq-or-lt}
 use Rattle.laws.proofs.MemberLaws.{in-tail}
 use Rattle.laws.proofs.TestLaws.{ltb-next}
 use Rattle.liberation.specs.Sets.{place, rowAt, diskAt, setOf}
@@ -118,12 +119,9 @@ module _ (p k a b f kind : ℕ) (num : ℕ → ℕ) (up : Upward p k f kind num)
   up-names zero j i h l = absurd (omega arith)
   up-names (suc n) j i h l =
       ⊎-elim
-      (λ e. or-l (eqb kind kind && eqb (num j) (num i)) (names kind (num i) (upSteps n p f kind num (suc j))) (and-i (eqb kind kind) (eqb (num j) (num i)) (eq-eqb kind kind refl) (eq-eqb (num j) (num i) (ap num (eqb-true j i e)))))
-      (λ e. or-r (eqb kind kind && eqb (num j) (num i)) (names kind (num i) (upSteps n p f kind num (suc j))) (up-names n (suc j) i (later (eqb-false j i e)) (omega arith)))
-      (flag (eqb j i))
-    where
-      later : (j ≡ i → ⊥) → suc j ≤ i
-      later q = omega arith
+      (λ e. or-l (eqb kind kind && eqb (num j) (num i)) (names kind (num i) (upSteps n p f kind num (suc j))) (and-i (eqb kind kind) (eqb (num j) (num i)) (eq-eqb kind kind refl) (eq-eqb (num j) (num i) (ap num e))))
+      (λ g. or-r (eqb kind kind && eqb (num j) (num i)) (names kind (num i) (upSteps n p f kind num (suc j))) (up-names n (suc j) i g (omega arith)))
+      (eq-or-lt j i h)
 
 -- disk a by sets that do not meet disk b, then disk b
 module _ (p k a b kind kind2 : ℕ) (num num2 : ℕ → ℕ) (up : Upward p k a kind num) (up2 : Upward p k b kind2 num2) (two : a ≡ b → ⊥) (clear : (i r : ℕ) → i < p → r < p → isIn (place p r b) (setOf p k kind (num i)) ≡ false) where

@@ -8,10 +8,11 @@ use Prim.Native.Nat.{ℕ, zero, suc, _+_, _-_, _*_, _%_, _≤_, _<_}
 use native.Mathlib.Nat.{mod-lt}
 use native.Mathlib.Omega.{arith}
 use lib.Dec.{eqb, ltb, leb}
-use borrow.Author.Tests.{eqb-true, eqb-false, eq-eqb, ne-eqb, le-leb, lt-ltb, le-ltb}
+use borrow.Author.Tests.{eqb-true, eq-eqb, ne-eqb, le-leb, lt-ltb, le-ltb}
 use Rattle.laws.specs.Choice.{pick}
 use Rattle.laws.specs.Lists.{isIn}
-use Rattle.laws.proofs.Flags.{flag, and-l, and-i, or-l, or-r}
+use Rattle.laws.proofs.Flags.{and-l, and-i, or-l, or-r}
+use Rattle.laws.proofs.OrderLaws.{eq-or-lt}
 use Rattle.laws.proofs.MemberLaws.{in-head, in-tail}
 use Rattle.laws.proofs.Primes.{Prime}
 use Rattle.laws.proofs.TestLaws.{eqb-same, ltb-next}
@@ -192,12 +193,9 @@ module _ (p k x y : ℕ) (ok : Prime p) (odd : p % 2 ≡ 1) (most : k ≤ p) (g 
   walk-rows (suc n) q l h m =
       ap (names 0 (row l)) (walk-next n q)
       ∙ ⊎-elim
-      (λ e. or-l (eqb (row (suc q)) (row l)) (names 0 (row l) (walkSteps n p x y (row (suc q)))) (eq-eqb (row (suc q)) (row l) (ap row (eqb-true (suc q) l e))))
-      (λ e. or-r (eqb (row (suc q)) (row l)) (names 0 (row l) (walkSteps n p x y (row (suc q)))) (walk-rows n (suc q) l (later (eqb-false (suc q) l e)) (omega arith)))
-      (flag (eqb (suc q) l))
-    where
-      later : (suc q ≡ l → ⊥) → suc q < l
-      later w = omega arith
+      (λ e. or-l (eqb (row (suc q)) (row l)) (names 0 (row l) (walkSteps n p x y (row (suc q)))) (eq-eqb (row (suc q)) (row l) (ap row e)))
+      (λ g. or-r (eqb (row (suc q)) (row l)) (names 0 (row l) (walkSteps n p x y (row (suc q)))) (walk-rows n (suc q) l g (omega arith)))
+      (eq-or-lt (suc q) l h)
 
   walk-diagonals : (n q l : ℕ) → q ≤ l → l < q + n → names 1 (diagonalOf p x (row l)) (walkSteps n p x y (row q)) ≡ true
   unfolding walkSteps names
@@ -205,12 +203,9 @@ module _ (p k x y : ℕ) (ok : Prime p) (odd : p % 2 ≡ 1) (most : k ≤ p) (g 
   walk-diagonals (suc n) q l h m =
       ap (names 1 (diagonalOf p x (row l))) (walk-next n q)
       ∙ ⊎-elim
-      (λ e. or-l (eqb (diagonalOf p x (row q)) (diagonalOf p x (row l))) (names 1 (diagonalOf p x (row l)) (walkSteps n p x y (row (suc q)))) (eq-eqb (diagonalOf p x (row q)) (diagonalOf p x (row l)) (ap (λ (i : ℕ). diagonalOf p x (row i)) (eqb-true q l e))))
-      (λ e. or-r (eqb (diagonalOf p x (row q)) (diagonalOf p x (row l))) (names 1 (diagonalOf p x (row l)) (walkSteps n p x y (row (suc q)))) (walk-diagonals n (suc q) l (later (eqb-false q l e)) (omega arith)))
-      (flag (eqb q l))
-    where
-      later : (q ≡ l → ⊥) → suc q ≤ l
-      later w = omega arith
+      (λ e. or-l (eqb (diagonalOf p x (row q)) (diagonalOf p x (row l))) (names 1 (diagonalOf p x (row l)) (walkSteps n p x y (row (suc q)))) (eq-eqb (diagonalOf p x (row q)) (diagonalOf p x (row l)) (ap (λ (i : ℕ). diagonalOf p x (row i)) e)))
+      (λ g. or-r (eqb (diagonalOf p x (row q)) (diagonalOf p x (row l))) (names 1 (diagonalOf p x (row l)) (walkSteps n p x y (row (suc q)))) (walk-diagonals n (suc q) l g (omega arith)))
+      (eq-or-lt q l h)
 
   -- after the first cell: its row's other cell, then the walk
   pub data-standing : Standing p k x y (firstCell p x y ∷ []) (dataSteps p x y)

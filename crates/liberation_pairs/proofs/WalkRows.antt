@@ -6,7 +6,8 @@ use mathlib.Core.Logic.{⊎-elim}
 use Prim.Native.Nat.{ℕ, zero, suc, _+_, _-_, _*_, _/_, _%_, _≤_, _<_}
 use native.Mathlib.Nat.{mod-lt, mod-eq-of-lt, mod-add-mod, add-mod-mod, add-mod-right, mul-add-mod-self-left}
 use native.Mathlib.Omega.{arith}
-use Rattle.laws.proofs.Modulo.{cong-add, cong-mul, small-eq, lt-or-le}
+use Rattle.laws.proofs.Modulo.{cong-add, cong-mul, small-eq}
+use Rattle.laws.proofs.OrderLaws.{lt-or-le}
 use Rattle.laws.proofs.Primes.{Prime, cancel, add-cancel, visits, once}
 use Rattle.laws.proofs.Residues.{sub-small}
 use Rattle.liberation.specs.Plans.{secondRow, extraRowOn, diagonalOf}

@@ -1,14 +1,14 @@
 -- Cells in a flat list of bytes: a cell that is put in stands there and leaves the others, and a list is told by its cells.
 -- A column is a cell of p × s bytes, so a column put in is a cell put in, and its rows are cells of the stripe.
 use mathlib.Core.Path.{_≡_, refl, sym, ap, ap₂, _∙_}
-use mathlib.Core.Logic.{⊎-elim}
+use mathlib.Core.Logic.{_⊎_, inl, inr, ⊎-elim}
 use mathlib.Core.List.{List, [], _∷_, _++_, append-assoc}
 use Prim.Native.Nat.{ℕ, zero, suc, _+_, _-_, _*_, _≤_, _<_}
 use native.Mathlib.Nat.{mod-lt, mul-le-mul-right}
 use native.Mathlib.Omega.{arith}
 use lib.ListN.{length, take, drop, length-append, length-take, length-drop, take-append-drop}
 use lib.Seq.{length-take-le, take-at, drop-at, drop-drop, take-take, take-append-le, drop-append-le, take-append-add, drop-append-add}
-use Rattle.laws.proofs.Modulo.{lt-or-le}
+use Rattle.laws.proofs.OrderLaws.{lt-or-gt}
 use Rattle.liberation.specs.Sets.{place, rowAt, diskAt}
 use Rattle.liberation.proofs.SetLaws.{place-of}
 use Rattle.liberation_stripes.specs.Stripes.{cellAt, withCell, columnOf, withColumn}
@@ -29,6 +29,10 @@ part-front (suc a) n (suc b) (x ∷ t) h = part-front a n b t (omega arith)
 
 pub cell-fits : (n s x : ℕ) → x < n → x * s + s ≤ n * s
 cell-fits n s x h = omega (arith, mul-le-mul-right s h)
+
+-- two different cells do not meet
+pub cells-apart : (s x y : ℕ) → (x ≡ y → ⊥) → (x * s + s ≤ y * s) ⊎ (y * s + s ≤ x * s)
+cells-apart s x y n = ⊎-elim (λ l. inl (cell-fits y s x l)) (λ l. inr (cell-fits x s y l)) (lt-or-gt x y n)
 
 pub cell-long : (s x : ℕ) (t : List ℕ) → x * s + s ≤ length t → length (cellAt s t x) ≡ s
 cell-long s x t h = simp (length-take, length-drop) (omega arith)
@@ -62,7 +66,7 @@ module _ (s x : ℕ) (new t : List ℕ) (long : length new ≡ s) (fits : x * s 
 
   -- the other cells lie before it or after it
   pub cell-other : (y : ℕ) → (y ≡ x → ⊥) → cellAt s (withCell s x new t) y ≡ cellAt s t y
-  cell-other y n = ⊎-elim before (λ l. after (omega arith)) (lt-or-le y x)
+  cell-other y n = ⊎-elim before after (lt-or-gt y x n)
     where
       before : y < x → cellAt s (withCell s x new t) y ≡ cellAt s t y
       before l =

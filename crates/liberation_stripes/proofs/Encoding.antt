@@ -7,7 +7,7 @@ use mathlib.Core.List.{List, []}
 use Prim.Native.Nat.{ℕ, suc, _+_, _*_, _≤_, _<_}
 use native.Mathlib.Nat.{mod-lt}
 use native.Mathlib.Omega.{arith}
-use Rattle.laws.proofs.Modulo.{lt-or-le}
+use Rattle.laws.proofs.OrderLaws.{lt-or-le}
 use Rattle.liberation.specs.Sets.{place, rowAt, diskAt, rowSet}
 use Rattle.liberation.specs.Plans.{planOf}
 use Rattle.liberation.specs.Claims.{uses}

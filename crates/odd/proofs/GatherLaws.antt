@@ -4,15 +4,16 @@ use mathlib.Core.Bool.{Bool, true, false, false≢true}
 use mathlib.Core.Logic.{_⊎_, inl, inr, ⊎-elim}
 use mathlib.Core.List.{List, [], _∷_, _++_}
 use Prim.Native.Nat.{ℕ, zero, suc, _+_, _*_, _≤_, _<_}
-use native.Mathlib.Nat.{mul-le-mul, mul-le-mul-right}
+use native.Mathlib.Nat.{mul-le-mul}
 use native.Mathlib.Omega.{arith}
 use lib.ListN.{length, getD, set, take, drop, length-append, length-drop, length-set, List·getD-append, drop-of-length-le, take-append-drop}
 use lib.Seq.{getD-set-same, drop-drop, getD-take, getD-drop, length-take-le, take-suc-set}
 use Rattle.laws.specs.Choice.{pick}
 use Rattle.laws.specs.Xor.{xorL, allBytes}
 use Rattle.laws.proofs.ByteLaws.{bytes-take, bytes-drop}
-use Rattle.laws.proofs.Modulo.{lt-or-le}
+use Rattle.laws.proofs.OrderLaws.{lt-or-le}
 use Rattle.laws.proofs.XorLaws.{xorL-zeros}
+use Rattle.liberation_stripes.proofs.CellLaws.{cell-fits, cells-apart}
 use Rattle.xor.specs.Parts.{part, withPart, xorOffsets}
 use Rattle.xor.proofs.StoreLaws.{part-long}
 use Rattle.xor.proofs.BlockLaws.{Within, offsets-long, offsets-bytes, offsets-append}
@@ -50,26 +51,19 @@ odd-have : (P : ℕ → Type 0) (s x : ℕ) (ms : List ℕ) → ((y : ℕ) → y
 odd-have P s x ms f =
     odd-all P s x (drop x ms) (λ j h e. f (x + j) (omega (arith, length-drop x ms)) (ap isOdd (sym (getD-drop x ms j 0)) ∙ e))
 
--- cell y ends where the next one begins
-next-cell : (s y n : ℕ) → y < n → y * s + s ≤ n * s
-next-cell s y n h = let k : y + 1 ≤ n = omega arith in omega (arith, mul-le-mul-right s k)
-
 module _ (s d : ℕ) (ms t : List ℕ) (m : Marked s d ms t) where
   -- cell d, and the odd cells, are in the stripe; the odd cells are apart from cell d
   own-within : d * s + s ≤ length t
-  own-within = omega (arith, next-cell s d (length ms) (m .place), m .cells)
+  own-within = omega (arith, cell-fits (length ms) s d (m .place), m .cells)
 
   odd-within : (x : ℕ) → Within s (length t) (oddOffsets s ms x)
-  odd-within x = odd-have (λ a. a + s ≤ length t) s x ms (λ y h e. omega (arith, next-cell s y (length ms) h, m .cells))
+  odd-within x = odd-have (λ a. a + s ≤ length t) s x ms (λ y h e. omega (arith, cell-fits (length ms) s y h, m .cells))
 
   odd-apart : (x : ℕ) → All (λ a. (a + s ≤ d * s) ⊎ (d * s + s ≤ a)) (oddOffsets s ms x)
   odd-apart x = odd-have (λ a. (a + s ≤ d * s) ⊎ (d * s + s ≤ a)) s x ms far
     where
       far : (y : ℕ) → y < length ms → isOdd (getD ms y 0) ≡ true → (y * s + s ≤ d * s) ⊎ (d * s + s ≤ y * s)
-      far y h e = ⊎-elim (λ l. inl (next-cell s y d l)) (λ l. ⊎-elim (λ k. inr (next-cell s d y k)) (λ k. absurd (same (omega arith))) (lt-or-le d y)) (lt-or-le y d)
-        where
-          same : y ≡ d → ⊥
-          same q = false≢true (sym (m .even) ∙ ap (λ (z : ℕ). isOdd (getD ms z 0)) (sym q) ∙ e)
+      far y h e = cells-apart s y d (λ q. false≢true (sym (m .even) ∙ ap (λ (z : ℕ). isOdd (getD ms z 0)) (sym q) ∙ e))
 
   -- the list that was pushed
   module _ (old new : List ℕ) (x n : ℕ) (r : Listed) (st : Start s d (length ms) old x n) (p : OddPushed s ms old new x n r) (long : length new ≡ length old) where

@@ -13,7 +13,7 @@ use Rattle.laws.specs.Choice.{pick}
 use Rattle.laws.specs.Lists.{isIn, allBelow}
 use Rattle.laws.proofs.Flags.{and-l, and-r, and-i}
 use Rattle.laws.proofs.MemberLaws.{in-head, in-tail}
-use Rattle.laws.proofs.Modulo.{lt-or-le}
+use Rattle.laws.proofs.OrderLaws.{lt-or-le}
 use Rattle.liberation.specs.Sets.{place, diskAt, rowFrom, diagonalFrom, survivingIn}
 use Rattle.liberation.proofs.SetLaws.{disk-place, in-surviving}
 use Rattle.liberation_stripes.specs.Stripes.{without}

@@ -3,7 +3,6 @@ use mathlib.Core.Path.{_≡_, refl, sym, ap, ap₂, _∙_}
 use mathlib.Core.Bool.{Bool, true, false, _&&_}
 use mathlib.Core.List.{List, _∷_}
 use Prim.Native.Nat.{ℕ, zero, suc, _+_, _*_, _≤_, _<_}
-use native.Mathlib.Nat.{mul-le-mul-right}
 use native.Mathlib.Omega.{arith}
 use lib.Dec.{eqb}
 use lib.ListN.{length, take, drop, replicate}
@@ -13,6 +12,7 @@ use Rattle.laws.specs.Lists.{same}
 use Rattle.laws.specs.Sums.{allTo}
 use Rattle.laws.specs.Xor.{xorL}
 use Rattle.liberation.specs.Sets.{place, rowFrom, survivingIn}
+use Rattle.liberation_stripes.proofs.CellLaws.{cell-fits}
 use Rattle.xor.specs.Parts.{part, xorOffsets}
 use Rattle.xor.proofs.BlockLaws.{Within, part-block, offsets-long}
 use Rattle.xor.proofs.ZeroLaws.{noneTo, none-add}
@@ -38,16 +38,12 @@ moved s p i f (suc n) c t h = ap (sum (drop (i * s) t)) (first 0 (omega arith)) 
         let q : i * s + (c * p + 0) * s ≡ (c * p + i) * s = omega arith in
         ap₂ xorL (ap (take s) (drop-drop ((c * p + 0) * s) (i * s) t ∙ ap (λ (k : ℕ). drop k t) q)) e
 
--- i cells, and the next one, are within p
-next-within : (s p i : ℕ) → i < p → i * s + s ≤ p * s
-next-within s p i h = let k : i + 1 ≤ p = omega arith in omega (arith, mul-le-mul-right s k)
-
 module _ (s p f n : ℕ) (t : List ℕ) where
   abbrev run : List ℕ
   run = xorOffsets (p * s) t (scaled s (survivingIn p f (rowFrom n p 0 0)))
 
   pub run-cell : (i : ℕ) → i < p → part s (i * s) (xorOffsets (p * s) t (scaled s (survivingIn p f (rowFrom n p 0 0)))) ≡ xorOffsets s t (scaled s (survivingIn p f (rowFrom n p i 0)))
-  run-cell i h = part-block s (i * s) (p * s) t (scaled s (survivingIn p f (rowFrom n p 0 0))) (next-within s p i h) ∙ moved s p i f n 0 t h
+  run-cell i h = part-block s (i * s) (p * s) t (scaled s (survivingIn p f (rowFrom n p 0 0))) (cell-fits p s i h) ∙ moved s p i f n 0 t h
 
   module _ (fit : Within (p * s) (length t) (scaled s (survivingIn p f (rowFrom n p 0 0)))) where
     run-long : length run ≡ p * s
@@ -58,7 +54,7 @@ module _ (s p f n : ℕ) (t : List ℕ) where
     unfolding allTo
     rows-zero zero h = let e : 0 * s ≡ 0 = omega arith in ap (λ (k : ℕ). noneTo k run) e
     rows-zero (suc m) h =
-        none-add (m * s) s (suc m * s) run (omega arith) (omega (arith, next-within s p m h, run-long))
+        none-add (m * s) s (suc m * s) run (omega arith) (omega (arith, cell-fits p s m h, run-long))
         ∙ ap₂ _&&_ (rows-zero m (omega arith)) (ap (λ (l : List ℕ). same l (replicate s 0)) (run-cell m h))
 
     pub run-zero : same (xorOffsets (p * s) t (scaled s (survivingIn p f (rowFrom n p 0 0)))) (replicate (p * s) 0) ≡ allTo p (λ i. same (xorOffsets s t (scaled s (survivingIn p f (rowFrom n p i 0)))) (replicate s 0))

@@ -13,7 +13,7 @@ use borrow.Author.Tests.{eqb-false}
 use Rattle.laws.specs.Lists.{isIn, allBelow}
 use Rattle.laws.proofs.Flags.{or-false-l, or-false-r}
 use Rattle.laws.proofs.ListLaws.{below-at}
-use Rattle.laws.proofs.Modulo.{lt-or-le}
+use Rattle.laws.proofs.OrderLaws.{lt-or-le}
 use Rattle.liberation.specs.Sets.{rowSet, diagonalSet}
 use Rattle.liberation.specs.Plans.{diagonalOf}
 use Rattle.liberation_pairs.specs.Pairs.{nextRow, startSets}

@@ -13,7 +13,7 @@ use borrow.Author.Tests.{lt-ltb, le-ltb, ltb-true, eq-eqb, ne-eqb}
 use Rattle.laws.specs.Choice.{pick, firstOf}
 use Rattle.laws.specs.Lists.{same}
 use Rattle.laws.proofs.Flags.{and-l, and-r, and-i, flag, same-flag}
-use Rattle.laws.proofs.Modulo.{lt-or-le}
+use Rattle.laws.proofs.OrderLaws.{lt-or-le}
 use Rattle.laws.proofs.MemberLaws.{same-true, same-self}
 use Rattle.liberation.specs.Sets.{widthFault, diskFault}
 use Rattle.text.specs.Fields.{digitsOf}

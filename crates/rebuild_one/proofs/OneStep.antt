@@ -15,7 +15,7 @@ use Rattle.laws.specs.Choice.{pick}
 use Rattle.laws.specs.Lists.{isIn}
 use Rattle.laws.specs.Xor.{xorL}
 use Rattle.laws.proofs.Flags.{and-l, and-r}
-use Rattle.laws.proofs.Modulo.{lt-or-le}
+use Rattle.laws.proofs.OrderLaws.{lt-or-le}
 use Rattle.laws.proofs.XorLaws.{xorL-zeros}
 use Rattle.liberation.specs.Sets.{place, rowAt, diskAt, setOf, lostIn, survivingIn}
 use Rattle.liberation.proofs.SetLaws.{disk-place, row-place, place-of, in-surviving, survivors-below}

@@ -12,7 +12,7 @@ use Rattle.laws.specs.Choice.{pick, when, firstOf}
 use Rattle.laws.specs.Xor.{allBytes}
 use Rattle.laws.proofs.Flags.{or-false-l}
 use Rattle.laws.proofs.ChoiceLaws.{first-none, when-none, pick-refused, pick-done, and-refused, and-done}
-use Rattle.laws.proofs.Modulo.{lt-or-le}
+use Rattle.laws.proofs.OrderLaws.{lt-or-le}
 use Rattle.liberation.specs.Sets.{isWidth, numbersFault}
 use Rattle.liberation.proofs.Widths.{width-most, width-odd}
 use Rattle.liberation.proofs.FaultLaws.{numbers-of, plan-none}

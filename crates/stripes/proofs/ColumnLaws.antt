@@ -1,7 +1,7 @@
 -- All rows as one run: the offsets of row 0's cells are those of the columns, and the XOR of the other columns, put in place of a disk's column, does the steps of all row sets for that disk, since no step reads what another one writes.
 use mathlib.Core.Path.{_≡_, sym, subst, ap, ap₂, _∙_}
 use mathlib.Core.Bool.{Bool, true, _&&_, not}
-use mathlib.Core.Logic.{_⊎_, inl, inr, ⊎-elim}
+use mathlib.Core.Logic.{_⊎_, ⊎-elim}
 use mathlib.Core.List.{List, _++_, append-nil}
 use Prim.Native.Nat.{ℕ, zero, suc, _+_, _-_, _*_, _≤_, _<_}
 use native.Mathlib.Nat.{mod-lt}
@@ -13,12 +13,12 @@ use Rattle.laws.specs.Lists.{isIn, same}
 use Rattle.laws.specs.Sums.{allTo}
 use Rattle.laws.proofs.Flags.{and-l, and-r}
 use Rattle.laws.proofs.MemberLaws.{at-in}
-use Rattle.laws.proofs.Modulo.{lt-or-le}
+use Rattle.laws.proofs.OrderLaws.{lt-or-le}
 use Rattle.liberation.specs.Sets.{place, diskAt, rowAt, rowFrom, rowSet, survivingIn}
 use Rattle.liberation.specs.Plans.{allOf}
 use Rattle.liberation.proofs.SetLaws.{place-of, in-row, in-surviving, set-below}
 use Rattle.liberation_stripes.specs.Stripes.{cellAt, withCell, xorOver, without, followed, columnOf, withColumn, setClean, stripeLong}
-use Rattle.liberation_stripes.proofs.CellLaws.{cell-fits, cell-long, cells-equal, cell-with, cell-other, length-with, column-same, cell-off, column-put}
+use Rattle.liberation_stripes.proofs.CellLaws.{cell-fits, cells-apart, cell-long, cells-equal, cell-with, cell-other, length-with, column-same, cell-off, column-put}
 use Rattle.liberation_stripes.proofs.OverLaws.{over-ext}
 use Rattle.xor.specs.Parts.{withPart, xorOffsets}
 use Rattle.xor.specs.Reach.{Reached}
@@ -74,7 +74,7 @@ module _ (p k s f : ℕ) (some : 0 < p) where
         record {
           sources = columns-reached;
           fits = omega (arith, cell-fits (k + 2) (p * s) f l);
-          apart = each (λ a. (a + p * s ≤ f * (p * s)) ⊎ (f * (p * s) + p * s ≤ a)) (λ c b n. ⊎-elim (λ q. inl (cell-fits f (p * s) c q)) (λ q. let m : f < c = omega arith in inr (cell-fits c (p * s) f m)) (lt-or-le c f));
+          apart = each (λ a. (a + p * s ≤ f * (p * s)) ⊎ (f * (p * s) + p * s ≤ a)) (λ c b n. cells-apart (p * s) c f n);
         }
 
 -- the row sets of a stripe as one test: there is no disk past Q, so no cell is left out

@@ -1,7 +1,7 @@
 -- The set without one of its ordinary cells: a set has one ordinary cell on a disk, and the extra cell is none of them, so it is the set without that disk, but for the extra cell. The XOR of those cells, put at the ordinary one, is the set's step.
 use mathlib.Core.Path.{_≡_, refl, sym, subst, ap, ap₂, _∙_}
 use mathlib.Core.Bool.{Bool, true, false, _&&_, not, and-false}
-use mathlib.Core.Logic.{_⊎_, inl, inr, ⊎-elim}
+use mathlib.Core.Logic.{_⊎_}
 use mathlib.Core.List.{List, _++_}
 use Prim.Native.Nat.{ℕ, suc, _+_, _*_, _%_, _≤_, _<_}
 use native.Mathlib.Nat.{mod-lt}
@@ -14,13 +14,12 @@ use Rattle.laws.specs.Lists.{isIn, allBelow, same}
 use Rattle.laws.proofs.Flags.{and-i, or-l, or-r, clash, same-flag}
 use Rattle.laws.proofs.ListLaws.{isIn-append}
 use Rattle.laws.proofs.MemberLaws.{at-in, in-below}
-use Rattle.laws.proofs.Modulo.{lt-or-le}
 use Rattle.liberation.specs.Sets.{place, diskAt, rowAt, rowSet, ordinary, hasExtra, extraOf, setOf}
 use Rattle.liberation.proofs.SetLaws.{disk-place, place-of, in-row, in-ordinary, in-ordinary-data, set-below}
 use Rattle.liberation.proofs.DistinctLaws.{extra-apart}
 use Rattle.liberation.proofs.PlaceLaws.{disk-below}
 use Rattle.liberation_stripes.specs.Stripes.{without, solved, setClean, stripeLong}
-use Rattle.liberation_stripes.proofs.CellLaws.{cell-fits}
+use Rattle.liberation_stripes.proofs.CellLaws.{cell-fits, cells-apart}
 use Rattle.liberation_stripes.proofs.OverLaws.{in-without}
 use Rattle.xor.specs.Parts.{withPart, xorOffsets}
 use Rattle.xor_within.specs.Beside.{Apart}
@@ -77,10 +76,7 @@ module _ (s r n : ℕ) (old at xs t : List ℕ) (room : length at ≡ 33) (pushe
       other i l e = clash (isIn x xs) (ap (λ (y : ℕ). isIn y xs) (sym e) ∙ at-in i xs l) none
 
       apart : (i : ℕ) → i < length xs → (getD xs i 0 * s + s ≤ x * s) ⊎ (x * s + s ≤ getD xs i 0 * s)
-      apart i l = ⊎-elim (λ q. inl (cell-fits x s (getD xs i 0) q)) (λ q. inr (after (other i l) q)) (lt-or-le (getD xs i 0) x)
-        where
-          after : (getD xs i 0 ≡ x → ⊥) → x ≤ getD xs i 0 → x * s + s ≤ getD xs i 0 * s
-          after n q = let m : x < getD xs i 0 = omega arith in cell-fits (getD xs i 0) s x m
+      apart i l = cells-apart s (getD xs i 0) x (other i l)
 
 -- an ordinary cell of a set is a cell of the stripe
 module _ (p k kind i c r : ℕ) (o : Ordinary p k kind i c r) where
