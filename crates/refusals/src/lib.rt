@@ -1,9 +1,9 @@
-// What a call answers when it refuses, and the tests that calls have in common: width, data disks, size of a cell, disk, length of a lent slice.
+// What a call answers when it refuses, the shape of an array, and the tests that calls have in common: width, data disks, size of a cell, disk, length of a lent slice.
 ghost use mathlib.Core.Path.{_≡_};
 ghost use mathlib.Core.Bool.{not};
 ghost use lib.Dec.{eqb};
 ghost use Rattle.laws.specs.Choice.{when};
-ghost use Rattle.liberation.specs.Sets.{widthFault, disksFault, sizeFault, diskFault, planFault, numbersFault};
+ghost use Rattle.liberation.specs.Sets.{widthFault, disksFault, sizeFault, diskFault, arrayFault, planFault, shapeFault, numbersFault};
 ghost use Rattle.refusals.specs.Answers.{Answers};
 
 // The first field of every answer: document 01's refusal number, 0 for an accepted call, and the place.
@@ -11,6 +11,14 @@ ghost use Rattle.refusals.specs.Answers.{Answers};
 pub struct Answer {
     pub refusal: u8,
     pub place: u32,
+}
+
+// The shape of an array: the width, which is also the number of rows, the data disks, and the bytes of a cell.
+#[repr(C)]
+pub struct Shape {
+    pub width: usize,
+    pub disks: usize,
+    pub cell_size: usize,
 }
 
 // The answer with this refusal and no place.
@@ -70,29 +78,47 @@ pub fn length_fault(long: usize, required: usize) -> u8
     if long == required { 0 } else { 5 }
 }
 
-// The refusal of the numbers of a call on plans by 1 or 3, 0 for none.
+// The refusal of an array's width and data disks by 1 or 13, 0 for none.
+pub fn array_fault(width: usize, disks: usize) -> u8
+    ensures { λ r. ⌜ r ≡ arrayFault width disks ⌝ }
+{
+    let first = width_fault(width);
+    if first != 0 {
+        return first;
+    }
+    disks_fault(width, disks)
+}
+
+// The refusal of the numbers of a call on plans by 1, 13 or 3, 0 for none.
 pub fn plan_fault(width: usize, disks: usize, disk: usize) -> u8
     ensures { λ r. ⌜ r ≡ planFault width disks disk ⌝ }
 {
-    let fault = width_fault(width);
+    let fault = array_fault(width, disks);
     if fault != 0 {
         return fault;
     }
     disk_fault(disks, disk)
 }
 
-// The refusal of the numbers of a call on bytes by 1, 2 or 3, 0 for none.
+// The refusal of the numbers of a shape by 1, 13 or 2, 0 for none.
+pub fn shape_fault(width: usize, disks: usize, size: usize) -> u8
+    ensures { λ r. ⌜ r ≡ shapeFault width disks size ⌝ }
+{
+    let array = array_fault(width, disks);
+    if array != 0 {
+        return array;
+    }
+    size_fault(size)
+}
+
+// The refusal of the numbers of a call on a disk's bytes by 1, 13, 2 or 3, 0 for none.
 pub fn numbers_fault(width: usize, disks: usize, size: usize, disk: usize) -> u8
     ensures { λ r. ⌜ r ≡ numbersFault width disks size disk ⌝ }
 {
-    let first = width_fault(width);
-    if first != 0 {
-        return first;
+    let shape = shape_fault(width, disks, size);
+    if shape != 0 {
+        return shape;
     }
-    let second = size_fault(size);
-    if second != 0 {
-        return second;
-    }
-    let third = disk_fault(disks, disk);
-    third
+    let last = disk_fault(disks, disk);
+    last
 }
