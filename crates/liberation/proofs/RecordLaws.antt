@@ -9,10 +9,10 @@ use lib.ListN.{length, getD, drop, replicate, List·getD-append, drop-of-length-
 use borrow.Author.Tests.{ltb-true}
 use Rattle.laws.proofs.Flags.{and-l, and-r}
 use Rattle.liberation.specs.Sets.{isWidth}
-use Rattle.liberation.specs.Plans.{Step, step, planOf}
+use Rattle.liberation.specs.Plans.{Step, step, planOf, readCount}
 use Rattle.liberation.specs.Records.{listed, padded, recorded, judgeForm}
 use Rattle.liberation.specs.Judging.{stepsIn}
-use Rattle.liberation.proofs.ReadLaws.{numbersBelow}
+use Rattle.liberation.proofs.ReadLaws.{numbersBelow, reads-most}
 use Rattle.liberation.proofs.UsedLaws.{named-numbers}
 use Rattle.liberation.proofs.AcceptedLaws.{accepted-length, accepted-named}
 use Rattle.liberation.proofs.PartPlans.{plan-accepted}
@@ -62,9 +62,16 @@ number-below p (x ∷ ss) (suc i) s b e h = number-below p ss i s (and-r (ltb (x
 pub plan-length : (p k f : ℕ) → isWidth p ≡ true → k ≤ p → f ≤ k + 1 → length (planOf p k f) ≡ p
 plan-length p k f w most h = accepted-length p k f (planOf p k f) (plan-accepted p k f w most h)
 
+plan-numbers : (p k f : ℕ) → isWidth p ≡ true → k ≤ p → f ≤ k + 1 → numbersBelow p (planOf p k f) ≡ true
+plan-numbers p k f w most h = named-numbers p (planOf p k f) (accepted-named p k f (planOf p k f) (plan-accepted p k f w most h))
+
 pub plan-number : (p k f i : ℕ) → isWidth p ≡ true → k ≤ p → f ≤ k + 1 → (a : StepAt (planOf p k f) i) → i < p → a .this .number < p
 plan-number p k f i w most h a l =
-    number-below p (planOf p k f) i (a .this) (named-numbers p (planOf p k f) (accepted-named p k f (planOf p k f) (plan-accepted p k f w most h))) (a .split) (omega (arith, plan-length p k f w most h))
+    number-below p (planOf p k f) i (a .this) (plan-numbers p k f w most h) (a .split) (omega (arith, plan-length p k f w most h))
+
+-- so it reads no more cells than there are
+pub plan-reads-most : (p k f : ℕ) → isWidth p ≡ true → k ≤ p → f ≤ k + 1 → readCount p k f (planOf p k f) ≤ p * (k + 2)
+plan-reads-most p k f w most h = reads-most p k f (planOf p k f) (plan-numbers p k f w most h)
 
 -- three bytes a step
 pub length-form : (n i : ℕ) (rows kinds numbers : List ℕ) → length (judgeForm n i rows kinds numbers) ≡ 3 * n
