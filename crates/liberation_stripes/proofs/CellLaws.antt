@@ -21,7 +21,7 @@ cut-whole a n t =
     ∙ take-append-drop a t
 
 -- a part that lies within the front
-part-front : (a n b : ℕ) (t : List ℕ) → a + n ≤ b → take n (drop a (take b t)) ≡ take n (drop a t)
+pub part-front : (a n b : ℕ) (t : List ℕ) → a + n ≤ b → take n (drop a (take b t)) ≡ take n (drop a t)
 part-front zero n b t h = take-take n b t (omega arith)
 part-front (suc a) n zero t h = absurd (omega arith)
 part-front (suc a) n (suc b) [] h = refl
