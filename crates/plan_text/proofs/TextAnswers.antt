@@ -8,7 +8,8 @@ use lib.Dec.{ltb}
 use lib.ListN.{length, take, replicate, length-append}
 use lib.Seq.{take-at}
 use Rattle.laws.specs.Choice.{when, firstOf}
-use Rattle.liberation.specs.Sets.{isWidth, planFault}
+use Rattle.liberation.specs.Sets.{isWidth, widthFault, diskFault, planFault}
+use Rattle.liberation.proofs.FaultLaws.{array-same}
 use Rattle.plan_text.specs.Text.{firstValue, secondValue, isForm, planText, refusedLine}
 use Rattle.text.specs.Writing.{Wrote}
 use Rattle.plan_text.specs.Says.{TextIs, TextSays}
@@ -29,9 +30,12 @@ holds-text {t} {r} h = ap (take (r .length)) (h .bytes) ∙ take-at t (replicate
 holds-same : {t u : List ℕ} {r : Text} → t ≡ u → TextIs t r → TextIs u r
 holds-same e h = rw e at h
 
--- a refusal of the planner is a small number
+-- a full array is refused by 1 and 3 only, small numbers
+fault-full : (p f : ℕ) → planFault p p f ≡ firstOf (widthFault p) (diskFault p f)
+fault-full p f = ap (λ (n : ℕ). firstOf n (diskFault p f)) (array-same p)
+
 pub fault-small : (p f : ℕ) → planFault p p f ≤ 3
-fault-small p f = go (isWidth p) (ltb (p + 1) f)
+fault-small p f = omega (arith, fault-full p f, go (isWidth p) (ltb (p + 1) f))
   where
     go : (a b : Bool) → firstOf (when (not a) 1) (when b 3) ≤ 3
     go true true = omega arith
@@ -44,7 +48,7 @@ says-no-form t e h = holds-same (sym (no-form-printed t e)) h
 
 module _ (t : List ℕ) (p f : ℕ) (form : isForm t ≡ true) (first : p ≡ firstValue t) (second : f ≡ secondValue t) where
   pub says-refusal : {r : Text} (n : ℕ) → n ≡ planFault p p f → (n ≡ 0 → ⊥) → TextIs (refusedLine n) r → TextSays t r
-  says-refusal n e z h = holds-same (sym (printed-refusal t n (form-fault t form ∙ sym (e ∙ ap₂ (λ (x y : ℕ). planFault x x y) first second)) z)) h
+  says-refusal n e z h = holds-same (sym (printed-refusal t n (form-fault t form ∙ sym (e ∙ fault-full p f ∙ ap₂ (λ (x y : ℕ). firstOf (widthFault x) (diskFault x y)) first second)) z)) h
 
   pub says-plan : {r : Text} → planFault p p f ≡ 0 → TextIs (planText p f) r → TextSays t r
-  says-plan e h = holds-same (ap₂ planText first second ∙ sym (printed-plan t (form-fault t form ∙ sym (ap₂ (λ (x y : ℕ). planFault x x y) first second) ∙ e))) h
+  says-plan e h = holds-same (ap₂ planText first second ∙ sym (printed-plan t (form-fault t form ∙ sym (fault-full p f ∙ ap₂ (λ (x y : ℕ). firstOf (widthFault x) (diskFault x y)) first second) ∙ e))) h

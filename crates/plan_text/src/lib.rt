@@ -198,7 +198,7 @@ pub fn plan_text(input: &[u8]) -> Text
     if !is_form(input, width, disk) {
         return refusal_text(12);
     }
-    let plan = planner::plan_disk(width, disk);
+    let plan = planner::plan_disk(width, width, disk);
     let answer = plan.answer;
     if answer.refusal != 0 {
         return refusal_text(answer.refusal as usize);

@@ -32,16 +32,16 @@ pub length-of : (p : ℕ) (r : Plan) → length (formOf p r) ≡ 3 * p
 length-of p r = length-form p 0 (r .steps .rows) (r .steps .kinds) (r .steps .numbers)
 
 -- an accepted answer's record holds our plan
-pub plan-held : (p k f : ℕ) (r : Plan) → k ≤ p → PlanSays p k f r → r .answer .refusal ≡ 0 → stepsHeld p r ≡ planOf p k f
-plan-held p k f r most q z =
+pub plan-held : (p k f : ℕ) (r : Plan) → PlanSays p k f r → r .answer .refusal ≡ 0 → stepsHeld p r ≡ planOf p k f
+plan-held p k f r q z =
     let n : planFault p k f ≡ 0 = answers-none (planFault p k f) (r .answer) (q .answer) z in
     let w = plan-of p k f n in
     let h = held-as (plannedSteps p k f) (planOf p k f) (r .steps) (planned-is p k f n) (q .steps) in
-    (λ j. recorded p 0 (h .rows j) (h .kinds j) (h .numbers j)) ∙ recorded-from p 0 (planOf p k f) (omega (arith, plan-length p k f (w .0) most (w .1)))
+    (λ j. recorded p 0 (h .rows j) (h .kinds j) (h .numbers j)) ∙ recorded-from p 0 (planOf p k f) (omega (arith, plan-length p k f (w .0) (w .3) (w .1)))
 
 -- "ours for the p steps of the planner's record, put in that form"
-pub plan-form : (p k f : ℕ) (r : Plan) → k ≤ p → PlanSays p k f r → r .answer .refusal ≡ 0 → stepsIn p (formOf p r) ≡ planOf p k f
-plan-form p k f r most q z = form-steps p 0 (r .steps .rows) (r .steps .kinds) (r .steps .numbers) ∙ plan-held p k f r most q z
+pub plan-form : (p k f : ℕ) (r : Plan) → PlanSays p k f r → r .answer .refusal ≡ 0 → stepsIn p (formOf p r) ≡ planOf p k f
+plan-form p k f r q z = form-steps p 0 (r .steps .rows) (r .steps .kinds) (r .steps .numbers) ∙ plan-held p k f r q z
 
 -- "so the ones are as many as the count says"
 pub list-ones : (p k f : ℕ) → isWidth p ≡ true → k ≤ p → f ≤ k + 1 → total (readList p k f) ≡ readCount p k f (planOf p k f)

@@ -35,6 +35,7 @@ word-ones p k f w most h = go (disk-cases k f h)
 -- An accepted plan for disk f of an array with k data disks.
 pub record PlanMeans (p k f : ℕ) (r : Plan) : Type 0 where
   pub width : isWidth p ≡ true
+  pub disks : (2 ≤ k) × (k ≤ p)
   pub disk : f ≤ k + 1
   -- "The plan record holds its steps": those of our plan
   pub steps : stepsHeld p r ≡ planOf p k f
@@ -42,23 +43,24 @@ pub record PlanMeans (p k f : ℕ) (r : Plan) : Type 0 where
   pub count : r .reads ≡ readCount p k f (stepsHeld p r)
   -- "the number of diagonals is the number of ones in it", for every disk
   pub diagonals : ones (r .routes) ≡ diagonalsUsed p (stepsHeld p r)
-  -- a lost P or Q: "Both read p² cells.", all data cells of the array
+  -- "A lost P or Q reads k × p cells."
   pub parity : k ≤ f → r .reads ≡ k * p
 
-pub plan-means : (p k f : ℕ) (r : Plan) → k ≤ p → PlanSays p k f r → r .answer .refusal ≡ 0 → PlanMeans p k f r
-plan-means p k f r most q z =
+pub plan-means : (p k f : ℕ) (r : Plan) → PlanSays p k f r → r .answer .refusal ≡ 0 → PlanMeans p k f r
+plan-means p k f r q z =
     let n : planFault p k f ≡ 0 = answers-none (planFault p k f) (r .answer) (q .answer) z in
     let w = plan-of p k f n in
-    let e : stepsHeld p r ≡ planOf p k f = plan-held p k f r most q z in
+    let e : stepsHeld p r ≡ planOf p k f = plan-held p k f r q z in
     let c : r .reads ≡ readCount p k f (planOf p k f) = q .reads ∙ ap (λ (x : ℕ). pick (eqb x 0) (readCount p k f (planOf p k f)) 0) n in
     let v : r .routes ≡ routeWord p k f = q .routes ∙ ap (λ (x : ℕ). pick (eqb x 0) (routeWord p k f) 0) n in
     record {
       width = w .0;
+      disks = (w .2, w .3);
       disk = w .1;
       steps = e;
       count = c ∙ sym (ap (readCount p k f) e);
-      diagonals = ap ones v ∙ word-ones p k f (w .0) most (w .1) ∙ sym (ap (diagonalsUsed p) e);
-      parity = λ l. c ∙ plans-part p k f (w .0) most (w .1) .parity l;
+      diagonals = ap ones v ∙ word-ones p k f (w .0) (w .3) (w .1) ∙ sym (ap (diagonalsUsed p) e);
+      parity = λ l. c ∙ plans-part p k f (w .0) (w .3) (w .1) .parity l;
     }
 
 -- marks are ones and zeros
@@ -72,12 +74,12 @@ marks-ones (suc n) x ys = ap (λ (i : ℕ). when (eqb (when (isIn x ys) 1) 1) 1 
     mark false = refl
 
 -- "so the ones are as many as the count says": those of the list o′ that `read_list` wrote, and the reads of the plan for the same disk
-pub list-means : (p k f : ℕ) (o o′ : List ℕ) (a : Answer) (r : Plan) → k ≤ p → ListSays p k f o o′ a → a .refusal ≡ 0 → PlanSays p k f r → onesIn o′ ≡ r .reads
-list-means p k f o o′ a r most l z q =
+pub list-means : (p k f : ℕ) (o o′ : List ℕ) (a : Answer) (r : Plan) → ListSays p k f o o′ a → a .refusal ≡ 0 → PlanSays p k f r → onesIn o′ ≡ r .reads
+list-means p k f o o′ a r l z q =
     let n : listFault p k f o ≡ 0 = answers-none (listFault p k f o) a (l .answer) z in
     let m : planFault p k f ≡ 0 = first-none (planFault p k f) (longFault (p * (k + 2)) o) n .0 in
     let w = plan-of p k f m in
     ap onesIn (l .list ∙ ap (λ (x : ℕ). pick (eqb x 0) (readList p k f) o) n)
     ∙ marks-ones (p * (k + 2)) 0 (cellsRead p k f (planOf p k f))
-    ∙ list-ones p k f (w .0) most (w .1)
+    ∙ list-ones p k f (w .0) (w .3) (w .1)
     ∙ sym (q .reads ∙ ap (λ (x : ℕ). pick (eqb x 0) (readCount p k f (planOf p k f)) 0) m)

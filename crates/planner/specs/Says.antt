@@ -12,7 +12,7 @@ use Rattle.planner.specs.declared.Plan.{Plan}
 use Rattle.planner.specs.declared.Planned.{Planned}
 use Rattle.planner.specs.Records.{Holds}
 
--- the planner refuses by 1 and 3: our plan, or no step on a refusal
+-- the planner refuses by 1, 13 and 3: our plan, or no step on a refusal
 abbrev pub plannedSteps : ℕ → ℕ → ℕ → List Step
 plannedSteps p k f = pick (eqb (planFault p k f) 0) (planOf p k f) []
 
@@ -37,7 +37,7 @@ pub record Refused (n : ℕ) (r : Planned) : Type 0 where
   pub steps : Holds [] (r .steps)
   pub routes : r .routes ≡ 0
 
--- the read list refuses by 1, 3 and 5
+-- the read list refuses by 1, 13, 3 and 5
 abbrev pub listFault : ℕ → ℕ → ℕ → List ℕ → ℕ
 listFault p k f o = firstOf (planFault p k f) (longFault (p * (k + 2)) o)
 

@@ -4,7 +4,7 @@ ghost use mathlib.Core.Bool.{true};
 ghost use mathlib.Core.List.{[], _++_};
 ghost use Prim.Native.Nat.{_+_, _-_, _*_, _^_, _≤_, _<_};
 ghost use lib.ListN.{length, take, replicate};
-ghost use Rattle.liberation.specs.Sets.{isWidth};
+ghost use Rattle.liberation.specs.Sets.{isWidth, planFault};
 ghost use Rattle.liberation.specs.Plans.{rowSteps, diagonalSteps, allOf, planOf, readCount, readList, marksFrom};
 ghost use Rattle.refusals.specs.Answers.{Answers};
 ghost use Rattle.planner.specs.Records.{Holds, Counts, OurPlan};
@@ -189,7 +189,7 @@ fn clear(list: &mut [u8])
 
 // The plan record of a plan within limits: its reads are counted.
 fn finished(width: usize, disks: usize, lost: usize, p: Planned) -> Plan
-    requires { ⌜ (isWidth width ≡ true) × (disks ≤ width) × (lost ≤ disks + 1) × OurPlan width disks lost p ⌝ }
+    requires { ⌜ (planFault width disks lost ≡ 0) × OurPlan width disks lost p ⌝ }
     ensures { λ r. ⌜ PlanSays width disks lost r ⌝ }
 {
     let s = p.steps;
@@ -228,22 +228,22 @@ fn refused_plan(refusal: u8) -> Planned
     }
 }
 
-// Our plan for a lost disk, its reads not counted. Refusals: 1, 3.
-pub fn plan_steps(width: usize, disk: usize) -> Planned
-    ensures { λ r. ⌜ PlannedSays width width disk r ⌝ }
+// Our plan for a lost disk, its reads not counted. Refusals: 1, 13, 3.
+pub fn plan_steps(width: usize, disks: usize, lost: usize) -> Planned
+    ensures { λ r. ⌜ PlannedSays width disks lost r ⌝ }
 {
-    let fault = refusals::plan_fault(width, width, disk);
+    let fault = refusals::plan_fault(width, disks, lost);
     if fault != 0 {
         return refused_plan(fault);
     }
-    our_plan(width, width, disk)
+    our_plan(width, disks, lost)
 }
 
-// Our plan for a lost disk. Refusals: 1, 3.
-pub fn plan_disk(width: usize, disk: usize) -> Plan
-    ensures { λ r. ⌜ PlanSays width width disk r ⌝ }
+// Our plan for a lost disk. Refusals: 1, 13, 3.
+pub fn plan_disk(width: usize, disks: usize, lost: usize) -> Plan
+    ensures { λ r. ⌜ PlanSays width disks lost r ⌝ }
 {
-    let fault = refusals::plan_fault(width, width, disk);
+    let fault = refusals::plan_fault(width, disks, lost);
     if fault != 0 {
         let steps = no_steps();
         return Plan {
@@ -253,24 +253,24 @@ pub fn plan_disk(width: usize, disk: usize) -> Plan
             reads: 0,
         };
     }
-    let p = our_plan(width, width, disk);
-    finished(width, width, disk, p)
+    let p = our_plan(width, disks, lost);
+    finished(width, disks, lost, p)
 }
 
-// Our plan's read list, a byte for each cell: 1 where the plan reads it. Refusals: 1, 3, 5.
-pub fn read_list(width: usize, disk: usize, list: &mut [u8]) -> Answer
-    ensures { λ r. ⌜ ListSays width width disk (now (list .entry)) (now (list .exit)) r ⌝ }
+// Our plan's read list, a byte for each cell: 1 where the plan reads it. Refusals: 1, 13, 3, 5.
+pub fn read_list(width: usize, disks: usize, lost: usize, list: &mut [u8]) -> Answer
+    ensures { λ r. ⌜ ListSays width disks lost (now (list .entry)) (now (list .exit)) r ⌝ }
 {
-    let fault = refusals::plan_fault(width, width, disk);
+    let fault = refusals::plan_fault(width, disks, lost);
     if fault != 0 {
         return refusals::answered(fault);
     }
-    if list.len() != width * (width + 2) {
+    if list.len() != width * (disks + 2) {
         return refusals::answered(5);
     }
     clear(list);
-    let p = our_plan(width, width, disk);
+    let p = our_plan(width, disks, lost);
     let s = p.steps;
-    mark_steps(width, width, disk, s, list);
+    mark_steps(width, disks, lost, s, list);
     refusals::answered(0)
 }

@@ -7,18 +7,19 @@ use lib.ListN.{length, take}
 use lib.Seq.{length-take-le}
 use Rattle.liberation.proofs.MarkLists.{length-marks, take-marks, cells-most}
 use Rattle.liberation.proofs.Widths.{width-most}
-use Rattle.liberation.proofs.FaultLaws.{plan-none}
+use Rattle.liberation.proofs.FaultLaws.{plan-of}
 use Rattle.planner.proofs.PlanAnswers.{plan-says}
 use borrow.Author.Needs.{needs}
 use Rattle.planner.proofs.finished.Statement.{statement}
 use Rattle.planner.proofs.finished.Tie as tie
 
 -- the widest array has 1,023 cells
-cells : (c : tie.After-s) → (c .before .args .width ≤ 31) × (c .before .args .width * (c .before .args .disks + 2) ≤ 1023)
+cells : (c : tie.After-s) → (c .before .args .disks ≤ 31) × (c .before .args .width * (c .before .args .disks + 2) ≤ 1023)
 cells c =
     let a = c .before .args in
-    let w = width-most (a .width) (c .before .pre .0) in
-    (w, cells-most (a .width) (a .disks) w (c .before .pre .1))
+    let v = plan-of (a .width) (a .disks) (a .lost) (c .before .pre .0) in
+    let w = width-most (a .width) (v .0) in
+    (omega (arith, w, v .3), cells-most (a .width) (a .disks) w (v .3))
 
 all-marks : (c : tie.After-no-marks) → length (c .no-marks .result) ≡ 1023
 all-marks c = ap (λ (x : List ℕ). length x) (c .no-marks .ensures) ∙ length-marks 1023 0 []
@@ -41,15 +42,16 @@ slice-aggregate-mark-steps c = sym (length-take-le _ (c .before .no-marks .resul
 mark-steps-requires : tie.Need-mark-steps-requires
 mark-steps-requires c κs =
     let q = c .before .before .before in
+    let w = plan-of (q .args .width) (q .args .disks) (q .args .lost) (q .pre .0) in
     let n = q .args .width * (q .args .disks + 2) in
-    (q .pre .0, q .pre .1, q .pre .2, q .pre .3 .steps, ap (take n) (c .before .no-marks .ensures) ∙ take-marks n 1023 0 [] (omega (arith, cells (c .before .before))))
+    (w .0, w .3, w .1, q .pre .1 .steps, ap (take n) (c .before .no-marks .ensures) ∙ take-marks n 1023 0 [] (omega (arith, cells (c .before .before))))
 
 returns : tie.Need-returns
 returns c =
     let k = c .before .before in
     let q = k .before .before .before .before in
     let a = q .args in
-    plan-says (a .width) (a .disks) (a .lost) _ (a .p) (plan-none (a .width) (a .disks) (a .lost) (q .pre .0) (q .pre .2)) (q .pre .3) refl refl refl (k .mark-steps .ensures .0)
+    plan-says (a .width) (a .disks) (a .lost) _ (a .p) (q .pre .0) (q .pre .1) refl refl refl (k .mark-steps .ensures .0)
 
 pub finished-spec : {M : Type 1} → statement M
 finished-spec =

@@ -1,6 +1,5 @@
--- `plan_disk`: refusals 1 and 3, else our plan with its reads counted.
+-- `plan_disk`: refusals 1, 13 and 3, else our plan with its reads counted.
 use mathlib.Core.Path.{_≡_, refl, sym, _∙_}
-use native.Mathlib.Omega.{arith}
 use borrow.Author.Needs.{needs}
 use Rattle.liberation.specs.Sets.{planFault}
 use Rattle.liberation.proofs.FaultLaws.{plan-of}
@@ -9,7 +8,7 @@ use Rattle.planner.proofs.plan_disk.Statement.{statement}
 use Rattle.planner.proofs.plan_disk.Tie as tie
 
 -- past the refusals
-none : (c : tie.Else1) → let a = c .before .before .args in planFault (a .width) (a .width) (a .disk) ≡ 0
+none : (c : tie.Else1) → let a = c .before .before .args in planFault (a .width) (a .disks) (a .lost) ≡ 0
 none c = sym (c .before .plan-fault .ensures) ∙ c .if1 .left
 
 plan-fault-requires : tie.Need-plan-fault-requires
@@ -19,19 +18,16 @@ no-steps-requires : tie.Need-no-steps-requires
 no-steps-requires c κs = search needs
 
 returns : tie.Need-returns
-returns c = let n = c .before in let t = n .before in let q = t .before in let a = q .before .args in plan-refused (a .width) (a .width) (a .disk) (q .plan-fault .result) _ (q .plan-fault .ensures) (t .if1 .taken) (c .answered .ensures) (n .no-steps .ensures) refl refl
+returns c = let n = c .before in let t = n .before in let q = t .before in let a = q .before .args in plan-refused (a .width) (a .disks) (a .lost) (q .plan-fault .result) _ (q .plan-fault .ensures) (t .if1 .taken) (c .answered .ensures) (n .no-steps .ensures) refl refl
 
 answered-requires : tie.Need-answered-requires
 answered-requires c κs = search needs
 
 our-plan-requires : tie.Need-our-plan-requires
-our-plan-requires c κs = let a = c .before .before .args in let w = plan-of (a .width) (a .width) (a .disk) (none c) in (w .0, omega arith, w .1)
+our-plan-requires c κs = let a = c .before .before .args in let w = plan-of (a .width) (a .disks) (a .lost) (none c) in (w .0, w .3, w .1)
 
 finished-requires : tie.Need-finished-requires
-finished-requires c κs =
-    let a = c .before .before .before .args in
-    let w = plan-of (a .width) (a .width) (a .disk) (none (c .before)) in
-    (w .0, omega arith, w .1, c .our-plan .ensures)
+finished-requires c κs = (none (c .before), c .our-plan .ensures)
 
 returns-2 : tie.Need-returns-2
 returns-2 c = search needs

@@ -1,6 +1,5 @@
--- `plan_steps`: refusals 1 and 3, else our plan.
+-- `plan_steps`: refusals 1, 13 and 3, else our plan.
 use mathlib.Core.Path.{_≡_, sym, _∙_}
-use native.Mathlib.Omega.{arith}
 use borrow.Author.Needs.{needs}
 use Rattle.liberation.specs.Sets.{planFault}
 use Rattle.liberation.proofs.FaultLaws.{plan-of}
@@ -9,7 +8,7 @@ use Rattle.planner.proofs.plan_steps.Statement.{statement}
 use Rattle.planner.proofs.plan_steps.Tie as tie
 
 -- past the refusals
-none : (c : tie.Else1) → let a = c .before .before .args in planFault (a .width) (a .width) (a .disk) ≡ 0
+none : (c : tie.Else1) → let a = c .before .before .args in planFault (a .width) (a .disks) (a .lost) ≡ 0
 none c = sym (c .before .plan-fault .ensures) ∙ c .if1 .left
 
 plan-fault-requires : tie.Need-plan-fault-requires
@@ -19,13 +18,13 @@ refused-plan-requires : tie.Need-refused-plan-requires
 refused-plan-requires c κs = search needs
 
 returns : tie.Need-returns
-returns c = let t = c .before in let q = t .before in let a = q .before .args in refusal-says (a .width) (a .width) (a .disk) (q .plan-fault .result) (c .refused-plan .result) (q .plan-fault .ensures) (t .if1 .taken) (c .refused-plan .ensures)
+returns c = let t = c .before in let q = t .before in let a = q .before .args in refusal-says (a .width) (a .disks) (a .lost) (q .plan-fault .result) (c .refused-plan .result) (q .plan-fault .ensures) (t .if1 .taken) (c .refused-plan .ensures)
 
 our-plan-requires : tie.Need-our-plan-requires
-our-plan-requires c κs = let a = c .before .before .args in let w = plan-of (a .width) (a .width) (a .disk) (none c) in (w .0, omega arith, w .1)
+our-plan-requires c κs = let a = c .before .before .args in let w = plan-of (a .width) (a .disks) (a .lost) (none c) in (w .0, w .3, w .1)
 
 returns-2 : tie.Need-returns-2
-returns-2 c = let a = c .before .before .before .args in planned-says (a .width) (a .width) (a .disk) (c .our-plan .result) (none (c .before)) (c .our-plan .ensures)
+returns-2 c = let a = c .before .before .before .args in planned-says (a .width) (a .disks) (a .lost) (c .our-plan .result) (none (c .before)) (c .our-plan .ensures)
 
 pub plan-steps-spec : {M : Type 1} → statement M
 plan-steps-spec = tie.close (tie.spec plan-fault-requires refused-plan-requires returns our-plan-requires returns-2)

@@ -1,4 +1,4 @@
--- `read_list`: refusals 1, 3 and 5 in this order leave the list as it was; else it is cleared, and the cells that our plan reads are marked.
+-- `read_list`: refusals 1, 13, 3 and 5 in this order leave the list as it was; else it is cleared, and the cells that our plan reads are marked.
 use mathlib.Core.Path.{_≡_, sym, ap, _∙_}
 use mathlib.Core.Bool.{true}
 use Prim.Native.Nat.{ℕ, _+_, _≤_}
@@ -13,12 +13,12 @@ use borrow.Author.Needs.{needs}
 use Rattle.planner.proofs.read_list.Statement.{statement}
 use Rattle.planner.proofs.read_list.Tie as tie
 
--- past refusals 1 and 3
-none : (c : tie.Else1) → let a = c .before .before .before .args in planFault (a .width) (a .width) (a .disk) ≡ 0
+-- past refusals 1, 13 and 3
+none : (c : tie.Else1) → let a = c .before .before .before .args in planFault (a .width) (a .disks) (a .lost) ≡ 0
 none c = sym (c .before .plan-fault .ensures) ∙ c .if1 .left
 
-wide : (c : tie.Else1) → let a = c .before .before .before .args in (isWidth (a .width) ≡ true) × (a .disk ≤ a .width + 1)
-wide c = let a = c .before .before .before .args in plan-of (a .width) (a .width) (a .disk) (none c)
+wide : (c : tie.Else1) → let a = c .before .before .before .args in (isWidth (a .width) ≡ true) × (a .lost ≤ a .disks + 1) × (2 ≤ a .disks) × (a .disks ≤ a .width)
+wide c = let a = c .before .before .before .args in plan-of (a .width) (a .disks) (a .lost) (none c)
 
 plan-fault-requires : tie.Need-plan-fault-requires
 plan-fault-requires c κs = search needs
@@ -32,13 +32,13 @@ returns c =
     let q = t .before in
     let a = q .before .before .args in
     let f = q .plan-fault in
-    list-refused (a .width) (a .width) (a .disk) (f .result) (a .list .now) (c .answered .result) (list-first (a .width) (a .width) (a .disk) (f .result) (a .list .now) (f .ensures) (t .if1 .taken)) (t .if1 .taken) (c .answered .ensures)
+    list-refused (a .width) (a .disks) (a .lost) (f .result) (a .list .now) (c .answered .result) (list-first (a .width) (a .disks) (a .lost) (f .result) (a .list .now) (f .ensures) (t .if1 .taken)) (t .if1 .taken) (c .answered .ensures)
 
 add-if2 : tie.Need-add-if2
-add-if2 c = omega (arith, width-most (c .before .before .before .args .width) (wide c .0))
+add-if2 c = omega (arith, width-most (c .before .before .before .args .width) (wide c .0), wide c .3)
 
 mul-if2 : tie.Need-mul-if2
-mul-if2 c = let a = c .before .before .before .args in omega (arith, cells-most (a .width) (a .width) (width-most (a .width) (wide c .0)) (omega arith))
+mul-if2 c = let a = c .before .before .before .args in omega (arith, cells-most (a .width) (a .disks) (width-most (a .width) (wide c .0)) (wide c .3))
 
 answered-requires-2 : tie.Need-answered-requires-2
 answered-requires-2 c κs = search needs
@@ -47,13 +47,13 @@ returns-2 : tie.Need-returns-2
 returns-2 c =
     let t = c .before in
     let a = t .before .before .before .before .args in
-    list-refused (a .width) (a .width) (a .disk) 5 (a .list .now) (c .answered2 .result) (list-long (a .width) (a .width) (a .disk) (a .list .now) (none (t .before)) (t .if2 .taken)) (λ e. omega arith) (c .answered2 .ensures)
+    list-refused (a .width) (a .disks) (a .lost) 5 (a .list .now) (c .answered2 .result) (list-long (a .width) (a .disks) (a .lost) (a .list .now) (none (t .before)) (t .if2 .taken)) (λ e. omega arith) (c .answered2 .ensures)
 
 clear-requires : tie.Need-clear-requires
 clear-requires c κs = search needs
 
 our-plan-requires : tie.Need-our-plan-requires
-our-plan-requires c κs = let w = wide (c .before .before .before .before .before) in (w .0, omega arith, w .1)
+our-plan-requires c κs = let w = wide (c .before .before .before .before .before) in (w .0, w .3, w .1)
 
 mark-steps-requires : tie.Need-mark-steps-requires
 mark-steps-requires c κs =
@@ -61,7 +61,7 @@ mark-steps-requires c κs =
     let k = o .before .before .before in
     let e = k .before .before in
     let w = wide (e .before) in
-    (w .0, omega arith, w .1, o .our-plan .ensures .steps, k .clear .ensures ∙ ap (λ (n : ℕ). replicate n 0) (e .if2 .left) ∙ no-cells _ 0)
+    (w .0, w .3, w .1, o .our-plan .ensures .steps, k .clear .ensures ∙ ap (λ (n : ℕ). replicate n 0) (e .if2 .left) ∙ no-cells _ 0)
 
 answered-requires-3 : tie.Need-answered-requires-3
 answered-requires-3 c κs = search needs
@@ -74,7 +74,7 @@ returns-3 c =
     let m = c .before .before .before in
     let e = m .before .before .before .before .before .before .before .before in
     let a = e .before .before .before .before .args in
-    list-says (a .width) (a .width) (a .disk) (a .list .now) _ (c .answered3 .result) (none (e .before)) (e .if2 .left) (m .mark-steps .ensures .1) (c .answered3 .ensures)
+    list-says (a .width) (a .disks) (a .lost) (a .list .now) _ (c .answered3 .result) (none (e .before)) (e .if2 .left) (m .mark-steps .ensures .1) (c .answered3 .ensures)
 
 pub read-list-spec : {M : Type 1} → statement M
 read-list-spec =
