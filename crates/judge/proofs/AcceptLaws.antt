@@ -19,6 +19,8 @@ use Rattle.judge.specs.Says.{formFault, JudgeSays}
 -- the bytes bs are an accepted plan for lost disk f
 pub record Acceptable (p k f : ℕ) (bs : List ℕ) : Type 0 where
   pub width : isWidth p ≡ true
+  pub least : 2 ≤ k
+  pub most : k ≤ p
   pub disk : f ≤ k + 1
   pub long : length bs ≡ 3 * p
   pub accepts : accepted p k f (stepsIn p bs) ≡ true
@@ -33,8 +35,10 @@ pub zero-accepts : (p k f : ℕ) (bs : List ℕ) (r : Judged) → JudgeSays p k 
 unfolding accepted
 zero-accepts p k f bs r s e =
     record {
-      width = plan-of p k f (form .0) .0;
-      disk = plan-of p k f (form .0) .1;
+      width = numbers .0;
+      least = numbers .2;
+      most = numbers .3;
+      disk = numbers .1;
       long = long-of (3 * p) bs (form .1);
       accepts = and-i (eqb (length (stepsIn p bs)) p) (eqb (judge p k f (stepsIn p bs) .number) 0) (eq-eqb (length (stepsIn p bs)) p (steps-long p bs)) (eq-eqb (judge p k f (stepsIn p bs) .number) 0 (all .1));
     }
@@ -45,12 +49,15 @@ zero-accepts p k f bs r s e =
     form : (planFault p k f ≡ 0) × (longFault (3 * p) bs ≡ 0)
     form = first-none (planFault p k f) (longFault (3 * p) bs) (all .0)
 
+    numbers : (isWidth p ≡ true) × (f ≤ k + 1) × (2 ≤ k) × (k ≤ p)
+    numbers = plan-of p k f (form .0)
+
 pub accepts-zero : (p k f : ℕ) (bs : List ℕ) (r : Judged) → JudgeSays p k f bs r → Acceptable p k f bs → r .answer .refusal ≡ 0
 unfolding accepted
 accepts-zero p k f bs r s a = s .refusal ∙ ap₂ firstOf form steps
   where
     form : formFault p k f bs ≡ 0
-    form = ap₂ firstOf (plan-none p k f (a .width) (a .disk)) (long-accepted (3 * p) bs (a .long))
+    form = ap₂ firstOf (plan-none p k f (a .width) (a .least) (a .most) (a .disk)) (long-accepted (3 * p) bs (a .long))
 
     steps : judge p k f (stepsIn p bs) .number ≡ 0
     steps = eqb-true (judge p k f (stepsIn p bs) .number) 0 (and-r (eqb (length (stepsIn p bs)) p) (eqb (judge p k f (stepsIn p bs) .number) 0) (a .accepts))

@@ -1,4 +1,4 @@
--- The judge's promise, for accepted and refused plans alike: refusals 1, 3, 5, then 6 to 9 with the step as their place.
+-- The judge's promise, for accepted and refused plans alike: refusals 1, 13, 3, 5, then 6 to 9 with the step as their place.
 use mathlib.Core.Path.{_≡_}
 use mathlib.Core.List.{List}
 use Prim.Native.Nat.{ℕ, _*_}

@@ -32,16 +32,16 @@ fn wide(byte: u8) -> usize
 fn holds_row(
     width: usize,
     disks: usize,
-    disk: usize,
+    lost: usize,
     row: usize,
     kind: usize,
     number: usize,
 ) -> bool
-    requires { ⌜ InArray width disks disk ⌝ }
+    requires { ⌜ InArray width disks lost ⌝ }
     requires { ⌜ (row < width) × (number < width) ⌝ }
-    ensures { λ r. ⌜ r ≡ isIn row (lostIn width disk (setOf width disks kind number)) ⌝ }
+    ensures { λ r. ⌜ r ≡ isIn row (lostIn width lost (setOf width disks kind number)) ⌝ }
 {
-    let wanted = disk * width + row;
+    let wanted = lost * width + row;
     let size = sets::set_size(width, disks, kind, number);
     let mut at = 0;
     while at < size {
@@ -57,15 +57,15 @@ fn holds_row(
 fn is_missing(
     width: usize,
     disks: usize,
-    disk: usize,
+    lost: usize,
     row: usize,
     cell: usize,
     done: [u8; 31],
 ) -> bool
-    requires { ⌜ InArray width disks disk ⌝ }
-    ensures { λ r. ⌜ ((ds : List ℕ) → done ≡ marksFrom 31 0 ds → not r ≡ othersThere row (lostIn width disk (cell ∷ [])) ds) ⌝ }
+    requires { ⌜ InArray width disks lost ⌝ }
+    ensures { λ r. ⌜ ((ds : List ℕ) → done ≡ marksFrom 31 0 ds → not r ≡ othersThere row (lostIn width lost (cell ∷ [])) ds) ⌝ }
 {
-    if cell / width != disk {
+    if cell / width != lost {
         return false;
     }
     let other = cell % width;
@@ -79,21 +79,21 @@ fn is_missing(
 fn others_there(
     width: usize,
     disks: usize,
-    disk: usize,
+    lost: usize,
     row: usize,
     kind: usize,
     number: usize,
     done: [u8; 31],
 ) -> bool
-    requires { ⌜ InArray width disks disk ⌝ }
+    requires { ⌜ InArray width disks lost ⌝ }
     requires { ⌜ number < width ⌝ }
-    ensures { λ r. ⌜ ((ds : List ℕ) → done ≡ marksFrom 31 0 ds → r ≡ othersThere row (lostIn width disk (setOf width disks kind number)) ds) ⌝ }
+    ensures { λ r. ⌜ ((ds : List ℕ) → done ≡ marksFrom 31 0 ds → r ≡ othersThere row (lostIn width lost (setOf width disks kind number)) ds) ⌝ }
 {
     let size = sets::set_size(width, disks, kind, number);
     let mut at = 0;
     while at < size {
         let cell = sets::set_cell(width, disks, kind, number, at);
-        if is_missing(width, disks, disk, row, cell, done) {
+        if is_missing(width, disks, lost, row, cell, done) {
             return false;
         }
         at += 1;
@@ -105,14 +105,14 @@ fn others_there(
 fn step_fault(
     width: usize,
     disks: usize,
-    disk: usize,
+    lost: usize,
     row: usize,
     kind: usize,
     number: usize,
     done: [u8; 31],
 ) -> u8
-    requires { ⌜ InArray width disks disk ⌝ }
-    ensures { λ r. ⌜ ((ds : List ℕ) → done ≡ marksFrom 31 0 ds → r ≡ stepFault width disks disk ds (step row kind number)) ⌝ }
+    requires { ⌜ InArray width disks lost ⌝ }
+    ensures { λ r. ⌜ ((ds : List ℕ) → done ≡ marksFrom 31 0 ds → r ≡ stepFault width disks lost ds (step row kind number)) ⌝ }
 {
     if width <= row {
         return 6;
@@ -123,13 +123,13 @@ fn step_fault(
     if 1 < kind {
         return 6;
     }
-    if !holds_row(width, disks, disk, row, kind, number) {
+    if !holds_row(width, disks, lost, row, kind, number) {
         return 7;
     }
     if done[row] == 1 {
         return 8;
     }
-    if others_there(width, disks, disk, row, kind, number, done) {
+    if others_there(width, disks, lost, row, kind, number, done) {
         0
     } else {
         9
@@ -137,11 +137,11 @@ fn step_fault(
 }
 
 // Judges the steps in order. `marks` has a byte a cell, none marked, and collects the cells that the steps read.
-fn judge_steps(width: usize, disks: usize, disk: usize, plan: &[u8], marks: &mut [u8]) -> Judged
-    requires { ⌜ InArray width disks disk ⌝ }
+fn judge_steps(width: usize, disks: usize, lost: usize, plan: &[u8], marks: &mut [u8]) -> Judged
+    requires { ⌜ InArray width disks lost ⌝ }
     requires { ⌜ length (now plan) ≡ 3 * width ⌝ }
     requires { ⌜ now marks ≡ marksFrom (width * (disks + 2)) 0 [] ⌝ }
-    ensures { λ r. ⌜ StepsSay width disks disk (now (plan .entry)) r ⌝ }
+    ensures { λ r. ⌜ StepsSay width disks lost (now (plan .entry)) r ⌝ }
 {
     let mut done = [0u8; 31];
     let mut reads: u32 = 0;
@@ -150,7 +150,7 @@ fn judge_steps(width: usize, disks: usize, disk: usize, plan: &[u8], marks: &mut
         let row = wide(plan[3 * i]);
         let kind = wide(plan[3 * i + 1]);
         let number = wide(plan[3 * i + 2]);
-        let fault = step_fault(width, disks, disk, row, kind, number, done);
+        let fault = step_fault(width, disks, lost, row, kind, number, done);
         if fault != 0 {
             let place = i as u32;
             return Judged {
@@ -162,7 +162,7 @@ fn judge_steps(width: usize, disks: usize, disk: usize, plan: &[u8], marks: &mut
             };
         }
         done[row] = 1;
-        let fresh = sets::mark_set(width, disks, disk, kind, number, marks);
+        let fresh = sets::mark_set(width, disks, lost, kind, number, marks);
         reads += fresh;
         i += 1;
     }
@@ -173,10 +173,10 @@ fn judge_steps(width: usize, disks: usize, disk: usize, plan: &[u8], marks: &mut
 }
 
 // The refusal of a plan of `long` bytes before any step is looked at, 0 for none.
-fn form_fault(width: usize, disks: usize, disk: usize, long: usize) -> u8
-    ensures { λ r. ⌜ r ≡ firstOf (planFault width disks disk) (when (not (eqb long (3 * width))) 5) ⌝ }
+fn form_fault(width: usize, disks: usize, lost: usize, long: usize) -> u8
+    ensures { λ r. ⌜ r ≡ firstOf (planFault width disks lost) (when (not (eqb long (3 * width))) 5) ⌝ }
 {
-    let fault = refusals::plan_fault(width, disks, disk);
+    let fault = refusals::plan_fault(width, disks, lost);
     if fault != 0 {
         return fault;
     }
@@ -186,11 +186,11 @@ fn form_fault(width: usize, disks: usize, disk: usize, long: usize) -> u8
     0
 }
 
-// Judges a plan of three bytes a step: row, kind, number. Refusals: 1, 3, 5, then 6 to 9 with the step as their place.
-pub fn judge_plan(width: usize, disk: usize, plan: &[u8]) -> Judged
-    ensures { λ r. ⌜ JudgeSays width width disk (now (plan .entry)) r ⌝ }
+// Judges a plan of three bytes a step: row, kind, number. Refusals: 1, 13, 3, 5, then 6 to 9 with the step as their place.
+pub fn judge_plan(width: usize, disks: usize, lost: usize, plan: &[u8]) -> Judged
+    ensures { λ r. ⌜ JudgeSays width disks lost (now (plan .entry)) r ⌝ }
 {
-    let fault = form_fault(width, width, disk, plan.len());
+    let fault = form_fault(width, disks, lost, plan.len());
     if fault != 0 {
         return Judged {
             answer: refusals::answered(fault),
@@ -198,5 +198,5 @@ pub fn judge_plan(width: usize, disk: usize, plan: &[u8]) -> Judged
         };
     }
     let mut marks = sets::no_marks();
-    judge_steps(width, width, disk, plan, &mut marks[..width * (width + 2)])
+    judge_steps(width, disks, lost, plan, &mut marks[..width * (disks + 2)])
 }

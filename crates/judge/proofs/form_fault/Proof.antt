@@ -15,7 +15,7 @@ use Rattle.judge.proofs.form_fault.Statement.{statement}
 use Rattle.judge.proofs.form_fault.Tie as tie
 
 -- past refusals 1 and 3
-none : (c : tie.Else1) → let a = c .before .before .args in planFault (a .width) (a .disks) (a .disk) ≡ 0
+none : (c : tie.Else1) → let a = c .before .before .args in planFault (a .width) (a .disks) (a .lost) ≡ 0
 none c = sym (c .before .plan-fault .ensures) ∙ c .if1 .left
 
 plan-fault-requires : tie.Need-plan-fault-requires
@@ -28,7 +28,7 @@ returns c =
     first-kept _ _ (when (not (eqb (a .long) (3 * a .width))) 5) (q .plan-fault .ensures) (c .if1 .taken)
 
 mul-if2 : tie.Need-mul-if2
-mul-if2 c = let a = c .before .before .args in omega (arith, width-most (a .width) (plan-of (a .width) (a .disks) (a .disk) (none c) .0))
+mul-if2 c = let a = c .before .before .args in omega (arith, width-most (a .width) (plan-of (a .width) (a .disks) (a .lost) (none c) .0))
 
 returns-2 : tie.Need-returns-2
 returns-2 c =

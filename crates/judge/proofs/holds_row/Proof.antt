@@ -13,17 +13,17 @@ use Rattle.judge.proofs.holds_row.Statement.{statement}
 use Rattle.judge.proofs.holds_row.Tie as tie
 
 abbrev Inv-loop : tie.InvT-loop
-Inv-loop width disks disk row kind number wanted size at₀ at =
+Inv-loop width disks lost row kind number wanted size at₀ at =
     (size ≡ length (setOf width disks kind number)) × (isIn wanted (drop at (setOf width disks kind number)) ≡ isIn wanted (setOf width disks kind number))
 
 abbrev μ-loop : tie.MeasureT-loop
-μ-loop width disks disk row kind number wanted size at₀ at = size - at
+μ-loop width disks lost row kind number wanted size at₀ at = size - at
 
 mul-wanted : tie.Need-mul-wanted Inv-loop μ-loop
-mul-wanted c = let a = c .args in omega (arith, place-small (a .width) (a .row) (a .disk) (c .pre .0 .widest) (c .pre .1 .0) (omega (arith, c .pre .0)))
+mul-wanted c = let a = c .args in omega (arith, place-small (a .width) (a .row) (a .lost) (c .pre .0 .widest) (c .pre .1 .0) (omega (arith, c .pre .0)))
 
 add-wanted : tie.Need-add-wanted Inv-loop μ-loop
-add-wanted c = let a = c .args in omega (arith, place-small (a .width) (a .row) (a .disk) (c .pre .0 .widest) (c .pre .1 .0) (omega (arith, c .pre .0)))
+add-wanted c = let a = c .args in omega (arith, place-small (a .width) (a .row) (a .lost) (c .pre .0 .widest) (c .pre .1 .0) (omega (arith, c .pre .0)))
 
 set-size-requires : tie.Need-set-size-requires Inv-loop μ-loop
 set-size-requires c κs = search needs
@@ -40,8 +40,8 @@ returns c =
     let q = c .before .before .before .before .before .pre in
     let l = c .before .before .before .loop in
     let xs = setOf (a .width) (a .disks) (a .kind) (a .number) in
-    seek-here (place (a .width) (a .row) (a .disk)) (l .at) (c .before .set-cell .result) xs (omega (arith, l .inv .0)) (c .before .set-cell .ensures) (c .if1 .taken) (l .inv .1)
-    ∙ sym (in-lost (a .width) (a .disk) (a .row) xs (q .1 .0))
+    seek-here (place (a .width) (a .row) (a .lost)) (l .at) (c .before .set-cell .result) xs (omega (arith, l .inv .0)) (c .before .set-cell .ensures) (c .if1 .taken) (l .inv .1)
+    ∙ sym (in-lost (a .width) (a .lost) (a .row) xs (q .1 .0))
 
 add-at : tie.Need-add-at Inv-loop μ-loop
 add-at c = search needs
@@ -54,7 +54,7 @@ loop-again c =
     let a = c .before .before .before .before .before .args in
     let l = c .before .before .before .loop in (
       l .inv .0,
-      seek-turn (place (a .width) (a .row) (a .disk)) (l .at) (c .before .set-cell .result) (setOf (a .width) (a .disks) (a .kind) (a .number)) (omega (arith, l .inv .0)) (c .before .set-cell .ensures) (c .if1 .left) (l .inv .1),
+      seek-turn (place (a .width) (a .row) (a .lost)) (l .at) (c .before .set-cell .result) (setOf (a .width) (a .disks) (a .kind) (a .number)) (omega (arith, l .inv .0)) (c .before .set-cell .ensures) (c .if1 .left) (l .inv .1),
     )
 
 returns-2 : tie.Need-returns-2 Inv-loop μ-loop
@@ -62,7 +62,7 @@ returns-2 c =
     let a = c .before .before .before .args in
     let l = c .before .loop in
     let xs = setOf (a .width) (a .disks) (a .kind) (a .number) in
-    seek-end (place (a .width) (a .row) (a .disk)) (l .at) xs (omega (arith, l .inv .0)) (l .inv .1) ∙ sym (in-lost (a .width) (a .disk) (a .row) xs (c .before .before .before .pre .1 .0))
+    seek-end (place (a .width) (a .row) (a .lost)) (l .at) xs (omega (arith, l .inv .0)) (l .inv .1) ∙ sym (in-lost (a .width) (a .lost) (a .row) xs (c .before .before .before .pre .1 .0))
 
 pub holds-row-spec : {M : Type 1} → statement M
 holds-row-spec =

@@ -12,13 +12,13 @@ div-if1 : tie.Need-div-if1
 div-if1 c = search needs
 
 returns : tie.Need-returns
-returns c = λ ds e. let a = c .before .args in sym (there-elsewhere (a .width) (a .disk) (a .row) (a .cell) ds (c .if1 .taken))
+returns c = λ ds e. let a = c .before .args in sym (there-elsewhere (a .width) (a .lost) (a .row) (a .cell) ds (c .if1 .taken))
 
 rem-other : tie.Need-rem-other
 rem-other c = search needs
 
 returns-2 : tie.Need-returns-2
-returns-2 c = λ ds e. let a = c .before .before .args in sym (there-itself (a .width) (a .disk) (a .row) (a .cell) ds (c .before .if1 .left) (c .if2 .taken))
+returns-2 c = λ ds e. let a = c .before .before .args in sym (there-itself (a .width) (a .lost) (a .row) (a .cell) ds (c .before .if1 .left) (c .if2 .taken))
 
 -- the row is one of the array's
 row-fits : (c : tie.Else2) → c .before .before .args .cell % c .before .before .args .width < 31
@@ -30,7 +30,7 @@ array-read-result c = row-fits c
 returns-3 : tie.Need-returns-3
 returns-3 c = λ ds e.
     let a = c .before .before .args in
-    byte-none 31 (a .cell % a .width) (a .t6) ds e (row-fits c) ∙ sym (there-other (a .width) (a .disk) (a .row) (a .cell) ds (c .before .if1 .left) (c .if2 .left))
+    byte-none 31 (a .cell % a .width) (a .t6) ds e (row-fits c) ∙ sym (there-other (a .width) (a .lost) (a .row) (a .cell) ds (c .before .if1 .left) (c .if2 .left))
 
 pub is-missing-spec : {M : Type 1} → statement M
 is-missing-spec =

@@ -1,4 +1,4 @@
--- `judge_plan`: refusals 1, 3 and 5, then the steps, over marks for as many cells as the stripe has.
+-- `judge_plan`: refusals 1, 13, 3 and 5, then the steps, over marks for as many cells as the stripe has.
 use mathlib.Core.Path.{_≡_, sym, ap, _∙_}
 use mathlib.Core.List.{[]}
 use Prim.Native.Nat.{_+_, _*_, _≤_}
@@ -18,15 +18,15 @@ use Rattle.judge.proofs.judge_plan.Statement.{statement}
 use Rattle.judge.proofs.judge_plan.Tie as tie
 
 -- past the refusals that come before any step
-none : (c : tie.Else1) → let a = c .before .before .before .args in formFault (a .width) (a .width) (a .disk) (a .plan .now) ≡ 0
+none : (c : tie.Else1) → let a = c .before .before .before .args in formFault (a .width) (a .disks) (a .lost) (a .plan .now) ≡ 0
 none c = sym (c .before .form-fault .ensures) ∙ c .if1 .left
 
-within : (c : tie.Else1) → let a = c .before .before .before .args in InArray (a .width) (a .width) (a .disk) × (length (a .plan .now) ≡ 3 * a .width)
+within : (c : tie.Else1) → let a = c .before .before .before .args in InArray (a .width) (a .disks) (a .lost) × (length (a .plan .now) ≡ 3 * a .width)
 within c =
     let a = c .before .before .before .args in
-    let q = first-none (planFault (a .width) (a .width) (a .disk)) (longFault (3 * a .width) (a .plan .now)) (none c) in
-    let w = plan-of (a .width) (a .width) (a .disk) (q .0) in
-    (record { some = omega (arith, width-least (a .width) (w .0)); widest = width-most (a .width) (w .0); disks = omega arith; disk = w .1 }, long-of (3 * a .width) (a .plan .now) (q .1))
+    let q = first-none (planFault (a .width) (a .disks) (a .lost)) (longFault (3 * a .width) (a .plan .now)) (none c) in
+    let w = plan-of (a .width) (a .disks) (a .lost) (q .0) in
+    (record { some = omega (arith, width-least (a .width) (w .0)); widest = width-most (a .width) (w .0); disks = w .3; disk = w .1 }, long-of (3 * a .width) (a .plan .now) (q .1))
 
 form-fault-requires : tie.Need-form-fault-requires
 form-fault-requires c κs = search needs
@@ -39,20 +39,20 @@ returns c =
     let t = c .before in
     let q = t .before in
     let a = q .before .before .args in
-    form-refused (a .width) (a .width) (a .disk) (q .form-fault .result) (a .plan .now) (q .form-fault .ensures) (t .if1 .taken) (c .answered .result) (c .answered .ensures)
+    form-refused (a .width) (a .disks) (a .lost) (q .form-fault .result) (a .plan .now) (q .form-fault .ensures) (t .if1 .taken) (c .answered .result) (c .answered .ensures)
 
 -- the stripe has few cells, and they have their marks
-few : (c : tie.Else1) → let p = c .before .before .before .args .width in p * (p + 2) ≤ 1023
-few c = let p = c .before .before .before .args .width in let w = within c .0 in cells-most p p (w .widest) (w .disks)
+few : (c : tie.Else1) → let a = c .before .before .before .args in a .width * (a .disks + 2) ≤ 1023
+few c = let a = c .before .before .before .args in let w = within c .0 in cells-most (a .width) (a .disks) (w .widest) (w .disks)
 
-enough : (c : tie.After-no-marks) → let p = c .before .before .before .before .args .width in p * (p + 2) ≤ length (c .no-marks .result)
+enough : (c : tie.After-no-marks) → let a = c .before .before .before .before .args in a .width * (a .disks + 2) ≤ length (c .no-marks .result)
 enough c = omega (arith, few (c .before), ap length (c .no-marks .ensures), length-marks 1023 0 [])
 
 no-marks-requires : tie.Need-no-marks-requires
 no-marks-requires c κs = search needs
 
 add-marks : tie.Need-add-marks
-add-marks c = omega (arith, within (c .before) .0 .widest)
+add-marks c = let w = within (c .before) .0 in omega (arith, w .widest, w .disks)
 
 mul-marks : tie.Need-mul-marks
 mul-marks c = omega (arith, few (c .before))
@@ -66,15 +66,16 @@ slice-aggregate-judge-steps c = sym (length-take-le _ _ (enough (c .before)))
 judge-steps-requires : tie.Need-judge-steps-requires
 judge-steps-requires c κs =
     let e = c .before .before in
-    let p = e .before .before .before .args .width in
+    let a = e .before .before .before .args in
+    let n = a .width * (a .disks + 2) in
     let w = within e in
-    (w .0, (w .1, ap (take (p * (p + 2))) (c .before .no-marks .ensures) ∙ take-marks (p * (p + 2)) 1023 0 [] (few e)))
+    (w .0, (w .1, ap (take n) (c .before .no-marks .ensures) ∙ take-marks n 1023 0 [] (few e)))
 
 returns-2 : tie.Need-returns-2
 returns-2 c =
     let e = c .before .before .before .before in
     let a = e .before .before .before .args in
-    steps-decide (a .width) (a .width) (a .disk) (a .plan .now) (c .before .judge-steps .result) (none e) (c .before .judge-steps .ensures)
+    steps-decide (a .width) (a .disks) (a .lost) (a .plan .now) (c .before .judge-steps .result) (none e) (c .before .judge-steps .ensures)
 
 pub judge-plan-spec : {M : Type 1} → statement M
 judge-plan-spec =

@@ -12,10 +12,10 @@ use Rattle.judge.proofs.judge_steps.Statement.{statement}
 use Rattle.judge.proofs.judge_steps.Tie as tie
 
 abbrev Inv-loop : tie.InvT-loop
-Inv-loop width disks disk plan marks₀ done₀ reads₀ i₀ marks done reads i = Halfway width disks disk plan done marks reads i
+Inv-loop width disks lost plan marks₀ done₀ reads₀ i₀ marks done reads i = Halfway width disks lost plan done marks reads i
 
 abbrev μ-loop : tie.MeasureT-loop
-μ-loop width disks disk plan marks₀ done₀ reads₀ i₀ marks done reads i = width - i
+μ-loop width disks lost plan marks₀ done₀ reads₀ i₀ marks done reads i = width - i
 
 -- no row is rebuilt at first
 no-rows : replicate 31 0 ≡ marksFrom 31 0 []
@@ -23,7 +23,7 @@ unfolding marksFrom
 no-rows = refl
 
 loop-holds : tie.Need-loop-holds Inv-loop μ-loop
-loop-holds c = let a = c .before .before .args in halfway-start (a .width) (a .disks) (a .disk) (a .plan .now) _ (a .marks .now) no-rows (c .before .before .pre .1 .1)
+loop-holds c = let a = c .before .before .args in halfway-start (a .width) (a .disks) (a .lost) (a .plan .now) _ (a .marks .now) no-rows (c .before .before .pre .1 .1)
 
 mul-wide : tie.Need-mul-wide Inv-loop μ-loop
 mul-wide c = search needs
@@ -73,20 +73,20 @@ same-length c =
     let a = c .before .before .before .before .before .before .before .before .before .before .before .before .args in
     let q = c .before .before .before .before .before .before .before .before .before .before .before .before .pre in
     let l = c .before .before .before .before .before .before .before .before .before .loop in
-    halfway-long (a .width) (a .disks) (a .disk) (a .plan .now) (l .done) (l .marks) (a .marks .now) [] (l .reads) (l .i) (l .inv) (q .1 .1)
+    halfway-long (a .width) (a .disks) (a .lost) (a .plan .now) (l .done) (l .marks) (a .marks .now) [] (l .reads) (l .i) (l .inv) (q .1 .1)
 
 returns : tie.Need-returns Inv-loop μ-loop
 returns c =
     let a = c .before .before .before .before .before .before .before .before .before .before .before .before .args in
     let l = c .before .before .before .before .before .before .before .before .before .loop in
-    halfway-refused (a .width) (a .disks) (a .disk) (a .plan .now) (l .done) (l .marks) (step (c .before .before .before .before .before .before .wide .result) (c .before .before .before .before .wide2 .result) (c .before .before .wide3 .result)) (l .reads) (l .i) (c .before .step-fault .result) (c .before .before .before .before .before .before .before .before .loop-test .taken) (bytes (c .before)) (c .before .step-fault .ensures) (c .if1 .taken) (l .inv)
+    halfway-refused (a .width) (a .disks) (a .lost) (a .plan .now) (l .done) (l .marks) (step (c .before .before .before .before .before .before .wide .result) (c .before .before .before .before .wide2 .result) (c .before .before .wide3 .result)) (l .reads) (l .i) (c .before .step-fault .result) (c .before .before .before .before .before .before .before .before .loop-test .taken) (bytes (c .before)) (c .before .step-fault .ensures) (c .if1 .taken) (l .inv)
 
 -- a step that is not refused is in form
 form : (c : tie.Else1 Inv-loop μ-loop) → InForm (c .before .before .before .before .before .before .before .before .before .before .before .before .args .width) (step (c .before .before .before .before .before .before .wide .result) (c .before .before .before .before .wide2 .result) (c .before .before .wide3 .result))
 form c =
     let a = c .before .before .before .before .before .before .before .before .before .before .before .before .args in
     let l = c .before .before .before .before .before .before .before .before .before .loop in
-    halfway-form (a .width) (a .disks) (a .disk) (a .plan .now) (l .done) (l .marks) (step (c .before .before .before .before .before .before .wide .result) (c .before .before .before .before .wide2 .result) (c .before .before .wide3 .result)) (l .reads) (l .i) (c .before .step-fault .result) (l .inv) (c .before .step-fault .ensures) (c .if1 .left)
+    halfway-form (a .width) (a .disks) (a .lost) (a .plan .now) (l .done) (l .marks) (step (c .before .before .before .before .before .before .wide .result) (c .before .before .before .before .wide2 .result) (c .before .before .wide3 .result)) (l .reads) (l .i) (c .before .step-fault .result) (l .inv) (c .before .step-fault .ensures) (c .if1 .left)
 
 array-write-done : tie.Need-array-write-done Inv-loop μ-loop
 array-write-done c = omega (arith, form c .row, c .before .before .before .before .before .before .before .before .before .before .before .before .pre .0 .widest)
@@ -99,14 +99,14 @@ mark-set-requires c κs =
     (record { widest = q .0 .widest; disks = omega (arith, q .0 .disks); numbered = form (c .before) .number }, ap length (l .inv .marks) ∙ length-marks (a .width * (a .disks + 2)) 0 (l .inv .cells))
 
 -- the loop's state after one more step
-turned : (c : tie.After-slice-known2 Inv-loop μ-loop) → let a = c .before .before .before .before .before .before .before .before .before .before .before .before .before .before .before .before .args in let l = c .before .before .before .before .before .before .before .before .before .before .before .before .before .loop in Halfway (a .width) (a .disks) (a .disk) (a .plan .now) (set (l .done) (c .before .before .before .before .before .before .before .before .before .before .wide .result) 1) (c .before .before .mark-set .last .1 .1 .1 .1 .1 .0) (l .reads + c .before .before .mark-set .result) (l .i + 1)
+turned : (c : tie.After-slice-known2 Inv-loop μ-loop) → let a = c .before .before .before .before .before .before .before .before .before .before .before .before .before .before .before .before .args in let l = c .before .before .before .before .before .before .before .before .before .before .before .before .before .loop in Halfway (a .width) (a .disks) (a .lost) (a .plan .now) (set (l .done) (c .before .before .before .before .before .before .before .before .before .before .wide .result) 1) (c .before .before .mark-set .last .1 .1 .1 .1 .1 .0) (l .reads + c .before .before .mark-set .result) (l .i + 1)
 turned c =
     let a = c .before .before .before .before .before .before .before .before .before .before .before .before .before .before .before .before .args in
     let q = c .before .before .before .before .before .before .before .before .before .before .before .before .before .before .before .before .pre in
     let l = c .before .before .before .before .before .before .before .before .before .before .before .before .before .loop in
     let e = c .before .before .before .before in
     let m = c .before .before .mark-set in
-    halfway-turn (a .width) (a .disks) (a .disk) (a .plan .now) (l .done) (l .marks) (m .last .1 .1 .1 .1 .1 .0) (step (c .before .before .before .before .before .before .before .before .before .before .wide .result) (c .before .before .before .before .before .before .before .before .wide2 .result) (c .before .before .before .before .before .before .wide3 .result)) (l .reads) (l .i) (e .before .step-fault .result) (m .result) (q .0 .widest) (q .0 .disks) (c .before .before .before .before .before .before .before .before .before .before .before .before .loop-test .taken) (bytes (e .before)) (e .before .step-fault .ensures) (e .if1 .left) (l .inv) (m .ensures)
+    halfway-turn (a .width) (a .disks) (a .lost) (a .plan .now) (l .done) (l .marks) (m .last .1 .1 .1 .1 .1 .0) (step (c .before .before .before .before .before .before .before .before .before .before .wide .result) (c .before .before .before .before .before .before .before .before .wide2 .result) (c .before .before .before .before .before .before .wide3 .result)) (l .reads) (l .i) (e .before .step-fault .result) (m .result) (q .0 .widest) (q .0 .disks) (c .before .before .before .before .before .before .before .before .before .before .before .before .loop-test .taken) (bytes (e .before)) (e .before .step-fault .ensures) (e .if1 .left) (l .inv) (m .ensures)
 
 add-reads : tie.Need-add-reads Inv-loop μ-loop
 add-reads c = omega (arith, turned c .few, turned c .within, c .before .before .before .before .before .before .before .before .before .before .before .before .before .before .before .before .pre .0 .widest)
@@ -129,14 +129,14 @@ same-length-2 c =
     let a = e .before .before .before .before .args in
     let q = e .before .before .before .before .pre in
     let l = e .before .loop in
-    halfway-long (a .width) (a .disks) (a .disk) (a .plan .now) (l .done) (l .marks) (a .marks .now) [] (l .reads) (l .i) (l .inv) (q .1 .1)
+    halfway-long (a .width) (a .disks) (a .lost) (a .plan .now) (l .done) (l .marks) (a .marks .now) [] (l .reads) (l .i) (l .inv) (q .1 .1)
 
 returns-2 : tie.Need-returns-2 Inv-loop μ-loop
 returns-2 c =
     let e = c .before in
     let a = e .before .before .before .before .args in
     let l = e .before .loop in
-    halfway-end (a .width) (a .disks) (a .disk) (a .plan .now) (l .done) (l .marks) (l .reads) (l .i) (e .loop-test .left) (l .inv) (c .answered .result) (c .answered .ensures)
+    halfway-end (a .width) (a .disks) (a .lost) (a .plan .now) (l .done) (l .marks) (l .reads) (l .i) (e .loop-test .left) (l .inv) (c .answered .result) (c .answered .ensures)
 
 pub judge-steps-spec : {M : Type 1} → statement M
 judge-steps-spec =

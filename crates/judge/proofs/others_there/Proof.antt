@@ -12,12 +12,12 @@ use Rattle.judge.proofs.others_there.Statement.{statement}
 use Rattle.judge.proofs.others_there.Tie as tie
 
 abbrev Inv-loop : tie.InvT-loop
-Inv-loop width disks disk row kind number done size at₀ at =
+Inv-loop width disks lost row kind number done size at₀ at =
     (size ≡ length (setOf width disks kind number))
-    × ((ds : List ℕ) → done ≡ marksFrom 31 0 ds → there width disk row ds (drop at (setOf width disks kind number)) ≡ there width disk row ds (setOf width disks kind number))
+    × ((ds : List ℕ) → done ≡ marksFrom 31 0 ds → there width lost row ds (drop at (setOf width disks kind number)) ≡ there width lost row ds (setOf width disks kind number))
 
 abbrev μ-loop : tie.MeasureT-loop
-μ-loop width disks disk row kind number done size at₀ at = size - at
+μ-loop width disks lost row kind number done size at₀ at = size - at
 
 set-size-requires : tie.Need-set-size-requires Inv-loop μ-loop
 set-size-requires c κs = search needs
@@ -35,7 +35,7 @@ returns : tie.Need-returns Inv-loop μ-loop
 returns c = λ ds e.
     let a = c .before .before .before .before .before .before .args in
     let l = c .before .before .before .before .loop in
-    there-stop (a .width) (a .disk) (a .row) (l .at) (c .before .before .set-cell .result) ds (setOf (a .width) (a .disks) (a .kind) (a .number)) (c .before .is-missing .result) (omega (arith, l .inv .0)) (c .before .before .set-cell .ensures) (c .if1 .taken) (c .before .is-missing .ensures ds e) (l .inv .1 ds e)
+    there-stop (a .width) (a .lost) (a .row) (l .at) (c .before .before .set-cell .result) ds (setOf (a .width) (a .disks) (a .kind) (a .number)) (c .before .is-missing .result) (omega (arith, l .inv .0)) (c .before .before .set-cell .ensures) (c .if1 .taken) (c .before .is-missing .ensures ds e) (l .inv .1 ds e)
 
 add-at : tie.Need-add-at Inv-loop μ-loop
 add-at c = search needs
@@ -48,14 +48,14 @@ loop-again c =
     let a = c .before .before .before .before .before .before .args in
     let l = c .before .before .before .before .loop in (
       l .inv .0,
-      λ ds e. there-turn (a .width) (a .disk) (a .row) (l .at) (c .before .before .set-cell .result) ds (setOf (a .width) (a .disks) (a .kind) (a .number)) (c .before .is-missing .result) (omega (arith, l .inv .0)) (c .before .before .set-cell .ensures) (c .if1 .left) (c .before .is-missing .ensures ds e) (l .inv .1 ds e),
+      λ ds e. there-turn (a .width) (a .lost) (a .row) (l .at) (c .before .before .set-cell .result) ds (setOf (a .width) (a .disks) (a .kind) (a .number)) (c .before .is-missing .result) (omega (arith, l .inv .0)) (c .before .before .set-cell .ensures) (c .if1 .left) (c .before .is-missing .ensures ds e) (l .inv .1 ds e),
     )
 
 returns-2 : tie.Need-returns-2 Inv-loop μ-loop
 returns-2 c = λ ds e.
     let a = c .before .before .before .args in
     let l = c .before .loop in
-    there-end (a .width) (a .disk) (a .row) (l .at) ds (setOf (a .width) (a .disks) (a .kind) (a .number)) (omega (arith, l .inv .0)) (l .inv .1 ds e)
+    there-end (a .width) (a .lost) (a .row) (l .at) ds (setOf (a .width) (a .disks) (a .kind) (a .number)) (omega (arith, l .inv .0)) (l .inv .1 ds e)
 
 pub others-there-spec : {M : Type 1} → statement M
 others-there-spec =

@@ -20,17 +20,17 @@ use Rattle.judge.proofs.step_fault.Tie as tie
 returns : tie.Need-returns
 returns c = λ ds e.
     let a = c .before .args in
-    sym (fault-is (a .width) (a .disks) (a .disk) ds (step (a .row) (a .kind) (a .number)) true _ _ _ (row-out (a .width) (step (a .row) (a .kind) (a .number)) (omega (arith, c .if1 .taken))) refl refl refl)
+    sym (fault-is (a .width) (a .disks) (a .lost) ds (step (a .row) (a .kind) (a .number)) true _ _ _ (row-out (a .width) (step (a .row) (a .kind) (a .number)) (omega (arith, c .if1 .taken))) refl refl refl)
 
 returns-2 : tie.Need-returns-2
 returns-2 c = λ ds e.
     let a = c .before .before .args in
-    sym (fault-is (a .width) (a .disks) (a .disk) ds (step (a .row) (a .kind) (a .number)) true _ _ _ (number-out (a .width) (step (a .row) (a .kind) (a .number)) (omega (arith, c .if2 .taken))) refl refl refl)
+    sym (fault-is (a .width) (a .disks) (a .lost) ds (step (a .row) (a .kind) (a .number)) true _ _ _ (number-out (a .width) (step (a .row) (a .kind) (a .number)) (omega (arith, c .if2 .taken))) refl refl refl)
 
 returns-3 : tie.Need-returns-3
 returns-3 c = λ ds e.
     let a = c .before .before .before .args in
-    sym (fault-is (a .width) (a .disks) (a .disk) ds (step (a .row) (a .kind) (a .number)) true _ _ _ (kind-out (a .width) (step (a .row) (a .kind) (a .number)) (omega (arith, c .if3 .taken))) refl refl refl)
+    sym (fault-is (a .width) (a .disks) (a .lost) ds (step (a .row) (a .kind) (a .number)) true _ _ _ (kind-out (a .width) (step (a .row) (a .kind) (a .number)) (omega (arith, c .if3 .taken))) refl refl refl)
 
 -- past refusal 6
 in-form : (c : tie.Else3) → let a = c .before .before .before .args in outOfForm (a .width) (step (a .row) (a .kind) (a .number)) ≡ false
@@ -40,19 +40,19 @@ holds-row-requires : tie.Need-holds-row-requires
 holds-row-requires c κs = search needs
 
 -- the test of refusal 7
-held : (c : tie.After-holds-row) (b : Bool) → let a = c .before .before .before .before .args in c .holds-row .result ≡ b → b ≡ isIn (a .row) (lostIn (a .width) (a .disk) (setOf (a .width) (a .disks) (a .kind) (a .number)))
+held : (c : tie.After-holds-row) (b : Bool) → let a = c .before .before .before .before .args in c .holds-row .result ≡ b → b ≡ isIn (a .row) (lostIn (a .width) (a .lost) (setOf (a .width) (a .disks) (a .kind) (a .number)))
 held c b e = sym e ∙ c .holds-row .ensures
 
 returns-4 : tie.Need-returns-4
 returns-4 c = λ ds e.
     let a = c .before .before .before .before .before .args in
-    sym (fault-is (a .width) (a .disks) (a .disk) ds (step (a .row) (a .kind) (a .number)) false false _ _ (in-form (c .before .before)) (held (c .before) false (not-true (c .before .holds-row .result) (c .if4 .taken))) refl refl)
+    sym (fault-is (a .width) (a .disks) (a .lost) ds (step (a .row) (a .kind) (a .number)) false false _ _ (in-form (c .before .before)) (held (c .before) false (not-true (c .before .holds-row .result) (c .if4 .taken))) refl refl)
 
 -- past refusal 7: the refusal from the two tests that are left
-past : (c : tie.Else4) (ds : List ℕ) (x y : Bool) → let a = c .before .before .before .before .before .args in a .t7 ≡ marksFrom 31 0 ds → eqb (getD (a .t7) (a .row) 0) 1 ≡ x → y ≡ there (a .width) (a .disk) (a .row) ds (setOf (a .width) (a .disks) (a .kind) (a .number)) → firstOf (when x 8) (when (not y) 9) ≡ stepFault (a .width) (a .disks) (a .disk) ds (step (a .row) (a .kind) (a .number))
+past : (c : tie.Else4) (ds : List ℕ) (x y : Bool) → let a = c .before .before .before .before .before .args in a .t7 ≡ marksFrom 31 0 ds → eqb (getD (a .t7) (a .row) 0) 1 ≡ x → y ≡ there (a .width) (a .lost) (a .row) ds (setOf (a .width) (a .disks) (a .kind) (a .number)) → firstOf (when x 8) (when (not y) 9) ≡ stepFault (a .width) (a .disks) (a .lost) ds (step (a .row) (a .kind) (a .number))
 past c ds x y e r t =
     let a = c .before .before .before .before .before .args in
-    sym (fault-is (a .width) (a .disks) (a .disk) ds (step (a .row) (a .kind) (a .number)) false true x y (in-form (c .before .before)) (held (c .before) true (not-false (c .before .holds-row .result) (c .if4 .left))) (sym r ∙ byte-one 31 (a .row) (a .t7) ds e (omega (arith, c .before .before .before .before .if1 .left, c .before .before .before .before .before .pre .widest))) t)
+    sym (fault-is (a .width) (a .disks) (a .lost) ds (step (a .row) (a .kind) (a .number)) false true x y (in-form (c .before .before)) (held (c .before) true (not-false (c .before .holds-row .result) (c .if4 .left))) (sym r ∙ byte-one 31 (a .row) (a .t7) ds e (omega (arith, c .before .before .before .before .if1 .left, c .before .before .before .before .before .pre .widest))) t)
 
 array-read-if5 : tie.Need-array-read-if5
 array-read-if5 c = search needs
