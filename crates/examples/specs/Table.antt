@@ -35,7 +35,7 @@ verdict p f ss = judge p p f ss .number ∷ (judge p p f ss .place ∷ (readCoun
 
 -- what a package takes with p data disks: number, stripes
 abbrev pub takes : ℕ → ℕ → ℕ → List ℕ
-takes p s l = spaceFault p s l ∷ (stripesOf p p s l ∷ [])
+takes p s l = spaceFault p p s l ∷ (stripesOf p p s l ∷ [])
 
 -- the plans of the examples
 abbrev pub allRows : List Step

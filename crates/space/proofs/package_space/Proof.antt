@@ -9,16 +9,16 @@ use Rattle.space.proofs.package_space.Statement.{statement}
 use Rattle.space.proofs.package_space.Tie as tie
 
 -- past the refusals
-none : (c : tie.Else1) → let a = c .before .before .args in spaceFault (a .width) (a .size) (a .bytes) ≡ 0
+none : (c : tie.Else1) → let a = c .before .before .args in spaceFault (a .shape .width) (a .shape .disks) (a .shape .«cell_size») (a .bytes) ≡ 0
 none c = sym (c .before .space-fault .ensures) ∙ c .if1 .left
 
 -- so the numbers are small
-bound : (c : tie.Else1) → let a = c .before .before .args in Bounds (a .width) (a .width) (a .size) (a .bytes)
-bound c = let a = c .before .before .args in small (a .width) (a .size) (a .bytes) (none c)
+bound : (c : tie.Else1) → let a = c .before .before .args in Bounds (a .shape .width) (a .shape .disks) (a .shape .«cell_size») (a .bytes)
+bound c = let a = c .before .before .args in small (a .shape .width) (a .shape .disks) (a .shape .«cell_size») (a .bytes) (none c)
 
 -- and the package is at most 2^48 bytes
 most : (c : tie.Else1) → c .before .before .args .bytes ≤ 2 ^ 48
-most c = let a = c .before .before .args in fault-of (a .width) (a .size) (a .bytes) (none c) .3
+most c = let a = c .before .before .args in fault-of (a .shape .width) (a .shape .disks) (a .shape .«cell_size») (a .bytes) (none c) .1
 
 space-fault-requires : tie.Need-space-fault-requires
 space-fault-requires c κs = search needs
@@ -30,7 +30,7 @@ returns : tie.Need-returns
 returns c =
     let q = c .before .before in
     let a = q .before .args in
-    refusal-says (a .width) (a .size) (a .bytes) (a .free) (q .space-fault .result) (c .refused-space .result) (q .space-fault .ensures) (c .before .if1 .taken) (c .refused-space .ensures)
+    refusal-says (a .shape .width) (a .shape .disks) (a .shape .«cell_size») (a .bytes) (a .free) (q .space-fault .result) (c .refused-space .result) (q .space-fault .ensures) (c .before .if1 .taken) (c .refused-space .ensures)
 
 mul-gives : tie.Need-mul-gives
 mul-gives c = omega (arith, bound c)
@@ -54,7 +54,7 @@ answered-requires : tie.Need-answered-requires
 answered-requires c κs = search needs
 
 returns-2 : tie.Need-returns-2
-returns-2 c = let e = c .before in let a = e .before .before .args in space-says (a .width) (a .size) (a .bytes) (a .free) (c .answered .result) (none e) (c .answered .ensures)
+returns-2 c = let e = c .before in let a = e .before .before .args in space-says (a .shape .width) (a .shape .disks) (a .shape .«cell_size») (a .bytes) (a .free) (c .answered .result) (none e) (c .answered .ensures)
 
 pub package-space-spec : {M : Type 1} → statement M
 package-space-spec =
