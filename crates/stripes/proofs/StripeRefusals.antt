@@ -1,20 +1,17 @@
--- Refusals 1, 2 and 5 of a call on a stripe, and the promises of the calls from what was refused or done.
+-- Refusals 1, 13, 2 and 5 of a call on a stripe, and the promises of the calls from what was refused or done.
 use mathlib.Core.Path.{_≡_, sym, ap, ap₂, _∙_}
 use mathlib.Core.Bool.{Bool, true, false, _&&_, not}
 use mathlib.Core.List.{List}
 use Prim.Native.Nat.{ℕ, suc, _+_, _*_, _≤_, _<_}
 use native.Mathlib.Nat.{mul-le-mul}
 use native.Mathlib.Omega.{arith}
-use lib.Dec.{eqb}
-use lib.ListN.{length}
-use Rattle.laws.specs.Choice.{when, firstOf}
 use Rattle.laws.specs.Sums.{allTo}
 use Rattle.laws.specs.Xor.{allBytes}
-use Rattle.laws.proofs.ChoiceLaws.{first-none, first-kept, first-next, first-assoc, pick-refused, pick-done, and-refused, and-done}
-use Rattle.liberation.specs.Sets.{widthFault, longFault, sizeFault, numbersFault}
+use Rattle.laws.proofs.ChoiceLaws.{first-none, pick-refused, pick-done, and-refused, and-done}
+use Rattle.liberation.specs.Sets.{longFault, diskFault, shapeFault, numbersFault}
 use Rattle.liberation.specs.Plans.{Step, allOf}
 use Rattle.liberation.proofs.Widths.{width-least, width-most}
-use Rattle.liberation.proofs.FaultLaws.{width-of, size-of, long-of, numbers-of, numbers-first}
+use Rattle.liberation.proofs.FaultLaws.{long-of, shape-of}
 use Rattle.liberation.proofs.ParityPlans.{plan-row-parity, plan-diagonal-parity}
 use Rattle.refusals.specs.declared.Answer.{Answer}
 use Rattle.refusals.specs.Answers.{Answers}
@@ -23,45 +20,24 @@ use Rattle.liberation_stripes.specs.Stripes.{stripeLong, encoded, followed, cle
 use Rattle.stripes.specs.Cells.{Sized}
 use Rattle.stripes.specs.Says.{stripeFault, EncodeSays, CheckSays}
 
--- the refusal is that of the length where the numbers are accepted
-pub fault-last : (p k s n m : ℕ) → numbersFault p k s 0 ≡ 0 → m ≡ when (not (eqb n (stripeLong p k s))) 5 → m ≡ firstOf (widthFault p) (firstOf (sizeFault s) (when (not (eqb n (stripeLong p k s))) 5))
-fault-last p k s n m z e = first-next m (firstOf (widthFault p) (sizeFault s)) (when (not (eqb n (stripeLong p k s))) 5) (sym (numbers-first p k s) ∙ z) e ∙ first-assoc (widthFault p) (sizeFault s) (when (not (eqb n (stripeLong p k s))) 5)
-
--- and where they are not
-pub fault-first : (p k s n m : ℕ) → m ≡ numbersFault p k s 0 → (m ≡ 0 → ⊥) → m ≡ firstOf (widthFault p) (firstOf (sizeFault s) (when (not (eqb n (stripeLong p k s))) 5))
-fault-first p k s n m e z = first-kept m (firstOf (widthFault p) (sizeFault s)) (when (not (eqb n (stripeLong p k s))) 5) (e ∙ numbers-first p k s) z ∙ first-assoc (widthFault p) (sizeFault s) (when (not (eqb n (stripeLong p k s))) 5)
-
 -- a stripe within the limits has few enough bytes to count
-bytes-most : (p k s : ℕ) → p ≤ 31 → k ≤ p → s ≤ 4096 → (p * s ≤ 126976) × ((k + 2) * (p * s) ≤ 4190208)
-bytes-most p k s h most l =
-    let m : p * s ≤ 31 * 4096 = mul-le-mul h l in
-    let n : k + 2 ≤ 33 = omega arith in
-    (omega arith, omega (arith, mul-le-mul n m))
-
-pub numbers-most : (p k s f : ℕ) → k ≤ p → numbersFault p k s f ≡ 0 → (p ≤ 31) × (p * s ≤ 126976) × ((k + 2) * (p * s) ≤ 4190208)
-numbers-most p k s f most e =
-    let q = numbers-of p k s f e in
+pub shape-most : (p k s : ℕ) → shapeFault p k s ≡ 0 → (p ≤ 31) × (k ≤ p) × (p * s ≤ 126976) × ((k + 2) * (p * s) ≤ 4190208)
+shape-most p k s e =
+    let q = shape-of p k s e in
     let w = width-most p (q .0) in
-    let b = bytes-most p k s w most (q .2) in
-    (w, b .0, b .1)
+    let m : p * s ≤ 31 * 4096 = mul-le-mul w (q .2) in
+    let n : k + 2 ≤ 33 = omega (arith, q .4) in
+    (w, q .4, omega arith, omega (arith, mul-le-mul n m))
 
--- no refusal: the stripe is within the limits
-pub fault-none : (p k s : ℕ) (t : List ℕ) → k ≤ p → stripeFault p k s t ≡ 0 → Sized p k s t
-fault-none p k s t most e =
-    let w = first-none (widthFault p) (firstOf (sizeFault s) (longFault (stripeLong p k s) t)) e in
-    let v = first-none (sizeFault s) (longFault (stripeLong p k s) t) (w .1) in
-    record {
-      widest = width-most p (width-of p (w .0));
-      disks = most;
-      small = size-of s (v .0) .1;
-      long = long-of (stripeLong p k s) t (v .1);
-    }
+pub numbers-most : (p k s f : ℕ) → numbersFault p k s f ≡ 0 → (p ≤ 31) × (k ≤ p) × (p * s ≤ 126976) × ((k + 2) * (p * s) ≤ 4190208)
+numbers-most p k s f e = shape-most p k s (first-none (shapeFault p k s) (diskFault k f) e .0)
 
--- and has rows
-pub fault-some : (p k s : ℕ) (t : List ℕ) → stripeFault p k s t ≡ 0 → 0 < p
-fault-some p k s t e =
-    let w = first-none (widthFault p) (firstOf (sizeFault s) (longFault (stripeLong p k s) t)) e in
-    omega (arith, width-least p (width-of p (w .0)))
+-- no refusal: the stripe is within the limits, and has rows
+pub fault-none : (p k s : ℕ) (t : List ℕ) → stripeFault p k s t ≡ 0 → Sized p k s t × (0 < p)
+fault-none p k s t e =
+    let w = first-none (shapeFault p k s) (longFault (stripeLong p k s) t) e in
+    let q = shape-of p k s (w .0) in
+    (record { widest = width-most p (q .0); disks = q .4; small = q .2; long = long-of (stripeLong p k s) t (w .1) }, omega (arith, width-least p (q .0)))
 
 pub encode-refused : (p k s n : ℕ) (t : List ℕ) (r : Answer) → n ≡ stripeFault p k s t → (n ≡ 0 → ⊥) → Answers n r → allBytes t ≡ true → EncodeSays p k s t t r
 encode-refused p k s n t r e z a b =

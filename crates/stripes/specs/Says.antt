@@ -6,15 +6,15 @@ use Prim.Native.Nat.{ℕ}
 use lib.Dec.{eqb}
 use Rattle.laws.specs.Choice.{pick, firstOf}
 use Rattle.laws.specs.Xor.{allBytes}
-use Rattle.liberation.specs.Sets.{widthFault, sizeFault, longFault}
+use Rattle.liberation.specs.Sets.{shapeFault, longFault}
 use Rattle.liberation_stripes.specs.Stripes.{stripeLong, encoded, clean}
 use Rattle.refusals.specs.declared.Answer.{Answer}
 use Rattle.refusals.specs.Answers.{Answers}
 use Rattle.stripes.specs.declared.Checked.{Checked}
 
--- both calls refuse by 1, 2 and 5
+-- both calls refuse by 1, 13, 2 and 5
 abbrev pub stripeFault : ℕ → ℕ → ℕ → List ℕ → ℕ
-stripeFault p k s t = firstOf (widthFault p) (firstOf (sizeFault s) (longFault (stripeLong p k s) t))
+stripeFault p k s t = firstOf (shapeFault p k s) (longFault (stripeLong p k s) t)
 
 -- the stripe t becomes t′: encoded, or as it was on a refusal
 pub record EncodeSays (p k s : ℕ) (t t′ : List ℕ) (r : Answer) : Type 0 where

@@ -6,12 +6,13 @@ ghost use lib.Dec.{eqb};
 ghost use lib.ListN.{length};
 ghost use Rattle.laws.specs.Choice.{firstOf, when};
 ghost use Rattle.laws.specs.Sums.{allTo};
-ghost use Rattle.liberation.specs.Sets.{place, setOf, widthFault, sizeFault};
+ghost use Rattle.liberation.specs.Sets.{place, setOf, shapeFault};
 ghost use Rattle.liberation.specs.Plans.{allOf};
 ghost use Rattle.liberation_stripes.specs.Stripes.{solved, followed, setClean, clean, stripeLong};
 ghost use Rattle.stripes.specs.Cells.{Sized, Ordinary};
 ghost use Rattle.stripes.specs.Says.{EncodeSays, CheckSays};
 use refusals::Answer;
+use refusals::Shape;
 
 // The answer, and whether the stripe is clean.
 #[repr(C)]
@@ -140,41 +141,46 @@ fn is_clean(width: usize, disks: usize, size: usize, stripe: &[u8]) -> bool
 
 // The refusal of a call on a stripe of `long` bytes, 0 for none.
 fn stripe_fault(width: usize, disks: usize, size: usize, long: usize) -> u8
-    requires { ⌜ disks ≤ width ⌝ }
-    ensures { λ r. ⌜ r ≡ firstOf (widthFault width) (firstOf (sizeFault size) (when (not (eqb long (stripeLong width disks size))) 5)) ⌝ }
+    ensures { λ r. ⌜ r ≡ firstOf (shapeFault width disks size) (when (not (eqb long (stripeLong width disks size))) 5) ⌝ }
 {
-    let fault = refusals::numbers_fault(width, disks, size, 0);
+    let fault = refusals::shape_fault(width, disks, size);
     if fault != 0 {
         return fault;
     }
     refusals::length_fault(long, (disks + 2) * (width * size))
 }
 
-// Writes P and Q of a stripe. Refusals: 1, 2, 5; a refused call leaves the stripe as it was.
-pub fn encode_stripe(width: usize, size: usize, stripe: &mut [u8]) -> Answer
-    ensures { λ r. ⌜ EncodeSays width width size (now (stripe .entry)) (now (stripe .exit)) r ⌝ }
+// Writes P and Q of a stripe. Refusals: 1, 13, 2, 5; a refused call leaves the stripe as it was.
+pub fn encode_stripe(shape: Shape, stripe: &mut [u8]) -> Answer
+    ensures { λ r. ⌜ EncodeSays (shape .width) (shape .disks) (shape .«cell_size») (now (stripe .entry)) (now (stripe .exit)) r ⌝ }
 {
-    let fault = stripe_fault(width, width, size, stripe.len());
+    let fault = stripe_fault(shape.width, shape.disks, shape.cell_size, stripe.len());
     if fault != 0 {
         return refusals::answered(fault);
     }
-    solve_rows(width, width, size, width, stripe);
-    solve_diagonals(width, width, size, stripe);
+    solve_rows(
+        shape.width,
+        shape.disks,
+        shape.cell_size,
+        shape.disks,
+        stripe,
+    );
+    solve_diagonals(shape.width, shape.disks, shape.cell_size, stripe);
     refusals::answered(0)
 }
 
-// Is a stripe clean? Refusals: 1, 2, 5.
-pub fn check_stripe(width: usize, size: usize, stripe: &[u8]) -> Checked
-    ensures { λ r. ⌜ CheckSays width width size (now (stripe .entry)) r ⌝ }
+// Is a stripe clean? Refusals: 1, 13, 2, 5.
+pub fn check_stripe(shape: Shape, stripe: &[u8]) -> Checked
+    ensures { λ r. ⌜ CheckSays (shape .width) (shape .disks) (shape .«cell_size») (now (stripe .entry)) r ⌝ }
 {
-    let refusal = stripe_fault(width, width, size, stripe.len());
+    let refusal = stripe_fault(shape.width, shape.disks, shape.cell_size, stripe.len());
     if refusal != 0 {
         return Checked {
             answer: refusals::answered(refusal),
             clean: false,
         };
     }
-    let clean = is_clean(width, width, size, stripe);
+    let clean = is_clean(shape.width, shape.disks, shape.cell_size, stripe);
     Checked {
         answer: refusals::answered(0),
         clean,

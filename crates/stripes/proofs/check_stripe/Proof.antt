@@ -1,19 +1,19 @@
 -- `check_stripe`: a refusal, or whether the stripe is clean.
 use mathlib.Core.Path.{_≡_, sym, _∙_}
-use native.Mathlib.Omega.{arith}
+use Prim.Native.Nat.{_<_}
 use borrow.Author.Needs.{needs}
 use Rattle.stripes.specs.Cells.{Sized}
 use Rattle.stripes.specs.Says.{stripeFault}
-use Rattle.stripes.proofs.StripeRefusals.{fault-none, fault-some, check-refused, check-done}
+use Rattle.stripes.proofs.StripeRefusals.{fault-none, check-refused, check-done}
 use Rattle.stripes.proofs.check_stripe.Statement.{statement}
 use Rattle.stripes.proofs.check_stripe.Tie as tie
 
 -- past the refusals
-passed : (c : tie.Else1) → let a = c .before .before .before .args in stripeFault (a .width) (a .width) (a .size) (a .stripe .now) ≡ 0
+passed : (c : tie.Else1) → let a = c .before .before .before .args in stripeFault (a .shape .width) (a .shape .disks) (a .shape .«cell_size») (a .stripe .now) ≡ 0
 passed c = sym (c .before .stripe-fault .ensures) ∙ c .if1 .left
 
-sized : (c : tie.Else1) → let a = c .before .before .before .args in Sized (a .width) (a .width) (a .size) (a .stripe .now)
-sized c = let a = c .before .before .before .args in fault-none (a .width) (a .width) (a .size) (a .stripe .now) (omega arith) (passed c)
+sized : (c : tie.Else1) → let a = c .before .before .before .args in Sized (a .shape .width) (a .shape .disks) (a .shape .«cell_size») (a .stripe .now) × (0 < a .shape .width)
+sized c = let a = c .before .before .before .args in fault-none (a .shape .width) (a .shape .disks) (a .shape .«cell_size») (a .stripe .now) (passed c)
 
 stripe-fault-requires : tie.Need-stripe-fault-requires
 stripe-fault-requires c κs = search needs
@@ -26,10 +26,10 @@ returns c =
     let t = c .before in
     let f = t .before .stripe-fault in
     let a = t .before .before .before .args in
-    check-refused (a .width) (a .width) (a .size) (f .result) (a .stripe .now) (c .answered .result) (f .ensures) (t .if1 .taken) (c .answered .ensures)
+    check-refused (a .shape .width) (a .shape .disks) (a .shape .«cell_size») (f .result) (a .stripe .now) (c .answered .result) (f .ensures) (t .if1 .taken) (c .answered .ensures)
 
 is-clean-requires : tie.Need-is-clean-requires
-is-clean-requires c κs = let a = c .before .before .before .args in (sized c, fault-some (a .width) (a .width) (a .size) (a .stripe .now) (passed c))
+is-clean-requires c κs = sized c
 
 answered-requires-2 : tie.Need-answered-requires-2
 answered-requires-2 c κs = search needs
@@ -39,7 +39,7 @@ returns-2 c =
     let k = c .before in
     let e = k .before in
     let a = e .before .before .before .args in
-    check-done (a .width) (a .width) (a .size) (a .stripe .now) (c .answered2 .result) (k .is-clean .result) (passed e) (c .answered2 .ensures) (k .is-clean .ensures)
+    check-done (a .shape .width) (a .shape .disks) (a .shape .«cell_size») (a .stripe .now) (c .answered2 .result) (k .is-clean .result) (passed e) (c .answered2 .ensures) (k .is-clean .ensures)
 
 pub check-stripe-spec : {M : Type 1} → statement M
 check-stripe-spec = tie.close (tie.spec stripe-fault-requires answered-requires returns is-clean-requires answered-requires-2 returns-2)
