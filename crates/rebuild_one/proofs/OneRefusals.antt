@@ -1,4 +1,4 @@
--- The promise of `rebuild_one`: its refusals 1, 2, 3 and 5 in this order, which leave the column as it was, and the accepted call.
+-- The promise of `rebuild_one`: its refusals 1, 13, 2, 3 and 5 in this order, which leave the column as it was, and the accepted call.
 use mathlib.Core.Path.{_≡_, sym, _∙_}
 use mathlib.Core.Bool.{Bool, true, not}
 use mathlib.Core.List.{List}
@@ -19,6 +19,7 @@ use Rattle.rebuild_one.specs.Says.{lengthsFault, oneFault, OneSays}
 -- none of the refusals: all is within the limits and the lengths are those required
 pub record Fit (p k s f n m : ℕ) : Type 0 where
   pub width : isWidth p ≡ true
+  pub two : 2 ≤ k
   pub disks : k ≤ p
   pub some : 0 < s
   pub small : s ≤ 4096
@@ -26,8 +27,8 @@ pub record Fit (p k s f n m : ℕ) : Type 0 where
   pub stripe : n ≡ stripeLong p k s
   pub column : m ≡ p * s
 
-pub fault-none : (p k s f n m : ℕ) → k ≤ p → lengthsFault p k s f n m ≡ 0 → Fit p k s f n m
-fault-none p k s f n m most e =
+pub fault-none : (p k s f n m : ℕ) → lengthsFault p k s f n m ≡ 0 → Fit p k s f n m
+fault-none p k s f n m e =
     let a : Bool = eqb n (stripeLong p k s) in
     let b : Bool = eqb m (p * s) in
     let w = first-none (numbersFault p k s f) (firstOf (when (not a) 5) (when (not b) 5)) e in
@@ -35,7 +36,8 @@ fault-none p k s f n m most e =
     let q = numbers-of p k s f (w .0) in
     record {
       width = q .0;
-      disks = most;
+      two = q .4;
+      disks = q .5;
       some = q .1;
       small = q .2;
       disk = q .3;

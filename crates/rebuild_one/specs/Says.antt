@@ -12,7 +12,7 @@ use Rattle.liberation_stripes.specs.Stripes.{stripeLong, rebuilt}
 use Rattle.refusals.specs.declared.Answer.{Answer}
 use Rattle.refusals.specs.Answers.{Answers}
 
--- the rebuild refuses by 1, 2, 3 and 5: n and m are the bytes of the stripe and of the column
+-- the rebuild refuses by 1, 13, 2, 3 and 5: n and m are the bytes of the stripe and of the column
 abbrev pub lengthsFault : ℕ → ℕ → ℕ → ℕ → ℕ → ℕ → ℕ
 lengthsFault p k s f n m = firstOf (numbersFault p k s f) (firstOf (when (not (eqb n (stripeLong p k s))) 5) (when (not (eqb m (p * s))) 5))
 

@@ -1,6 +1,7 @@
 // The rebuild of one lost disk: our plan's steps, one after another, from a lent stripe into a lent column. Each cell goes to its own stretch of the column.
 use planner::Steps;
 use refusals::Answer;
+use refusals::Shape;
 ghost use mathlib.Core.Path.{_≡_};
 ghost use mathlib.Core.Bool.{true};
 ghost use mathlib.Core.List.{[], _∷_};
@@ -110,7 +111,6 @@ pub fn one_fault(
     stripe: usize,
     column: usize,
 ) -> u8
-    requires { ⌜ disks ≤ width ⌝ }
     ensures { λ r. ⌜ r ≡ lengthsFault width disks size disk stripe column ⌝ }
 {
     let fault = refusals::numbers_fault(width, disks, size, disk);
@@ -125,29 +125,44 @@ pub fn one_fault(
 }
 
 // Makes our plan and follows it, where a call on these slices is not refused: for callers that have tested that.
-pub fn rebuild_column(width: usize, size: usize, disk: usize, stripe: &[u8], column: &mut [u8])
-    requires { ⌜ oneFault width width size disk (now stripe) (now column) ≡ 0 ⌝ }
-    ensures { λ _. ⌜ now (column .exit) ≡ rebuilt width width size disk (now (stripe .entry)) ⌝ }
-{
-    let plan = planner::plan_steps(width, disk);
-    let steps = plan.steps;
-    follow(width, width, size, disk, steps, stripe, column);
-}
-
-// Rebuilds one lost disk into the column. Refusals: 1, 2, 3, 5; a refused call leaves the column as it was.
-pub fn rebuild_one(
+pub fn rebuild_column(
     width: usize,
+    disks: usize,
     size: usize,
     disk: usize,
     stripe: &[u8],
     column: &mut [u8],
-) -> Answer
-    ensures { λ r. ⌜ OneSays width width size disk (now (stripe .entry)) (now (column .entry)) (now (column .exit)) r ⌝ }
+)
+    requires { ⌜ oneFault width disks size disk (now stripe) (now column) ≡ 0 ⌝ }
+    ensures { λ _. ⌜ now (column .exit) ≡ rebuilt width disks size disk (now (stripe .entry)) ⌝ }
 {
-    let refusal = one_fault(width, width, size, disk, stripe.len(), column.len());
+    let plan = planner::plan_steps(width, disks, disk);
+    let steps = plan.steps;
+    follow(width, disks, size, disk, steps, stripe, column);
+}
+
+// Rebuilds one lost disk into the column. Refusals: 1, 13, 2, 3, 5; a refused call leaves the column as it was.
+pub fn rebuild_one(shape: Shape, lost: usize, stripe: &[u8], column: &mut [u8]) -> Answer
+    ensures { λ r. ⌜ OneSays (shape .width) (shape .disks) (shape .«cell_size») lost (now (stripe .entry)) (now (column .entry)) (now (column .exit)) r ⌝ }
+{
+    let refusal = one_fault(
+        shape.width,
+        shape.disks,
+        shape.cell_size,
+        lost,
+        stripe.len(),
+        column.len(),
+    );
     if refusal != 0 {
         return refusals::answered(refusal);
     }
-    rebuild_column(width, size, disk, stripe, column);
+    rebuild_column(
+        shape.width,
+        shape.disks,
+        shape.cell_size,
+        lost,
+        stripe,
+        column,
+    );
     refusals::answered(0)
 }

@@ -1,4 +1,4 @@
--- `one_fault`: refusals 1, 2 and 3, then 5 for the stripe and for the column.
+-- `one_fault`: refusals 1, 13, 2 and 3, then 5 for the stripe and for the column.
 use mathlib.Core.Path.{_≡_, sym, _∙_}
 use Prim.Native.Nat.{_+_, _*_, _≤_}
 use native.Mathlib.Omega.{arith}
@@ -12,13 +12,13 @@ use Rattle.rebuild_one.proofs.one_fault.Tie as tie
 numbers-fault-requires : tie.Need-numbers-fault-requires
 numbers-fault-requires c κs = search needs
 
--- past refusals 1, 2 and 3
+-- past refusals 1, 13, 2 and 3
 fine : (c : tie.Else1) → let a = c .before .before .args in numbersFault (a .width) (a .disks) (a .size) (a .disk) ≡ 0
 fine c = sym (c .before .numbers-fault .ensures) ∙ c .if1 .left
 
 -- so the bytes can be counted
-most : (c : tie.Else1) → let a = c .before .before .args in (a .width ≤ 31) × (a .width * a .size ≤ 126976) × ((a .disks + 2) * (a .width * a .size) ≤ 4190208)
-most c = let o = c .before .before in let a = o .args in numbers-most (a .width) (a .disks) (a .size) (a .disk) (o .pre) (fine c)
+most : (c : tie.Else1) → let a = c .before .before .args in (a .width ≤ 31) × (a .disks ≤ a .width) × (a .width * a .size ≤ 126976) × ((a .disks + 2) * (a .width * a .size) ≤ 4190208)
+most c = let a = c .before .before .args in numbers-most (a .width) (a .disks) (a .size) (a .disk) (fine c)
 
 returns : tie.Need-returns
 returns c =

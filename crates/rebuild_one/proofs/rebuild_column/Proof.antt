@@ -1,7 +1,6 @@
 -- `rebuild_column`: our plan is made, which is not refused, and followed.
 use mathlib.Core.Path.{sym, subst}
 use mathlib.Core.List.{List, []}
-use native.Mathlib.Omega.{arith}
 use lib.ListN.{length}
 use Rattle.laws.proofs.ChoiceLaws.{pick-done}
 use Rattle.liberation.specs.Sets.{planFault}
@@ -14,8 +13,8 @@ use Rattle.rebuild_one.proofs.rebuild_column.Statement.{statement}
 use Rattle.rebuild_one.proofs.rebuild_column.Tie as tie
 
 -- all is within the limits
-fit : (c : tie.Start) → let a = c .args in Fit (a .width) (a .width) (a .size) (a .disk) (length (a .stripe .now)) (length (a .column .now))
-fit c = let a = c .args in fault-none (a .width) (a .width) (a .size) (a .disk) (length (a .stripe .now)) (length (a .column .now)) (omega arith) (c .pre)
+fit : (c : tie.Start) → let a = c .args in Fit (a .width) (a .disks) (a .size) (a .disk) (length (a .stripe .now)) (length (a .column .now))
+fit c = let a = c .args in fault-none (a .width) (a .disks) (a .size) (a .disk) (length (a .stripe .now)) (length (a .column .now)) (c .pre)
 
 plan-steps-requires : tie.Need-plan-steps-requires
 plan-steps-requires c κs = search needs
@@ -26,9 +25,9 @@ follow-requires c κs =
     let z = d .before .before .before in
     let a = z .args in
     let q = fit z in
-    let ours : List Step = planOf (a .width) (a .width) (a .disk) in
-    let none = plan-none (a .width) (a .width) (a .disk) (q .width) (q .disk) in
-    let planned = sym (pick-done (planFault (a .width) (a .width) (a .disk)) ours [] none) in
+    let ours : List Step = planOf (a .width) (a .disks) (a .disk) in
+    let none = plan-none (a .width) (a .disks) (a .disk) (q .width) (q .two) (q .disks) (q .disk) in
+    let planned = sym (pick-done (planFault (a .width) (a .disks) (a .disk)) ours [] none) in
     ((record { width = q .width; disks = q .disks; disk = q .disk; held = subst (λ (ss : List Step). Holds ss (d .plan-steps .result .steps)) planned (d .plan-steps .ensures .steps) }, q .small), (q .stripe, q .column))
 
 same-length : tie.Need-same-length

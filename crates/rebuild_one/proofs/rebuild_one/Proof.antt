@@ -10,7 +10,7 @@ use Rattle.rebuild_one.proofs.rebuild_one.Statement.{statement}
 use Rattle.rebuild_one.proofs.rebuild_one.Tie as tie
 
 -- past the refusals
-passed : (c : tie.Else1) → let a = c .before .before .before .before .args in oneFault (a .width) (a .width) (a .size) (a .disk) (a .stripe .now) (a .column .now) ≡ 0
+passed : (c : tie.Else1) → let a = c .before .before .before .before .args in oneFault (a .shape .width) (a .shape .disks) (a .shape .«cell_size») (a .lost) (a .stripe .now) (a .column .now) ≡ 0
 passed c = sym (c .before .one-fault .ensures) ∙ c .if1 .left
 
 -- the lent stripe is bytes
@@ -28,7 +28,7 @@ returns c =
     let i = c .before in
     let f = i .before .one-fault in
     let a = i .before .before .before .before .args in
-    refused (a .width) (a .width) (a .size) (a .disk) (f .result) (a .stripe .now) (a .column .now) (c .answered .result) (f .ensures) (i .if1 .taken) (c .answered .ensures) (bytes (i .before .before .before))
+    refused (a .shape .width) (a .shape .disks) (a .shape .«cell_size») (a .lost) (f .result) (a .stripe .now) (a .column .now) (c .answered .result) (f .ensures) (i .if1 .taken) (c .answered .ensures) (bytes (i .before .before .before))
 
 rebuild-column-requires : tie.Need-rebuild-column-requires
 rebuild-column-requires c κs = passed (c .before)
@@ -44,7 +44,7 @@ returns-2 c =
     let g = c .before .before .before in
     let i = g .before .before in
     let a = i .before .before .before .before .args in
-    accepted (a .width) (a .width) (a .size) (a .disk) (a .stripe .now) (a .column .now) (g .rebuild-column .last .1 .1 .1 .1 .0) (c .answered2 .result) (passed i) (g .rebuild-column .ensures) (c .answered2 .ensures) (bytes (i .before .before .before))
+    accepted (a .shape .width) (a .shape .disks) (a .shape .«cell_size») (a .lost) (a .stripe .now) (a .column .now) (g .rebuild-column .last .1 .1 .1 .1 .1 .0) (c .answered2 .result) (passed i) (g .rebuild-column .ensures) (c .answered2 .ensures) (bytes (i .before .before .before))
 
 pub rebuild-one-spec : {M : Type 1} → statement M
 rebuild-one-spec = tie.close (tie.spec one-fault-requires answered-requires returns rebuild-column-requires answered-requires-2 same-length returns-2)
