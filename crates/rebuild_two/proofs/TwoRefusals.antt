@@ -1,4 +1,4 @@
--- Refusals 1 to 5 of `rebuild_two`, and its promise from what was refused or done.
+-- Refusals 1, 13 and 2 to 5 of `rebuild_two`, and its promise from what was refused or done.
 use mathlib.Core.Path.{_≡_, sym, _∙_}
 use mathlib.Core.Bool.{true}
 use mathlib.Core.List.{List}
@@ -22,12 +22,12 @@ use Rattle.stripes.specs.Cells.{Sized}
 use Rattle.rebuild_two.specs.Says.{twoFault, TwoSays}
 
 -- the numbers are accepted: the stripe has few enough bytes to count
-pub bytes-most : (p k s a : ℕ) → k ≤ p → numbersFault p k s a ≡ 0 → (k ≤ 31) × (p * s ≤ 126976) × ((k + 2) * (p * s) ≤ 4190208)
-bytes-most p k s a m e =
+pub bytes-most : (p k s a : ℕ) → numbersFault p k s a ≡ 0 → (k ≤ 31) × (p * s ≤ 126976) × ((k + 2) * (p * s) ≤ 4190208)
+bytes-most p k s a e =
     let q = numbers-of p k s a e in
     let w : p ≤ 31 = width-most p (q .0) in
     let l : p * s ≤ 31 * 4096 = mul-le-mul w (q .2) in
-    let d : k + 2 ≤ 33 = omega arith in
+    let d : k + 2 ≤ 33 = omega (arith, q .5) in
     (omega arith, omega arith, omega (arith, mul-le-mul d l))
 
 -- what a call that is not refused has
@@ -39,8 +39,8 @@ pub record Accepted (p k s a b : ℕ) (t : List ℕ) : Type 0 where
   pub second : b ≤ k + 1
   pub apart : a ≡ b → ⊥
 
-pub fault-none : (p k s a b : ℕ) (t : List ℕ) → k ≤ p → twoFault p k s a b t ≡ 0 → Accepted p k s a b t
-fault-none p k s a b t m e =
+pub fault-none : (p k s a b : ℕ) (t : List ℕ) → twoFault p k s a b t ≡ 0 → Accepted p k s a b t
+fault-none p k s a b t e =
     let tail5 : ℕ = longFault (stripeLong p k s) t in
     let tail4 : ℕ = firstOf (when (eqb a b) 4) tail5 in
     let tail3 : ℕ = firstOf (diskFault k b) tail4 in
@@ -52,7 +52,7 @@ fault-none p k s a b t m e =
       width = q .0;
       sized = record {
         widest = width-most p (q .0);
-        disks = m;
+        disks = q .5;
         small = q .2;
         long = long-of (stripeLong p k s) t (h .1);
       };

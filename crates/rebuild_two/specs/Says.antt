@@ -12,7 +12,7 @@ use Rattle.liberation_pairs.specs.Pairs.{pairSolved}
 use Rattle.refusals.specs.declared.Answer.{Answer}
 use Rattle.refusals.specs.Answers.{Answers}
 
--- the rebuild refuses by 1, 2, 3, 4 and 5: a and b are the lost disks, t is the stripe
+-- the rebuild refuses by 1, 13, 2, 3, 4 and 5: a and b are the lost disks, t is the stripe
 abbrev pub twoFault : ℕ → ℕ → ℕ → ℕ → ℕ → List ℕ → ℕ
 twoFault p k s a b t = firstOf (numbersFault p k s a) (firstOf (diskFault k b) (firstOf (when (eqb a b) 4) (longFault (stripeLong p k s) t)))
 

@@ -1,13 +1,13 @@
 // The rebuild of two lost disks in place: document 01, "Two lost disks". Refusals are tested here; the walk is below.
 ghost use mathlib.Core.Path.{_≡_};
 ghost use mathlib.Core.Bool.{not};
-ghost use Prim.Native.Nat.{_≤_};
 ghost use lib.Dec.{eqb};
 ghost use Rattle.laws.specs.Choice.{when, firstOf};
 ghost use Rattle.liberation.specs.Sets.{numbersFault, diskFault};
 ghost use Rattle.liberation_stripes.specs.Stripes.{stripeLong};
 ghost use Rattle.rebuild_two.specs.Says.{TwoSays};
 use refusals::Answer;
+use refusals::Shape;
 
 // The refusal of a call on a stripe of `long` bytes, 0 for none.
 fn two_fault(
@@ -18,7 +18,6 @@ fn two_fault(
     second: usize,
     long: usize,
 ) -> u8
-    requires { ⌜ disks ≤ width ⌝ }
     ensures { λ r. ⌜ r ≡ firstOf (numbersFault width disks size first) (firstOf (diskFault disks second) (firstOf (when (eqb first second) 4) (when (not (eqb long (stripeLong width disks size))) 5))) ⌝ }
 {
     let fault = refusals::numbers_fault(width, disks, size, first);
@@ -35,20 +34,28 @@ fn two_fault(
     refusals::length_fault(long, (disks + 2) * (width * size))
 }
 
-// Rebuilds two lost disks in place. Refusals: 1 to 5; a refused call leaves the stripe as it was.
-pub fn rebuild_two(
-    width: usize,
-    size: usize,
-    first: usize,
-    second: usize,
-    stripe: &mut [u8],
-) -> Answer
-    ensures { λ r. ⌜ TwoSays width width size first second (now (stripe .entry)) (now (stripe .exit)) r ⌝ }
+// Rebuilds two lost disks in place. Refusals: 1, 13, 2, 3, 4, 5; a refused call leaves the stripe as it was.
+pub fn rebuild_two(shape: Shape, first: usize, second: usize, stripe: &mut [u8]) -> Answer
+    ensures { λ r. ⌜ TwoSays (shape .width) (shape .disks) (shape .«cell_size») first second (now (stripe .entry)) (now (stripe .exit)) r ⌝ }
 {
-    let refusal = two_fault(width, width, size, first, second, stripe.len());
+    let refusal = two_fault(
+        shape.width,
+        shape.disks,
+        shape.cell_size,
+        first,
+        second,
+        stripe.len(),
+    );
     if refusal != 0 {
         return refusals::answered(refusal);
     }
-    pair_walk::solve_pair(width, width, size, first, second, stripe);
+    pair_walk::solve_pair(
+        shape.width,
+        shape.disks,
+        shape.cell_size,
+        first,
+        second,
+        stripe,
+    );
     refusals::answered(0)
 }

@@ -1,7 +1,6 @@
 -- `rebuild_two`: a refusal leaves the stripe as it was; else both disks are rebuilt in it.
 use mathlib.Core.Path.{_≡_, sym, _∙_}
 use mathlib.Core.Bool.{true}
-use native.Mathlib.Omega.{arith}
 use borrow.Author.Needs.{needs}
 use Rattle.laws.specs.Xor.{allBytes}
 use Rattle.xor.proofs.SourceLaws.{bytes-all}
@@ -11,7 +10,7 @@ use Rattle.rebuild_two.proofs.rebuild_two.Statement.{statement}
 use Rattle.rebuild_two.proofs.rebuild_two.Tie as tie
 
 -- past the refusals
-passed : (c : tie.Else1) → let a = c .before .before .before .args in twoFault (a .width) (a .width) (a .size) (a .first) (a .second) (a .stripe .now) ≡ 0
+passed : (c : tie.Else1) → let a = c .before .before .before .args in twoFault (a .shape .width) (a .shape .disks) (a .shape .«cell_size») (a .first) (a .second) (a .stripe .now) ≡ 0
 passed c = sym (c .before .two-fault .ensures) ∙ c .if1 .left
 
 -- the lent stripe is bytes
@@ -29,13 +28,13 @@ returns c =
     let i = c .before in
     let f = i .before .two-fault in
     let a = i .before .before .before .args in
-    two-refused (a .width) (a .width) (a .size) (a .first) (a .second) (f .result) (a .stripe .now) (c .answered .result) (f .ensures) (i .if1 .taken) (c .answered .ensures) (bytes (i .before .before))
+    two-refused (a .shape .width) (a .shape .disks) (a .shape .«cell_size») (a .first) (a .second) (f .result) (a .stripe .now) (c .answered .result) (f .ensures) (i .if1 .taken) (c .answered .ensures) (bytes (i .before .before))
 
 solve-pair-requires : tie.Need-solve-pair-requires
 solve-pair-requires c κs =
     let i = c .before in
     let a = i .before .before .before .args in
-    let q = fault-none (a .width) (a .width) (a .size) (a .first) (a .second) (a .stripe .now) (omega arith) (passed i) in
+    let q = fault-none (a .shape .width) (a .shape .disks) (a .shape .«cell_size») (a .first) (a .second) (a .stripe .now) (passed i) in
     (q .sized, (q .odd, q .first, q .second, q .apart))
 
 answered-requires-2 : tie.Need-answered-requires-2
@@ -49,7 +48,7 @@ returns-2 c =
     let w = c .before .before .before in
     let i = w .before .before in
     let a = i .before .before .before .args in
-    two-done (a .width) (a .width) (a .size) (a .first) (a .second) (a .stripe .now) (w .solve-pair .last .1 .1 .1 .1 .1 .0) (c .answered2 .result) (passed i) (w .solve-pair .ensures) (c .answered2 .ensures) (bytes (i .before .before))
+    two-done (a .shape .width) (a .shape .disks) (a .shape .«cell_size») (a .first) (a .second) (a .stripe .now) (w .solve-pair .last .1 .1 .1 .1 .1 .0) (c .answered2 .result) (passed i) (w .solve-pair .ensures) (c .answered2 .ensures) (bytes (i .before .before))
 
 pub rebuild-two-spec : {M : Type 1} → statement M
 rebuild-two-spec =

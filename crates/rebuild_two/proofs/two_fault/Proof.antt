@@ -1,4 +1,4 @@
--- `two_fault`: refusals 1, 2 and 3 for the first disk, 3 for the second, then 4 and 5.
+-- `two_fault`: refusals 1, 13, 2 and 3 for the first disk, 3 for the second, then 4 and 5.
 use mathlib.Core.Path.{_≡_, sym, ap, _∙_}
 use mathlib.Core.Bool.{Bool, not}
 use Prim.Native.Nat.{ℕ, _+_, _*_, _≤_}
@@ -23,7 +23,7 @@ fine c = sym (c .before .numbers-fault .ensures) ∙ c .if1 .left
 
 -- so the stripe's bytes can be counted
 most : (c : tie.Else1) → let a = c .before .before .args in (a .disks ≤ 31) × (a .width * a .size ≤ 126976) × ((a .disks + 2) * (a .width * a .size) ≤ 4190208)
-most c = let z = c .before .before in bytes-most (z .args .width) (z .args .disks) (z .args .size) (z .args .first) (z .pre) (fine c)
+most c = let a = c .before .before .args in bytes-most (a .width) (a .disks) (a .size) (a .first) (fine c)
 
 returns : tie.Need-returns
 returns c =
