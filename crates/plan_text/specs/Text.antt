@@ -1,7 +1,7 @@
 -- The printed plan (document 01, "The printed plan"): the input's form, and the whole output as a function of the whole input.
 use mathlib.Core.Bool.{Bool, _&&_}
 use mathlib.Core.List.{List, [], _∷_, _++_}
-use Prim.Native.Nat.{ℕ, suc, _+_, _-_, _*_, _/_, _%_}
+use Prim.Native.Nat.{ℕ, suc, _+_, _-_, _*_}
 use lib.Dec.{eqb, ltb}
 use lib.ListN.{length, getD, drop}
 use Rattle.laws.specs.Choice.{pick, firstOf}
