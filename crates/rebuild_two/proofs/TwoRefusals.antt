@@ -2,9 +2,7 @@
 use mathlib.Core.Path.{_≡_, sym, _∙_}
 use mathlib.Core.Bool.{true}
 use mathlib.Core.List.{List}
-use Prim.Native.Nat.{ℕ, _+_, _*_, _%_, _≤_}
-use native.Mathlib.Nat.{mul-le-mul}
-use native.Mathlib.Omega.{arith}
+use Prim.Native.Nat.{ℕ, _+_, _%_, _≤_}
 use lib.Dec.{eqb, ltb}
 use borrow.Author.Tests.{ltb-false, eqb-false}
 use Rattle.laws.specs.Choice.{when, firstOf}
@@ -20,15 +18,6 @@ use Rattle.liberation_stripes.specs.Stripes.{stripeLong}
 use Rattle.liberation_pairs.specs.Pairs.{pairSolved}
 use Rattle.stripes.specs.Cells.{Sized}
 use Rattle.rebuild_two.specs.Says.{twoFault, TwoSays}
-
--- the numbers are accepted: the stripe has few enough bytes to count
-pub bytes-most : (p k s a : ℕ) → numbersFault p k s a ≡ 0 → (k ≤ 31) × (p * s ≤ 126976) × ((k + 2) * (p * s) ≤ 4190208)
-bytes-most p k s a e =
-    let q = numbers-of p k s a e in
-    let w : p ≤ 31 = width-most p (q .0) in
-    let l : p * s ≤ 31 * 4096 = mul-le-mul w (q .2) in
-    let d : k + 2 ≤ 33 = omega (arith, q .5) in
-    (omega arith, omega arith, omega (arith, mul-le-mul d l))
 
 -- what a call that is not refused has
 pub record Accepted (p k s a b : ℕ) (t : List ℕ) : Type 0 where

@@ -10,7 +10,7 @@ use Rattle.laws.proofs.ChoiceLaws.{first-kept, first-next}
 use Rattle.laws.specs.Choice.{when, firstOf}
 use Rattle.liberation.specs.Sets.{numbersFault, diskFault}
 use Rattle.liberation_stripes.specs.Stripes.{stripeLong}
-use Rattle.rebuild_two.proofs.TwoRefusals.{bytes-most}
+use Rattle.stripes.proofs.StripeRefusals.{numbers-most}
 use Rattle.rebuild_two.proofs.two_fault.Statement.{statement}
 use Rattle.rebuild_two.proofs.two_fault.Tie as tie
 
@@ -22,8 +22,8 @@ fine : (c : tie.Else1) → let a = c .before .before .args in numbersFault (a .w
 fine c = sym (c .before .numbers-fault .ensures) ∙ c .if1 .left
 
 -- so the stripe's bytes can be counted
-most : (c : tie.Else1) → let a = c .before .before .args in (a .disks ≤ 31) × (a .width * a .size ≤ 126976) × ((a .disks + 2) * (a .width * a .size) ≤ 4190208)
-most c = let a = c .before .before .args in bytes-most (a .width) (a .disks) (a .size) (a .first) (fine c)
+most : (c : tie.Else1) → let a = c .before .before .args in (a .width ≤ 31) × (a .disks ≤ a .width) × (a .width * a .size ≤ 126976) × ((a .disks + 2) * (a .width * a .size) ≤ 4190208)
+most c = let a = c .before .before .args in numbers-most (a .width) (a .disks) (a .size) (a .first) (fine c)
 
 returns : tie.Need-returns
 returns c =
