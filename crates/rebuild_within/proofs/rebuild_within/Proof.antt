@@ -1,0 +1,24 @@
+-- `rebuild_within`: our plan is made, which is not refused, and followed.
+use mathlib.Core.Path.{sym, subst}
+use mathlib.Core.List.{List, []}
+use borrow.Author.Needs.{needs}
+use Rattle.laws.proofs.ChoiceLaws.{pick-done}
+use Rattle.liberation.specs.Sets.{planFault}
+use Rattle.liberation.specs.Plans.{Step, planOf}
+use Rattle.liberation.proofs.FaultLaws.{plan-of}
+use Rattle.planner.specs.Records.{Holds}
+use Rattle.rebuild_within.proofs.rebuild_within.Statement.{statement}
+use Rattle.rebuild_within.proofs.rebuild_within.Tie as tie
+
+follow-requires : tie.Need-follow-requires
+follow-requires c κs =
+    let d = c .before .before in
+    let z = d .before .before in
+    let a = z .args in
+    let q = plan-of (a .width) (a .disks) (a .disk) (z .pre .1) in
+    let ours : List Step = planOf (a .width) (a .disks) (a .disk) in
+    let planned = sym (pick-done (planFault (a .width) (a .disks) (a .disk)) ours [] (z .pre .1)) in
+    (z .pre .0, (q .0, q .1, subst (λ (ss : List Step). Holds ss (d .plan-steps .result .steps)) planned (d .plan-steps .ensures .steps)))
+
+pub rebuild-within-spec : {M : Type 1} → statement M
+rebuild-within-spec = tie.close (tie.spec (λ c κs. search needs) follow-requires (λ c. search needs) (λ c. search needs))
