@@ -1,15 +1,12 @@
 -- The loops over the rows of a disk, and the walk's clauses at a number of the code's: none left, and one less.
 use mathlib.Core.Path.{_≡_, refl, sym, ap, ap₂, _∙_}
 use mathlib.Core.List.{List}
-use Prim.Native.Nat.{ℕ, zero, suc, _+_, _-_, _%_, _≤_, _<_}
-use native.Mathlib.Nat.{mod-lt}
+use Prim.Native.Nat.{ℕ, zero, suc, _+_, _-_, _≤_, _<_}
 use native.Mathlib.Numerals.{add-one}
 use native.Mathlib.Omega.{arith}
 use lib.ListN.{length}
-use borrow.Author.Tests.{eqb-true, eq-eqb}
 use Rattle.liberation.specs.Sets.{place, rowSet, diagonalSet}
 use Rattle.liberation.specs.Plans.{diagonalOf}
-use Rattle.liberation.proofs.SetLaws.{diagonal-of}
 use Rattle.liberation_stripes.specs.Stripes.{solved, followed}
 use Rattle.liberation_pairs.specs.Pairs.{upDiagonals, nextRow, diagonalWalk, rowWalk}
 use Rattle.stripes.specs.Cells.{Sized}
@@ -17,12 +14,6 @@ use Rattle.stripes.specs.Cells.{Sized}
 -- a stripe that is as long
 pub sized-kept : (p k s : ℕ) (t u : List ℕ) → Sized p k s t → length u ≡ length t → Sized p k s u
 sized-kept p k s t u q e = record { widest = q .widest; disks = q .disks; small = q .small; long = e ∙ q .long }
-
--- row j's cell on disk f is ordinary on its diagonal
-pub up-row : (p f j : ℕ) → f < p → j < p → j ≡ (diagonalOf p f j + f) % p
-up-row p f j h k =
-    let b : diagonalOf p f j < p = mod-lt (j + p - f) (omega arith) in
-    eqb-true j ((diagonalOf p f j + f) % p) (diagonal-of p (diagonalOf p f j) j f b k h ∙ eq-eqb (diagonalOf p f j) (diagonalOf p f j) refl)
 
 -- the diagonal steps for disk f from row j on, done to a stripe
 module _ (p k s f : ℕ) where

@@ -6,10 +6,11 @@ use native.Mathlib.Omega.{arith}
 use lib.ListN.{length}
 use borrow.Author.Needs.{needs}
 use Rattle.liberation.specs.Plans.{diagonalOf}
+use Rattle.liberation.proofs.RowSteps.{ordinary-row}
 use Rattle.liberation_stripes.specs.Stripes.{followed}
 use Rattle.liberation_pairs.specs.Pairs.{upDiagonals}
 use Rattle.stripes.proofs.OrdinaryLaws.{diagonal-own}
-use Rattle.pair_walk.proofs.WalkClauses.{sized-kept, up-row, upRest, up-first, up-turn, up-last}
+use Rattle.pair_walk.proofs.WalkClauses.{sized-kept, upRest, up-first, up-turn, up-last}
 use Rattle.pair_walk.proofs.up_diagonals.Statement.{statement}
 use Rattle.pair_walk.proofs.up_diagonals.Tie as tie
 
@@ -29,7 +30,7 @@ solve-requires c κs =
     let a = z .args in
     let l = c .before .before .loop in
     let b = mod-lt (l .i + a .width - a .disk) {m = a .width} (omega arith) in
-    (sized-kept (a .width) (a .disks) (a .size) (a .stripe .now) (l .stripe) (z .pre .0) (l .inv .1), diagonal-own (a .width) (a .disks) (diagonalOf (a .width) (a .disk) (l .i)) (a .disk) (l .i) b (omega arith) (omega arith) (up-row (a .width) (a .disk) (l .i) (omega arith) (omega arith)))
+    (sized-kept (a .width) (a .disks) (a .size) (a .stripe .now) (l .stripe) (z .pre .0) (l .inv .1), diagonal-own (a .width) (a .disks) (diagonalOf (a .width) (a .disk) (l .i)) (a .disk) (l .i) b (omega arith) (omega arith) (sym (ordinary-row (a .width) (a .disk) (l .i) (omega arith) (omega arith))))
 
 loop-again : tie.Need-loop-again Inv-loop μ-loop
 loop-again c =
