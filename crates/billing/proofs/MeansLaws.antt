@@ -50,7 +50,7 @@ pub run-bill-means : (x : Run) (r s t : ℕ) (y : Bill) → RunBillSays x r s t 
 run-bill-means x r s t y k z = means (runBillFault x r s t) (runBytes x) r s t y k z
 
 -- "The bill of a run takes cells read × s as its bytes": the cells that reading the record answers
-pub run-bill-read : (x : Run) (r s t : ℕ) (y : Bill) (g : Progress) → RunBillSays x r s t y → y .answer .refusal ≡ 0 → ProgressSays x g → BillMeans (g .cells * x .size) r s t y
+pub run-bill-read : (x : Run) (r s t : ℕ) (y : Bill) (g : Progress) → RunBillSays x r s t y → y .answer .refusal ≡ 0 → ProgressSays x g → BillMeans (g .cells * x .shape .«cell_size») r s t y
 run-bill-read x r s t y g k z q =
     let e : runFault x ≡ 0 = first-none (runFault x) (billFault (runBytes x) r s t) (sym (k .answer .refusal) ∙ z) .0 in
-    subst (λ (n : ℕ). BillMeans (n * x .size) r s t y) (sym (q .cells ∙ ap (λ (n : ℕ). pick (eqb n 0) (cellsSoFar x) 0) e)) (run-bill-means x r s t y k z)
+    subst (λ (n : ℕ). BillMeans (n * x .shape .«cell_size») r s t y) (sym (q .cells ∙ ap (λ (n : ℕ). pick (eqb n 0) (cellsSoFar x) 0) e)) (run-bill-means x r s t y k z)

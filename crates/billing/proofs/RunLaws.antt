@@ -1,4 +1,4 @@
--- The bill of a run: the bytes that a run can have read are at most 2^54, since each step reads at most p² cells of at most 4,096 bytes.
+-- The bill of a run: the bytes that a run can have read are at most 2^54, since each step reads at most p(k + 2) cells of at most 4,096 bytes.
 use mathlib.Core.Path.{_≡_, sym, ap, subst, _∙_}
 use Prim.Native.Nat.{ℕ, _*_, _^_, _≤_}
 use native.Mathlib.Nat.{mul-le-mul}
@@ -28,11 +28,11 @@ module _ (x : Run) (g : Progress) (k : ProgressSays x g) (z : g .answer .refusal
   read = k .cells ∙ ap (λ (n : ℕ). pick (eqb n 0) (cellsSoFar x) 0) fine
 
   -- its bytes are below 2^54, so they do not wrap and 17 never comes
-  pub bytes-fit : g .cells * x .size ≤ 2 ^ 54
-  bytes-fit = omega (arith, mul-le-mul (k .few) (numbers-of (x .width) (x .width) (x .size) (x .disk) fine .2))
+  pub bytes-fit : g .cells * x .shape .«cell_size» ≤ 2 ^ 54
+  bytes-fit = omega (arith, mul-le-mul (k .few) (numbers-of (x .shape .width) (x .shape .disks) (x .shape .«cell_size») (x .lost) fine .2))
 
   -- and are billed
-  pub run-billed : (r s t : ℕ) (y : Bill) → BillSays (g .cells * x .size) r s t y → RunBillSays x r s t y
+  pub run-billed : (r s t : ℕ) (y : Bill) → BillSays (g .cells * x .shape .«cell_size») r s t y → RunBillSays x r s t y
   run-billed r s t y d =
       let e : billFault (runBytes x) r s t ≡ runBillFault x r s t = sym (ap (λ (n : ℕ). firstOf n (billFault (runBytes x) r s t)) fine) in
-      subst (λ (n : ℕ). Says n (runBytes x) r s t y) e (subst (λ (n : ℕ). BillSays (n * x .size) r s t y) read d)
+      subst (λ (n : ℕ). Says n (runBytes x) r s t y) e (subst (λ (n : ℕ). BillSays (n * x .shape .«cell_size») r s t y) read d)

@@ -55,9 +55,9 @@ pub record Says (n b r s t : ℕ) (x : Bill) : Type 0 where
 abbrev pub BillSays : ℕ → ℕ → ℕ → ℕ → Bill → Type 0
 BillSays b r s t x = Says (billFault b r s t) b r s t x
 
--- "The bill of a run takes cells read × s as its bytes": its record refuses by 1, 2 and 3, as reading it does
+-- "The bill of a run takes cells read × s as its bytes": its record refuses by 1, 13, 2 and 3, as reading it does
 abbrev pub runBytes : Run → ℕ
-runBytes x = cellsSoFar x * x .size
+runBytes x = cellsSoFar x * x .shape .«cell_size»
 
 abbrev pub runBillFault : Run → ℕ → ℕ → ℕ → ℕ
 runBillFault x r s t = firstOf (runFault x) (billFault (runBytes x) r s t)

@@ -75,7 +75,7 @@ pub fn bill_bytes(bytes: u64, first: u64, second: u64, third: u64) -> Bill
     }
 }
 
-// The bill of a run: cells read so far times the bytes of a cell. Refusals: 1, 2, 3, 16.
+// The bill of a run: cells read so far times the bytes of a cell. Refusals: 1, 13, 2, 3, 16.
 pub fn bill_run(run: Run, first: u64, second: u64, third: u64) -> Bill
     ensures { λ r. ⌜ RunBillSays run first second third r ⌝ }
 {
@@ -84,5 +84,6 @@ pub fn bill_run(run: Run, first: u64, second: u64, third: u64) -> Bill
     if answer.refusal != 0 {
         return refused_bill(answer.refusal);
     }
-    bill_bytes(progress.cells * run.size as u64, first, second, third)
+    let s = run.shape;
+    bill_bytes(progress.cells * s.cell_size as u64, first, second, third)
 }

@@ -15,7 +15,7 @@ use Rattle.laws.specs.Choice.{pick}
 use Rattle.laws.specs.Lists.{isIn}
 use Rattle.laws.specs.Xor.{xorL, allBytes}
 use Rattle.laws.proofs.Flags.{same-flag, or-r}
-use Rattle.laws.proofs.Modulo.{lt-or-le}
+use Rattle.laws.proofs.OrderLaws.{lt-or-le}
 use Rattle.laws.proofs.ListLaws.{isIn-append, take-replicate}
 use Rattle.laws.proofs.LengthLaws.{drop-replicate}
 use Rattle.laws.proofs.ByteLaws.{bytes-append, bytes-take, bytes-drop}

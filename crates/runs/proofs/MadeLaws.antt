@@ -34,57 +34,57 @@ made-columns x (c ∷ cs) (l ∷ ls) (step-made _ _ _ _ _ k m) =
     go true r q e = ap₂ (λ (a : List ℕ) (l : List (List ℕ)). a ∷ l) q (e ∙ ap (λ (y : Run). written y cs) r)
     go false r q e = e ∙ ap (λ (y : Run). written y cs) r
 
-each-long : (p s f : ℕ) (cs : List Call) → length (rebuiltEach p s f cs) ≡ length cs
+each-long : (p k s f : ℕ) (cs : List Call) → length (rebuiltEach p k s f cs) ≡ length cs
 unfolding rebuiltEach
-each-long p s f [] = refl
-each-long p s f (c ∷ cs) = ap (λ (n : ℕ). suc n) (each-long p s f cs)
+each-long p k s f [] = refl
+each-long p k s f (c ∷ cs) = ap (λ (n : ℕ). suc n) (each-long p k s f cs)
 
 -- calls on an opened run
-module _ (p s f n : ℕ) (r : RunAnswer) (cs : List Call) (ls : List Left) (o : OpenSays p s f n r) (z : r .answer .refusal ≡ 0) (m : Made (r .run) cs ls) where
-  fine : numbersFault p p s f ≡ 0
+module _ (p k s f n : ℕ) (r : RunAnswer) (cs : List Call) (ls : List Left) (o : OpenSays p k s f n r) (z : r .answer .refusal ≡ 0) (m : Made (r .run) cs ls) where
+  fine : numbersFault p k s f ≡ 0
   fine = sym (o .answer .refusal) ∙ z
 
-  start : r .run ≡ opened p s f n
-  start = o .run ∙ ap (λ (i : ℕ). pick (eqb i 0) (opened p s f n) noRun) fine
+  start : r .run ≡ opened p k s f n
+  start = o .run ∙ ap (λ (i : ℕ). pick (eqb i 0) (opened p k s f n) noRun) fine
 
-  last : lastRun (r .run) ls ≡ steps (opened p s f n) cs
+  last : lastRun (r .run) ls ≡ steps (opened p k s f n) cs
   last = made-run (r .run) cs ls m ∙ ap (λ (y : Run). steps y cs) start
 
-  kept : columnsOf ls ≡ rebuiltEach p s f (acceptedIn (opened p s f n) cs)
-  kept = made-columns (r .run) cs ls m ∙ ap (λ (y : Run). written y cs) start ∙ runs-right p s f n cs .columns
+  kept : columnsOf ls ≡ rebuiltEach p k s f (acceptedIn (opened p k s f n) cs)
+  kept = made-columns (r .run) cs ls m ∙ ap (λ (y : Run). written y cs) start ∙ runs-right p k s f n cs .columns
 
-  long : length (columnsOf ls) ≡ length (acceptedIn (opened p s f n) cs)
-  long = ap length kept ∙ each-long p s f (acceptedIn (opened p s f n) cs)
+  long : length (columnsOf ls) ≡ length (acceptedIn (opened p k s f n) cs)
+  long = ap length kept ∙ each-long p k s f (acceptedIn (opened p k s f n) cs)
 
-  made : RunMade p s f n (r .run) cs ls
+  made : RunMade p k s f n (r .run) cs ls
   made =
-      let d : RunDone p s f n cs = runs-right p s f n cs in
+      let d : RunDone p k s f n cs = runs-right p k s f n cs in
       record {
         few = omega (arith, long, d .few);
         over = ap isOver last ∙ d .over ∙ ap (λ (i : ℕ). eqb i n) (sym long);
-        cells = ap cellsSoFar last ∙ d .cells ∙ ap (λ (i : ℕ). i * readCount p p f (planOf p p f)) (sym long);
-        columns = kept ∙ ap (λ (y : Run). rebuiltEach p s f (acceptedIn y cs)) (sym start);
+        cells = ap cellsSoFar last ∙ d .cells ∙ ap (λ (i : ℕ). i * readCount p k f (planOf p k f)) (sym long);
+        columns = kept ∙ ap (λ (y : Run). rebuiltEach p k s f (acceptedIn y cs)) (sym start);
         order = ap (λ (y : Run). inOrder 0 (acceptedIn y cs)) start ∙ d .order;
       }
 
-  -- steps leave width, size and disk, so the record can be read
+  -- steps leave shape and lost disk, so the record can be read
   readable : runFault (lastRun (r .run) ls) ≡ 0
-  readable = ap runFault (last ∙ steps-ahead (opened p s f n) cs) ∙ fine
+  readable = ap runFault (last ∙ steps-ahead (opened p k s f n) cs) ∙ fine
 
-  read : (g : Progress) → ProgressSays (lastRun (r .run) ls) g → RunRead p f n ls g
-  read g k =
+  read : (g : Progress) → ProgressSays (lastRun (r .run) ls) g → RunRead p k f n ls g
+  read g y =
       let x : Run = lastRun (r .run) ls in
       record {
-        refusal = k .answer .refusal ∙ readable;
-        over = k .over ∙ ap (λ (i : ℕ). eqb i 0 && isOver x) readable ∙ made .over;
-        cells = k .cells ∙ ap (λ (i : ℕ). pick (eqb i 0) (cellsSoFar x) 0) readable ∙ made .cells;
+        refusal = y .answer .refusal ∙ readable;
+        over = y .over ∙ ap (λ (i : ℕ). eqb i 0 && isOver x) readable ∙ made .over;
+        cells = y .cells ∙ ap (λ (i : ℕ). pick (eqb i 0) (cellsSoFar x) 0) readable ∙ made .cells;
       }
 
 pub calls-right : Calls-right
-calls-right p s f n r cs ls o z m = made p s f n r cs ls o z m
+calls-right p k s f n r cs ls o z m = made p k s f n r cs ls o z m
 
 pub calls-go : Calls-go
-calls-go p s f n r cs ls o z m order lengths few = long p s f n r cs ls o z m ∙ ap length (runs-go p s f n cs (fine p s f n r cs ls o z m) order lengths few)
+calls-go p k s f n r cs ls o z m order lengths few = long p k s f n r cs ls o z m ∙ ap length (runs-go p k s f n cs (fine p k s f n r cs ls o z m) order lengths few)
 
 pub progress-right : Progress-right
-progress-right p s f n r cs ls g o z m k = read p s f n r cs ls o z m g k
+progress-right p k s f n r cs ls g o z m y = read p k s f n r cs ls o z m g y

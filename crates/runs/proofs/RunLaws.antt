@@ -21,7 +21,7 @@ use Rattle.runs.specs.Claims.{Call, isAccepted, steps, acceptedIn, writt
 pub next-stripe : (x : Run) (c : Call) → isAccepted x c ≡ true → (c .which ≡ x .next) × (x .next < x .stripes)
 next-stripe x c e =
     let i = c .which in
-    let one = oneFault (x .width) (x .width) (x .size) (x .disk) (c .stripe) (c .column) in
+    let one = oneFault (x .shape .width) (x .shape .disks) (x .shape .«cell_size») (x .lost) (c .stripe) (c .column) in
     let z = first-none one (nextFault x i) (eqb-true (stepFault x i (c .stripe) (c .column)) 0 e) in
     let a : Bool = leb (x .stripes) (x .next) in
     let b : Bool = not (eqb i (x .next)) in
@@ -39,7 +39,7 @@ first-refused x c cs e = ap (λ (b : Bool). pick b (c ∷ acceptedIn (moved x) c
 
 -- the record with next n, and m steps on
 abbrev pub at : ℕ → Run → Run
-at n x = record { width = x .width; size = x .size; disk = x .disk; stripes = x .stripes; next = n }
+at n x = record { shape = x .shape; lost = x .lost; stripes = x .stripes; next = n }
 
 abbrev pub ahead : ℕ → Run → Run
 ahead m x = at (x .next + m) x
@@ -82,11 +82,11 @@ steps-order x (c ∷ cs) =
     (λ e. ap (inOrder (x .next)) (first-refused x c cs e) ∙ steps-order x cs)
     (flag (isAccepted x c))
 
-pub steps-columns : (x : Run) (cs : List Call) → written x cs ≡ rebuiltEach (x .width) (x .size) (x .disk) (acceptedIn x cs)
+pub steps-columns : (x : Run) (cs : List Call) → written x cs ≡ rebuiltEach (x .shape .width) (x .shape .disks) (x .shape .«cell_size») (x .lost) (acceptedIn x cs)
 unfolding written rebuiltEach acceptedIn
 steps-columns x [] = refl
 steps-columns x (c ∷ cs) =
-    let each : List Call → List (List ℕ) = rebuiltEach (x .width) (x .size) (x .disk) in
+    let each : List Call → List (List ℕ) = rebuiltEach (x .shape .width) (x .shape .disks) (x .shape .«cell_size») (x .lost) in
     let turn : (b : Bool) → List (List ℕ) = λ b. pick b (runColumn x (c .stripe) ∷ written (moved x) cs) (written x cs) in
     ⊎-elim
     (λ e. ap turn e ∙ ap (λ (l : List (List ℕ)). runColumn x (c .stripe) ∷ l) (steps-columns (moved x) cs) ∙ ap each (sym (first-accepted x c cs e)))
@@ -95,8 +95,8 @@ steps-columns x (c ∷ cs) =
 
 -- any steps from the opening on
 pub runs-right : Runs-right
-runs-right p s f n cs =
-    let x : Run = opened p s f n in
+runs-right p k s f n cs =
+    let x : Run = opened p k s f n in
     let m : ℕ = length (acceptedIn x cs) in
     let z : 0 + m ≡ m = omega arith in
     let e : steps x cs ≡ at m x = steps-ahead x cs ∙ ap (λ (i : ℕ). at i x) z in
@@ -112,8 +112,8 @@ runs-right p s f n cs =
 in-turn :
     (x : Run) (c : Call)
     → runFault x ≡ 0
-    → eqb (length (c .stripe)) (stripeLong (x .width) (x .width) (x .size)) ≡ true
-    → eqb (length (c .column)) (x .width * x .size) ≡ true
+    → eqb (length (c .stripe)) (stripeLong (x .shape .width) (x .shape .disks) (x .shape .«cell_size»)) ≡ true
+    → eqb (length (c .column)) (x .shape .width * x .shape .«cell_size») ≡ true
     → eqb (c .which) (x .next) ≡ true
     → x .next < x .stripes
     → isAccepted x c ≡ true
@@ -122,14 +122,14 @@ in-turn x c r t o w l =
     let ten = ap₂ (λ (a b : Bool). when (a || not b) 10) (lt-leb (x .stripes) (x .next) l) w in
     ap (λ (i : ℕ). eqb i 0) (ap₂ firstOf (ap₂ firstOf r five) ten)
 
-steps-go : (x : Run) (cs : List Call) → runFault x ≡ 0 → inOrder (x .next) cs ≡ true → allLong (x .width) (x .size) cs ≡ true → x .next + length cs ≤ x .stripes → acceptedIn x cs ≡ cs
+steps-go : (x : Run) (cs : List Call) → runFault x ≡ 0 → inOrder (x .next) cs ≡ true → allLong (x .shape .width) (x .shape .disks) (x .shape .«cell_size») cs ≡ true → x .next + length cs ≤ x .stripes → acceptedIn x cs ≡ cs
 unfolding acceptedIn inOrder allLong
 steps-go x [] r o l m = refl
 steps-go x (c ∷ cs) r o l m =
-    let t = eqb (length (c .stripe)) (stripeLong (x .width) (x .width) (x .size)) in
-    let u = eqb (length (c .column)) (x .width * x .size) in
+    let t = eqb (length (c .stripe)) (stripeLong (x .shape .width) (x .shape .disks) (x .shape .«cell_size»)) in
+    let u = eqb (length (c .column)) (x .shape .width * x .shape .«cell_size») in
     let w = eqb (c .which) (x .next) in
-    let rest : Bool = allLong (x .width) (x .size) cs in
+    let rest : Bool = allLong (x .shape .width) (x .shape .disks) (x .shape .«cell_size») cs in
     let here : (t && u) ≡ true = and-l (t && u) rest l in
     let z : x .next + 1 ≡ suc (x .next) = omega arith in
     let later : inOrder (x .next + 1) cs ≡ true = ap (λ (i : ℕ). inOrder i cs) z ∙ and-r w (inOrder (suc (x .next)) cs) o in
@@ -137,4 +137,4 @@ steps-go x (c ∷ cs) r o l m =
     ∙ ap (λ (l : List Call). c ∷ l) (steps-go (moved x) cs r later (and-r (t && u) rest l) (omega arith))
 
 pub runs-go : Runs-go
-runs-go p s f n cs r o l m = steps-go (opened p s f n) cs r o l (omega arith)
+runs-go p k s f n cs r o l m = steps-go (opened p k s f n) cs r o l (omega arith)

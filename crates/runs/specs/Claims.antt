@@ -5,15 +5,16 @@ use mathlib.Core.List.{List, [], _∷_}
 use Prim.Native.Nat.{ℕ, suc, _*_, _≤_}
 use lib.Dec.{eqb}
 use lib.ListN.{length}
-use Rattle.laws.specs.Choice.{pick}
-use Rattle.liberation.specs.Sets.{numbersFault}
+use Rattle.laws.specs.Choice.{pick, firstOf}
+use Rattle.liberation.specs.Sets.{numbersFault, widthFault, sizeFault, diskFault}
 use Rattle.liberation.specs.Plans.{planOf, readCount}
 use Rattle.liberation_stripes.specs.Stripes.{stripeLong, rebuilt}
 use Rattle.refusals.specs.declared.Answer.{Answer}
 use Rattle.runs.specs.declared.Run.{Run}
+use Rattle.runs.specs.declared.FullRun.{FullRun}
 use Rattle.runs.specs.declared.RunAnswer.{RunAnswer}
 use Rattle.runs.specs.declared.Progress.{Progress}
-use Rattle.runs.specs.Runs.{opened, isOver, cellsSoFar, stepOk, moved, runColumn, OpenSays, StepSays, ProgressSays}
+use Rattle.runs.specs.Runs.{opened, isOver, cellsSoFar, stepOk, moved, runColumn, resumed, OpenSays, StepSays, ProgressSays}
 
 -- what a step is given besides the record: a stripe number, a stripe, a column
 pub record Call : Type 0 where
@@ -51,29 +52,29 @@ inOrder i [] = true
 inOrder i (c ∷ cs) = eqb (c .which) i && inOrder (suc i) cs
 
 -- stripes and columns have the lengths required
-unfoldable pub allLong : ℕ → ℕ → List Call → Bool
-allLong p s [] = true
-allLong p s (c ∷ cs) = (eqb (length (c .stripe)) (stripeLong p p s) && eqb (length (c .column)) (p * s)) && allLong p s cs
+unfoldable pub allLong : ℕ → ℕ → ℕ → List Call → Bool
+allLong p k s [] = true
+allLong p k s (c ∷ cs) = (eqb (length (c .stripe)) (stripeLong p k s) && eqb (length (c .column)) (p * s)) && allLong p k s cs
 
 -- the rebuilt disk f of each call's own stripe
-unfoldable pub rebuiltEach : ℕ → ℕ → ℕ → List Call → List (List ℕ)
-rebuiltEach p s f [] = []
-rebuiltEach p s f (c ∷ cs) = rebuilt p p s f (c .stripe) ∷ rebuiltEach p s f cs
+unfoldable pub rebuiltEach : ℕ → ℕ → ℕ → ℕ → List Call → List (List ℕ)
+rebuiltEach p k s f [] = []
+rebuiltEach p k s f (c ∷ cs) = rebuilt p k s f (c .stripe) ∷ rebuiltEach p k s f cs
 
 -- After any steps from the opening on: the accepted ones took the stripes in order, the run is over exactly when they were N, cells read are as many times the read count, and each wrote the rebuilt disk of its own stripe.
-pub record RunDone (p s f n : ℕ) (cs : List Call) : Type 0 where
-  pub order : inOrder 0 (acceptedIn (opened p s f n) cs) ≡ true
-  pub few : length (acceptedIn (opened p s f n) cs) ≤ n
-  pub over : isOver (steps (opened p s f n) cs) ≡ eqb (length (acceptedIn (opened p s f n) cs)) n
-  pub cells : cellsSoFar (steps (opened p s f n) cs) ≡ length (acceptedIn (opened p s f n) cs) * readCount p p f (planOf p p f)
-  pub columns : written (opened p s f n) cs ≡ rebuiltEach p s f (acceptedIn (opened p s f n) cs)
+pub record RunDone (p k s f n : ℕ) (cs : List Call) : Type 0 where
+  pub order : inOrder 0 (acceptedIn (opened p k s f n) cs) ≡ true
+  pub few : length (acceptedIn (opened p k s f n) cs) ≤ n
+  pub over : isOver (steps (opened p k s f n) cs) ≡ eqb (length (acceptedIn (opened p k s f n) cs)) n
+  pub cells : cellsSoFar (steps (opened p k s f n) cs) ≡ length (acceptedIn (opened p k s f n) cs) * readCount p k f (planOf p k f)
+  pub columns : written (opened p k s f n) cs ≡ rebuiltEach p k s f (acceptedIn (opened p k s f n) cs)
 
 abbrev pub Runs-right : Type 0
-Runs-right = (p s f n : ℕ) (cs : List Call) → RunDone p s f n cs
+Runs-right = (p k s f n : ℕ) (cs : List Call) → RunDone p k s f n cs
 
 -- every run can be carried out: steps in order on slices of the lengths required are all accepted, up to N
 abbrev pub Runs-go : Type 0
-Runs-go = (p s f n : ℕ) (cs : List Call) → numbersFault p p s f ≡ 0 → inOrder 0 cs ≡ true → allLong p s cs ≡ true → length cs ≤ n → acceptedIn (opened p s f n) cs ≡ cs
+Runs-go = (p k s f n : ℕ) (cs : List Call) → numbersFault p k s f ≡ 0 → inOrder 0 cs ≡ true → allLong p k s cs ≡ true → length cs ≤ n → acceptedIn (opened p k s f n) cs ≡ cs
 
 -- calls that were made one after another, each with the promise of a step, while nothing else wrote the record
 pub data Made : Run → List Call → List Left → Type 0 where
@@ -91,25 +92,38 @@ columnsOf [] = []
 columnsOf (l ∷ ls) = pick (eqb (l .answer .refusal) 0) (l .column ∷ columnsOf ls) (columnsOf ls)
 
 -- Calls on a record that was opened over n stripes: no more than n of them are accepted, and the run is over exactly when n were, not before; cells read are as many times the read count; each column is the rebuilt disk of the stripe given with it.
-pub record RunMade (p s f n : ℕ) (x : Run) (cs : List Call) (ls : List Left) : Type 0 where
+pub record RunMade (p k s f n : ℕ) (x : Run) (cs : List Call) (ls : List Left) : Type 0 where
   pub few : length (columnsOf ls) ≤ n
   pub over : isOver (lastRun x ls) ≡ eqb (length (columnsOf ls)) n
-  pub cells : cellsSoFar (lastRun x ls) ≡ length (columnsOf ls) * readCount p p f (planOf p p f)
-  pub columns : columnsOf ls ≡ rebuiltEach p s f (acceptedIn x cs)
+  pub cells : cellsSoFar (lastRun x ls) ≡ length (columnsOf ls) * readCount p k f (planOf p k f)
+  pub columns : columnsOf ls ≡ rebuiltEach p k s f (acceptedIn x cs)
   pub order : inOrder 0 (acceptedIn x cs) ≡ true
 
 abbrev pub Calls-right : Type 0
-Calls-right = (p s f n : ℕ) (r : RunAnswer) (cs : List Call) (ls : List Left) → OpenSays p s f n r → r .answer .refusal ≡ 0 → Made (r .run) cs ls → RunMade p s f n (r .run) cs ls
+Calls-right = (p k s f n : ℕ) (r : RunAnswer) (cs : List Call) (ls : List Left) → OpenSays p k s f n r → r .answer .refusal ≡ 0 → Made (r .run) cs ls → RunMade p k s f n (r .run) cs ls
 
 -- what reading the record answers then: no refusal, over exactly when n steps were accepted, and as many times the read count
-pub record RunRead (p f n : ℕ) (ls : List Left) (g : Progress) : Type 0 where
+pub record RunRead (p k f n : ℕ) (ls : List Left) (g : Progress) : Type 0 where
   pub refusal : g .answer .refusal ≡ 0
   pub over : g .over ≡ eqb (length (columnsOf ls)) n
-  pub cells : g .cells ≡ length (columnsOf ls) * readCount p p f (planOf p p f)
+  pub cells : g .cells ≡ length (columnsOf ls) * readCount p k f (planOf p k f)
 
 abbrev pub Progress-right : Type 0
-Progress-right = (p s f n : ℕ) (r : RunAnswer) (cs : List Call) (ls : List Left) (g : Progress) → OpenSays p s f n r → r .answer .refusal ≡ 0 → Made (r .run) cs ls → ProgressSays (lastRun (r .run) ls) g → RunRead p f n ls g
+Progress-right = (p k s f n : ℕ) (r : RunAnswer) (cs : List Call) (ls : List Left) (g : Progress) → OpenSays p k s f n r → r .answer .refusal ≡ 0 → Made (r .run) cs ls → ProgressSays (lastRun (r .run) ls) g → RunRead p k f n ls g
 
 -- Steps in order on slices of the lengths required, no more than n of them, are all accepted.
 abbrev pub Calls-go : Type 0
-Calls-go = (p s f n : ℕ) (r : RunAnswer) (cs : List Call) (ls : List Left) → OpenSays p s f n r → r .answer .refusal ≡ 0 → Made (r .run) cs ls → inOrder 0 cs ≡ true → allLong p s cs ≡ true → length cs ≤ n → length (columnsOf ls) ≡ length cs
+Calls-go = (p k s f n : ℕ) (r : RunAnswer) (cs : List Call) (ls : List Left) → OpenSays p k s f n r → r .answer .refusal ≡ 0 → Made (r .run) cs ls → inOrder 0 cs ≡ true → allLong p k s cs ≡ true → length cs ≤ n → length (columnsOf ls) ≡ length cs
+
+-- What document 01 says of its own record: its refusals, 1, 2 and 3 in this order, when it is over, and the cells read.
+abbrev pub fullFault : FullRun → ℕ
+fullFault y = firstOf (widthFault (y .width)) (firstOf (sizeFault (y .size)) (diskFault (y .width) (y .disk)))
+
+pub record FullRead (y : FullRun) (g : Progress) : Type 0 where
+  pub refusal : g .answer .refusal ≡ fullFault y
+  pub over : g .over ≡ (eqb (fullFault y) 0 && eqb (y .next) (y .stripes))
+  pub cells : g .cells ≡ pick (eqb (fullFault y) 0) (y .next * readCount (y .width) (y .width) (y .disk) (planOf (y .width) (y .width) (y .disk))) 0
+
+-- reading the record that it becomes answers just that
+abbrev pub Resumed-read : Type 0
+Resumed-read = (y : FullRun) (x : Run) (g : Progress) → x ≡ resumed y → ProgressSays x g → FullRead y g

@@ -14,36 +14,41 @@ use Rattle.refusals.specs.declared.Answer.{Answer}
 use Rattle.refusals.specs.Answers.{Answers}
 use Rattle.rebuild_one.specs.Says.{lengthsFault}
 use Rattle.runs.specs.declared.Run.{Run}
+use Rattle.runs.specs.declared.FullRun.{FullRun}
 use Rattle.runs.specs.declared.RunAnswer.{RunAnswer}
 use Rattle.runs.specs.declared.Progress.{Progress}
 
 -- a run as it is opened
-abbrev pub opened : ℕ → ℕ → ℕ → ℕ → Run
-opened p s f n = record { width = p; size = s; disk = f; stripes = n; next = 0 }
+abbrev pub opened : ℕ → ℕ → ℕ → ℕ → ℕ → Run
+opened p k s f n = record { shape = record { width = p; disks = k; «cell_size» = s }; lost = f; stripes = n; next = 0 }
 
 -- the record that a refused opening gives
 abbrev pub noRun : Run
-noRun = opened 0 0 0 0
+noRun = opened 0 0 0 0 0
 
 -- "The run is over exactly when next equals N"
 abbrev pub isOver : Run → Bool
 isOver x = eqb (x .next) (x .stripes)
 
+-- the read count of our plan for the record's disk
+abbrev pub readsOf : Run → ℕ
+readsOf x = readCount (x .shape .width) (x .shape .disks) (x .lost) (planOf (x .shape .width) (x .shape .disks) (x .lost))
+
 -- "Cells read so far are next × the read count."
 abbrev pub cellsSoFar : Run → ℕ
-cellsSoFar x = x .next * readCount (x .width) (x .width) (x .disk) (planOf (x .width) (x .width) (x .disk))
+cellsSoFar x = x .next * readsOf x
 
--- reading a record refuses by 1, 2 and 3, as opening does
+-- reading a record refuses by 1, 13, 2 and 3, as opening does
 abbrev pub runFault : Run → ℕ
-runFault x = numbersFault (x .width) (x .width) (x .size) (x .disk)
+runFault x = numbersFault (x .shape .width) (x .shape .disks) (x .shape .«cell_size») (x .lost)
 
 -- refusal 10: "next is N or more, or the stripe number isn't next"
 abbrev pub nextFault : Run → ℕ → ℕ
 nextFault x i = when (leb (x .stripes) (x .next) || not (eqb i (x .next))) 10
 
--- a step for stripe i refuses by 1, 2, 3, 5 and 10: n and m are the bytes of the stripe and of the column
+-- a step for stripe i refuses by 1, 13, 2, 3, 5 and 10: n and m are the bytes of the stripe and of the column
 abbrev pub stepLengthsFault : Run → ℕ → ℕ → ℕ → ℕ
-stepLengthsFault x i n m = firstOf (lengthsFault (x .width) (x .width) (x .size) (x .disk) n m) (nextFault x i)
+stepLengthsFault x i n m = firstOf (lengthsFault (x .shape .width) (x .shape .disks) (x .shape .«cell_size») (x .lost) n m) (nextFault x i)
 
 -- t is the stripe, o the column
 abbrev pub stepFault : Run → ℕ → List ℕ → List ℕ → ℕ
@@ -54,16 +59,16 @@ stepOk x i t o = eqb (stepFault x i t o) 0
 
 -- "which moves it on by one"
 abbrev pub moved : Run → Run
-moved x = record { width = x .width; size = x .size; disk = x .disk; stripes = x .stripes; next = x .next + 1 }
+moved x = record { shape = x .shape; lost = x .lost; stripes = x .stripes; next = x .next + 1 }
 
 -- "rebuilds that stripe"
 abbrev pub runColumn : Run → List ℕ → List ℕ
-runColumn x t = rebuilt (x .width) (x .width) (x .size) (x .disk) t
+runColumn x t = rebuilt (x .shape .width) (x .shape .disks) (x .shape .«cell_size») (x .lost) t
 
 -- opening a run
-pub record OpenSays (p s f n : ℕ) (r : RunAnswer) : Type 0 where
-  pub answer : Answers (numbersFault p p s f) (r .answer)
-  pub run : r .run ≡ pick (eqb (numbersFault p p s f) 0) (opened p s f n) noRun
+pub record OpenSays (p k s f n : ℕ) (r : RunAnswer) : Type 0 where
+  pub answer : Answers (numbersFault p k s f) (r .answer)
+  pub run : r .run ≡ pick (eqb (numbersFault p k s f) 0) (opened p k s f n) noRun
 
 -- a step for stripe i: x, o before it and x′, o′ after it
 pub record StepSays (x x′ : Run) (i : ℕ) (t o o′ : List ℕ) (r : Answer) : Type 0 where
@@ -78,5 +83,9 @@ pub record ProgressSays (x : Run) (r : Progress) : Type 0 where
   pub answer : Answers (runFault x) (r .answer)
   pub over : r .over ≡ (eqb (runFault x) 0 && isOver x)
   pub cells : r .cells ≡ pick (eqb (runFault x) 0) (cellsSoFar x) 0
-  -- at most 2^32 - 1 stripes, each with at most 31² cells read: few enough to be multiplied by s
-  pub few : r .cells ≤ 4294967295 * 961
+  -- at most 2^32 - 1 stripes, each with at most 31 × 33 cells: few enough to be multiplied by s
+  pub few : r .cells ≤ 4294967295 * 1023
+
+-- "the run's record gains k, which is p for a run already open": the record of document 01 as one of today
+abbrev pub resumed : FullRun → Run
+resumed y = record { shape = record { width = y .width; disks = y .width; «cell_size» = y .size }; lost = y .disk; stripes = y .stripes; next = y .next }

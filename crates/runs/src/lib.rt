@@ -1,11 +1,21 @@
 // Rebuild runs over many stripes (document 01, "Run and space"): the record is opened, stepped and read. Numbers that another program put into a record are tested like any others.
 ghost use mathlib.Core.Path.{_≡_};
-ghost use Rattle.runs.specs.Runs.{stepLengthsFault, OpenSays, StepSays, ProgressSays};
+ghost use Rattle.runs.specs.Runs.{stepLengthsFault, OpenSays, StepSays, ProgressSays, resumed};
 use refusals::Answer;
+use refusals::Shape;
 
-// A run: the width, the bytes of a cell, the lost disk, how many stripes there are, and which of them is next.
+// A run: the shape of the array, the lost disk, how many stripes there are, and which of them is next.
 #[repr(C)]
 pub struct Run {
+    pub shape: Shape,
+    pub lost: usize,
+    pub stripes: u32,
+    pub next: u32,
+}
+
+// The record of document 01, of a run in an array with as many data disks as its width: the width, the bytes of a cell, the lost disk, stripes and next.
+#[repr(C)]
+pub struct FullRun {
     pub width: usize,
     pub size: usize,
     pub disk: usize,
@@ -28,18 +38,21 @@ pub struct Progress {
     pub cells: u64,
 }
 
-// Opens a run over `stripes` stripes. Refusals: 1, 2, 3, with a record of zeros, which every call refuses.
-pub fn open_run(width: usize, size: usize, disk: usize, stripes: u32) -> RunAnswer
-    ensures { λ r. ⌜ OpenSays width size disk stripes r ⌝ }
+// Opens a run over `stripes` stripes. Refusals: 1, 13, 2, 3, with a record of zeros, which every call refuses.
+pub fn open_run(shape: Shape, lost: usize, stripes: u32) -> RunAnswer
+    ensures { λ r. ⌜ OpenSays (shape .width) (shape .disks) (shape .«cell_size») lost stripes r ⌝ }
 {
-    let refusal = refusals::numbers_fault(width, width, size, disk);
+    let refusal = refusals::numbers_fault(shape.width, shape.disks, shape.cell_size, lost);
     if refusal != 0 {
         return RunAnswer {
             answer: refusals::answered(refusal),
             run: Run {
-                width: 0,
-                size: 0,
-                disk: 0,
+                shape: Shape {
+                    width: 0,
+                    disks: 0,
+                    cell_size: 0,
+                },
+                lost: 0,
                 stripes: 0,
                 next: 0,
             },
@@ -48,12 +61,27 @@ pub fn open_run(width: usize, size: usize, disk: usize, stripes: u32) -> RunAnsw
     RunAnswer {
         answer: refusals::answered(0),
         run: Run {
-            width: width,
-            size: size,
-            disk: disk,
+            shape: shape,
+            lost: lost,
             stripes: stripes,
             next: 0,
         },
+    }
+}
+
+// A run that was open when its record had no number of data disks goes on with as many as its width.
+pub fn resume_full_run(old: FullRun) -> Run
+    ensures { λ r. ⌜ r ≡ resumed old ⌝ }
+{
+    Run {
+        shape: Shape {
+            width: old.width,
+            disks: old.width,
+            cell_size: old.size,
+        },
+        lost: old.disk,
+        stripes: old.stripes,
+        next: old.next,
     }
 }
 
@@ -61,7 +89,8 @@ pub fn open_run(width: usize, size: usize, disk: usize, stripes: u32) -> RunAnsw
 fn step_fault(run: Run, which: u64, stripe: usize, column: usize) -> u8
     ensures { λ r. ⌜ r ≡ stepLengthsFault run which stripe column ⌝ }
 {
-    let fault = rebuild_one::one_fault(run.width, run.width, run.size, run.disk, stripe, column);
+    let s = run.shape;
+    let fault = rebuild_one::one_fault(s.width, s.disks, s.cell_size, run.lost, stripe, column);
     if fault != 0 {
         return fault;
     }
@@ -74,7 +103,7 @@ fn step_fault(run: Run, which: u64, stripe: usize, column: usize) -> u8
     0
 }
 
-// A step by value: rebuilds stripe `which` into the column and gives the record moved on by one. Refusals: 1, 2, 3, 5, 10; they leave column and record as they were.
+// A step by value: rebuilds stripe `which` into the column and gives the record moved on by one. Refusals: 1, 13, 2, 3, 5, 10; they leave column and record as they were.
 pub fn step_run(run: Run, which: u64, stripe: &[u8], column: &mut [u8]) -> RunAnswer
     ensures { λ r. ⌜ StepSays run (r .run) which (now (stripe .entry)) (now (column .entry)) (now (column .exit)) (r .answer) ⌝ }
 {
@@ -85,7 +114,8 @@ pub fn step_run(run: Run, which: u64, stripe: &[u8], column: &mut [u8]) -> RunAn
             run: run,
         };
     }
-    rebuild_one::rebuild_column(run.width, run.size, run.disk, stripe, column);
+    let s = run.shape;
+    rebuild_one::rebuild_column(s.width, s.disks, s.cell_size, run.lost, stripe, column);
     let mut moved = run;
     moved.next = run.next + 1;
     RunAnswer {
@@ -94,11 +124,12 @@ pub fn step_run(run: Run, which: u64, stripe: &[u8], column: &mut [u8]) -> RunAn
     }
 }
 
-// How far a run is. Refusals: 1, 2, 3.
+// How far a run is. Refusals: 1, 13, 2, 3.
 pub fn run_progress(run: Run) -> Progress
     ensures { λ r. ⌜ ProgressSays run r ⌝ }
 {
-    let fault = refusals::numbers_fault(run.width, run.width, run.size, run.disk);
+    let s = run.shape;
+    let fault = refusals::numbers_fault(s.width, s.disks, s.cell_size, run.lost);
     if fault != 0 {
         return Progress {
             answer: refusals::answered(fault),
@@ -106,7 +137,7 @@ pub fn run_progress(run: Run) -> Progress
             cells: 0,
         };
     }
-    let plan = planner::plan_disk(run.width, run.disk);
+    let plan = planner::plan_disk(s.width, s.disks, run.lost);
     Progress {
         answer: refusals::answered(0),
         over: run.next == run.stripes,

@@ -64,12 +64,12 @@ encode-done p k s t u v r z e q a b =
       bytes = b;
     }
 
-pub check-refused : (p k s n : ℕ) (t : List ℕ) (a : Answer) → n ≡ stripeFault p k s t → (n ≡ 0 → ⊥) → Answers n a → CheckSays p k s t (record { answer = a; clean = false })
-check-refused p k s n t a e z h = record { answer = answers-as n (stripeFault p k s t) a e h; clean = and-refused n (stripeFault p k s t) (clean p k s t) e z }
+pub check-refused : (p k s n : ℕ) (t : List ℕ) (a : Answer) → n ≡ stripeFault p k s t → (n ≡ 0 → ⊥) → Answers n a → allBytes t ≡ true → CheckSays p k s t (record { answer = a; clean = false })
+check-refused p k s n t a e z h b = record { answer = answers-as n (stripeFault p k s t) a e h; clean = and-refused n (stripeFault p k s t) (clean p k s t) e z; bytes = b }
 
 -- not refused
-pub check-done : (p k s : ℕ) (t : List ℕ) (a : Answer) (b : Bool) → stripeFault p k s t ≡ 0 → Answers 0 a → b ≡ clean p k s t → CheckSays p k s t (record { answer = a; clean = b })
-check-done p k s t a b z h e = record { answer = answers-as 0 (stripeFault p k s t) a (sym z) h; clean = e ∙ and-done (stripeFault p k s t) (clean p k s t) z }
+pub check-done : (p k s : ℕ) (t : List ℕ) (a : Answer) (b : Bool) → stripeFault p k s t ≡ 0 → Answers 0 a → b ≡ clean p k s t → allBytes t ≡ true → CheckSays p k s t (record { answer = a; clean = b })
+check-done p k s t a b z h e y = record { answer = answers-as 0 (stripeFault p k s t) a (sym z) h; clean = e ∙ and-done (stripeFault p k s t) (clean p k s t) z; bytes = y }
 
 -- clean if the sets of both kinds are: a row set is not, or the diagonal sets decide
 pub clean-rows : (p k s : ℕ) (t : List ℕ) (b : Bool) → b ≡ allTo p (λ i. setClean p k s t 0 i) → b ≡ false → false ≡ clean p k s t

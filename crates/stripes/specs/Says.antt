@@ -26,3 +26,5 @@ pub record EncodeSays (p k s : ℕ) (t t′ : List ℕ) (r : Answer) : Type 0 wh
 pub record CheckSays (p k s : ℕ) (t : List ℕ) (r : Checked) : Type 0 where
   pub answer : Answers (stripeFault p k s t) (r .answer)
   pub clean : r .clean ≡ (eqb (stripeFault p k s t) 0 && clean p k s t)
+  -- what was lent are bytes
+  pub bytes : allBytes t ≡ true

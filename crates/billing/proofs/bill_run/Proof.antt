@@ -20,7 +20,7 @@ returns c =
 
 mul-bill-bytes : tie.Need-mul-bill-bytes
 mul-bill-bytes c =
-    let i = c .before in
+    let i = c .before .before in
     let g = i .before .before .before .run-progress in
     omega (arith, bytes-fit (i .before .before .before .before .args .run) (g .result) (g .ensures) (i .if1 .left))
 
@@ -29,7 +29,7 @@ bill-bytes-requires c κs = search needs
 
 returns-2 : tie.Need-returns-2
 returns-2 c =
-    let i = c .before .before in
+    let i = c .before .before .before in
     let g = i .before .before .before .run-progress in
     let a = i .before .before .before .before .args in
     run-billed (a .run) (g .result) (g .ensures) (i .if1 .left) (a .first) (a .second) (a .third) (c .bill-bytes .result) (c .bill-bytes .ensures)

@@ -16,7 +16,7 @@ returns c =
     let i = c .before in
     let f = i .before .numbers-fault in
     let a = i .before .before .args in
-    open-refused (a .width) (a .size) (a .disk) (a .stripes) (f .result) (c .answered .result) (f .ensures) (i .if1 .taken) (c .answered .ensures)
+    open-refused (a .shape .width) (a .shape .disks) (a .shape .«cell_size») (a .lost) (a .stripes) (f .result) (c .answered .result) (f .ensures) (i .if1 .taken) (c .answered .ensures)
 
 answered-requires-2 : tie.Need-answered-requires-2
 answered-requires-2 c κs = search needs
@@ -25,7 +25,7 @@ returns-2 : tie.Need-returns-2
 returns-2 c =
     let i = c .before in
     let a = i .before .before .args in
-    open-done (a .width) (a .size) (a .disk) (a .stripes) (c .answered2 .result) (sym (i .before .numbers-fault .ensures) ∙ i .if1 .left) (c .answered2 .ensures)
+    open-done (a .shape .width) (a .shape .disks) (a .shape .«cell_size») (a .lost) (a .stripes) (c .answered2 .result) (sym (i .before .numbers-fault .ensures) ∙ i .if1 .left) (c .answered2 .ensures)
 
 pub open-run-spec : {M : Type 1} → statement M
 open-run-spec = tie.close (tie.spec numbers-fault-requires answered-requires returns answered-requires-2 returns-2)

@@ -27,13 +27,13 @@ returns c =
 
 rebuild-column-requires : tie.Need-rebuild-column-requires
 rebuild-column-requires c κs =
-    let i = c .before in
+    let i = c .before .before in
     let a = i .before .before .before .before .args in
     step-fits (a .run) (a .which) (a .stripe .now) (a .column .now) (passed i)
 
 add-moved : tie.Need-add-moved
 add-moved c =
-    let i = c .before .before .before .before .before in
+    let i = c .before .before .before .before .before .before in
     let a = i .before .before .before .before .args in
     omega (arith, not-over (a .run) (a .which) _ _ (passed i))
 
@@ -46,9 +46,9 @@ same-length c = search needs
 returns-2 : tie.Need-returns-2
 returns-2 c =
     let r = c .before .before .before .before in
-    let i = r .before .before in
+    let i = r .before .before .before in
     let a = i .before .before .before .before .args in
-    step-done (a .run) (a .which) (a .stripe .now) (a .column .now) (r .rebuild-column .last .1 .1 .1 .1 .0) (c .answered2 .result) (passed i) (r .rebuild-column .ensures) (c .answered2 .ensures)
+    step-done (a .run) (a .which) (a .stripe .now) (a .column .now) (r .rebuild-column .last .1 .1 .1 .1 .1 .0) (c .answered2 .result) (passed i) (r .rebuild-column .ensures) (c .answered2 .ensures)
     (bytes-all (a .stripe .now) (i .before .before .before .shared-slice-known .given))
 
 pub step-run-spec : {M : Type 1} → statement M

@@ -1,7 +1,10 @@
 -- `check_stripe`: a refusal, or whether the stripe is clean.
 use mathlib.Core.Path.{_≡_, sym, _∙_}
+use mathlib.Core.Bool.{true}
 use Prim.Native.Nat.{_<_}
 use borrow.Author.Needs.{needs}
+use Rattle.laws.specs.Xor.{allBytes}
+use Rattle.xor.proofs.SourceLaws.{bytes-all}
 use Rattle.stripes.specs.Cells.{Sized}
 use Rattle.stripes.specs.Says.{stripeFault}
 use Rattle.stripes.proofs.StripeRefusals.{fault-none, check-refused, check-done}
@@ -15,6 +18,10 @@ passed c = sym (c .before .stripe-fault .ensures) ∙ c .if1 .left
 sized : (c : tie.Else1) → let a = c .before .before .before .args in Sized (a .shape .width) (a .shape .disks) (a .shape .«cell_size») (a .stripe .now) × (0 < a .shape .width)
 sized c = let a = c .before .before .before .args in fault-none (a .shape .width) (a .shape .disks) (a .shape .«cell_size») (a .stripe .now) (passed c)
 
+-- the lent stripe is bytes
+bytes : (c : tie.After-shared-slice-known) → allBytes (c .before .args .stripe .now) ≡ true
+bytes c = bytes-all (c .before .args .stripe .now) (c .shared-slice-known .given)
+
 stripe-fault-requires : tie.Need-stripe-fault-requires
 stripe-fault-requires c κs = search needs
 
@@ -26,7 +33,7 @@ returns c =
     let t = c .before in
     let f = t .before .stripe-fault in
     let a = t .before .before .before .args in
-    check-refused (a .shape .width) (a .shape .disks) (a .shape .«cell_size») (f .result) (a .stripe .now) (c .answered .result) (f .ensures) (t .if1 .taken) (c .answered .ensures)
+    check-refused (a .shape .width) (a .shape .disks) (a .shape .«cell_size») (f .result) (a .stripe .now) (c .answered .result) (f .ensures) (t .if1 .taken) (c .answered .ensures) (bytes (t .before .before))
 
 is-clean-requires : tie.Need-is-clean-requires
 is-clean-requires c κs = sized c
@@ -39,7 +46,7 @@ returns-2 c =
     let k = c .before in
     let e = k .before in
     let a = e .before .before .before .args in
-    check-done (a .shape .width) (a .shape .disks) (a .shape .«cell_size») (a .stripe .now) (c .answered2 .result) (k .is-clean .result) (passed e) (c .answered2 .ensures) (k .is-clean .ensures)
+    check-done (a .shape .width) (a .shape .disks) (a .shape .«cell_size») (a .stripe .now) (c .answered2 .result) (k .is-clean .result) (passed e) (c .answered2 .ensures) (k .is-clean .ensures) (bytes (e .before .before))
 
 pub check-stripe-spec : {M : Type 1} → statement M
 check-stripe-spec = tie.close (tie.spec stripe-fault-requires answered-requires returns is-clean-requires answered-requires-2 returns-2)
