@@ -16,27 +16,27 @@ use Rattle.rebuild_two.proofs.TwoRefusals.{fault-none}
 use Rattle.demands.proofs.Stripes.{is-stripe}
 
 -- An accepted rebuild of the disks a and b of t leaves t′.
-pub record Restored (p s a b : ℕ) (t t′ : List ℕ) : Type 0 where
+pub record Restored (p k s a b : ℕ) (t t′ : List ℕ) : Type 0 where
   -- a stripe still, in length and bytes
-  pub stripe : isStripe p p s t′ ≡ true
-  pub is-clean : clean p p s t′ ≡ true
+  pub stripe : isStripe p k s t′ ≡ true
+  pub is-clean : clean p k s t′ ≡ true
   -- the rest is untouched
   pub kept : (x : ℕ) → (diskAt p x ≡ a → ⊥) → (diskAt p x ≡ b → ⊥) → cellAt s t′ x ≡ cellAt s t x
   -- no other clean stripe has the other disks' contents: survivors of a clean stripe u bring u back, whatever the lost columns held
-  pub only : (u : List ℕ) → isStripe p p s u ≡ true → clean p p s u ≡ true → ((x : ℕ) → x < p * (p + 2) → (diskAt p x ≡ a → ⊥) → (diskAt p x ≡ b → ⊥) → cellAt s t x ≡ cellAt s u x) → t′ ≡ u
+  pub only : (u : List ℕ) → isStripe p k s u ≡ true → clean p k s u ≡ true → ((x : ℕ) → x < p * (k + 2) → (diskAt p x ≡ a → ⊥) → (diskAt p x ≡ b → ⊥) → cellAt s t x ≡ cellAt s u x) → t′ ≡ u
 
-pub restores : (p s a b : ℕ) (t t′ : List ℕ) (r : Answer) → TwoSays p p s a b t t′ r → r .refusal ≡ 0 → Restored p s a b t t′
-restores p s a b t t′ r k z =
-    let e : twoFault p p s a b t ≡ 0 = sym (k .answer .refusal) ∙ z in
-    let m : p ≤ p = omega arith in
-    let c = fault-none p p s a b t m e in
-    let ha : a < p + 2 = omega (arith, c .first) in
-    let hb : b < p + 2 = omega (arith, c .second) in
-    let ok : isStripe p p s t ≡ true = is-stripe p s t (c .sized .long) (k .bytes) in
-    let done : t′ ≡ pairSolved p p s a b t = k .stripe ∙ ap (λ (n : ℕ). pick (eqb n 0) (pairSolved p p s a b t) t) e in
+pub restores : (p k s a b : ℕ) (t t′ : List ℕ) (r : Answer) → TwoSays p k s a b t t′ r → r .refusal ≡ 0 → Restored p k s a b t t′
+restores p k s a b t t′ r d z =
+    let e : twoFault p k s a b t ≡ 0 = sym (d .answer .refusal) ∙ z in
+    let c = fault-none p k s a b t e in
+    let m : k ≤ p = c .sized .disks in
+    let ha : a < k + 2 = omega (arith, c .first) in
+    let hb : b < k + 2 = omega (arith, c .second) in
+    let ok : isStripe p k s t ≡ true = is-stripe p k s t (c .sized .long) (d .bytes) in
+    let done : t′ ≡ pairSolved p k s a b t = d .stripe ∙ ap (λ (n : ℕ). pick (eqb n 0) (pairSolved p k s a b t) t) e in
     record {
-      stripe = ap (isStripe p p s) done ∙ pair-stripe p p s a b (c .width) m ha hb (c .apart) t ok;
-      is-clean = ap (clean p p s) done ∙ pair-clean p p s a b (c .width) m ha hb (c .apart) t ok;
-      kept = λ x i j. ap (λ (l : List ℕ). cellAt s l x) done ∙ pair-off p p s a b (c .width) m ha hb (c .apart) t ok x i j;
-      only = λ u v d h. done ∙ pair-back p p s a b (c .width) m ha hb (c .apart) t u ok v d h;
+      stripe = ap (isStripe p k s) done ∙ pair-stripe p k s a b (c .width) m ha hb (c .apart) t ok;
+      is-clean = ap (clean p k s) done ∙ pair-clean p k s a b (c .width) m ha hb (c .apart) t ok;
+      kept = λ x i j. ap (λ (l : List ℕ). cellAt s l x) done ∙ pair-off p k s a b (c .width) m ha hb (c .apart) t ok x i j;
+      only = λ u v d h. done ∙ pair-back p k s a b (c .width) m ha hb (c .apart) t u ok v d h;
     }

@@ -5,18 +5,22 @@ use mathlib.Core.List.{List}
 use Prim.Native.Nat.{ℕ, _+_, _-_, _*_, _≤_, _<_}
 use native.Mathlib.Omega.{arith}
 use lib.Dec.{eqb}
-use Rattle.laws.specs.Choice.{when}
-use Rattle.liberation.specs.Plans.{Step, planOf, readCount}
+use lib.ListN.{getD}
+use Rattle.laws.specs.Choice.{pick, when}
+use Rattle.laws.proofs.ChoiceLaws.{first-none}
+use Rattle.liberation.specs.Sets.{place, planFault, longFault}
+use Rattle.liberation.specs.Plans.{Step, planOf, readCount, readList}
 use Rattle.liberation.specs.Judging.{accepted, stepsIn}
-use Rattle.liberation.specs.Claims.{isBest, diagonalsUsed, loneExtras, byExtra, Rearranged}
-use Rattle.liberation.proofs.FaultLaws.{plan-none}
+use Rattle.liberation.specs.Claims.{isBest, diagonalsUsed, loneExtras, byExtra, Rearranged, fullDisk}
+use Rattle.liberation.proofs.FaultLaws.{plan-of, plan-none}
 use Rattle.liberation.proofs.Rearranging.{count-same}
 use Rattle.liberation.proofs.Demand3.{plans-best}
-use Rattle.liberation.proofs.PartPlans.{plan-accepted}
+use Rattle.liberation.proofs.PartPlans.{plan-accepted, plans-part}
 use Rattle.liberation_stripes.specs.Stripes.{isStripe, followed}
 use Rattle.liberation_stripes.proofs.Rearranging.{bytes-same}
 use Rattle.planner.specs.declared.Plan.{Plan}
-use Rattle.planner.specs.Says.{PlanSays}
+use Rattle.refusals.specs.declared.Answer.{Answer}
+use Rattle.planner.specs.Says.{PlanSays, listFault, ListSays}
 use Rattle.planner.proofs.FormLaws.{formOf, length-of, plan-form}
 use Rattle.planner.proofs.MeansLaws.{plan-means}
 use Rattle.judge.specs.declared.Judged.{Judged}
@@ -31,15 +35,15 @@ pub record Compared (p f : ℕ) (bs : List ℕ) (r : Plan) (j : Judged) : Type 0
   pub equally : eqb (j .reads) (r .reads) ≡ isBest p p f (stepsIn p bs)
 
 -- the planner's count is the read count of our plan
-pub our-reads : (p f : ℕ) (r : Plan) → PlanSays p p f r → r .answer .refusal ≡ 0 → r .reads ≡ readCount p p f (planOf p p f)
-our-reads p f r k z = let m = plan-means p p f r (omega arith) k z in m .count ∙ ap (readCount p p f) (m .steps)
+pub our-reads : (p k f : ℕ) (r : Plan) → PlanSays p k f r → r .answer .refusal ≡ 0 → r .reads ≡ readCount p k f (planOf p k f)
+our-reads p k f r d z = let m = plan-means p k f r d z in m .count ∙ ap (readCount p k f) (m .steps)
 
 pub compared : (p f : ℕ) (bs : List ℕ) (r : Plan) (j : Judged) → f < p → PlanSays p p f r → JudgeSays p p f bs j → j .answer .refusal ≡ 0 → Compared p f bs r j
 compared p f bs r j l k d z =
     let a = zero-accepts p p f bs j d z in
     let best = plans-best p f (a .width) l in
     let ss = stepsIn p bs in
-    let ours : r .reads ≡ readCount p p f (planOf p p f) = our-reads p f r k (k .answer .refusal ∙ plan-none p p f (a .width) (a .disk)) in
+    let ours : r .reads ≡ readCount p p f (planOf p p f) = our-reads p p f r k (k .answer .refusal ∙ plan-none p p f (a .width) (a .least) (a .most) (a .disk)) in
     let theirs : j .reads ≡ readCount p p f ss = zero-counts p p f bs j d z in
     record {
       least = omega (arith, ours, theirs, best .least ss (a .accepts));
@@ -78,15 +82,36 @@ pub record OwnAccepted (r : Plan) (j : Judged) : Type 0 where
   pub refusal : j .answer .refusal ≡ 0
   pub reads : j .reads ≡ r .reads
 
-pub own-accepted : (p f : ℕ) (r : Plan) (j : Judged) → PlanSays p p f r → r .answer .refusal ≡ 0 → JudgeSays p p f (formOf p r) j → OwnAccepted r j
-own-accepted p f r j k z d =
-    let m = plan-means p p f r (omega arith) k z in
+pub own-accepted : (p k f : ℕ) (r : Plan) (j : Judged) → PlanSays p k f r → r .answer .refusal ≡ 0 → JudgeSays p k f (formOf p r) j → OwnAccepted r j
+own-accepted p k f r j y z d =
+    let m = plan-means p k f r y z in
     let bs : List ℕ = formOf p r in
-    let e : stepsIn p bs ≡ planOf p p f = plan-form p p f r (omega arith) k z in
-    let a : Acceptable p p f bs = record { width = m .width; disk = m .disk; long = length-of p r; accepts = ap (accepted p p f) e ∙ plan-accepted p p f (m .width) (omega arith) (m .disk) } in
-    let y : j .answer .refusal ≡ 0 = accepts-zero p p f bs j d a in
-    record { refusal = y; reads = zero-counts p p f bs j d y ∙ ap (λ (ss : List Step). readCount p p f ss) e ∙ sym (our-reads p f r k z) }
+    let e : stepsIn p bs ≡ planOf p k f = plan-form p k f r y z in
+    let a : Acceptable p k f bs = record { width = m .width; least = m .disks .0; most = m .disks .1; disk = m .disk; long = length-of p r; accepts = ap (accepted p k f) e ∙ plan-accepted p k f (m .width) (m .disks .1) (m .disk) } in
+    let g : j .answer .refusal ≡ 0 = accepts-zero p k f bs j d a in
+    record { refusal = g; reads = zero-counts p k f bs j d g ∙ ap (λ (ss : List Step). readCount p k f ss) e ∙ sym (our-reads p k f r y z) }
 
--- "Ours is (3p² + 1)/4."
+-- "Ours is (3p² + 1)/4", where k = p.
 pub own-count : (p f : ℕ) (r : Plan) → f < p → PlanSays p p f r → r .answer .refusal ≡ 0 → 4 * r .reads ≡ 3 * (p * p) + 1
-own-count p f r l k z = ap (λ (n : ℕ). 4 * n) (our-reads p f r k z) ∙ plans-best p f (plan-means p p f r (omega arith) k z .width) l .ours-count
+own-count p f r l k z = ap (λ (n : ℕ). 4 * n) (our-reads p p f r k z) ∙ plans-best p f (plan-means p p f r k z .width) l .ours-count
+
+-- Ask 1: "A lost P or Q reads k × p cells."
+pub parity-count : (p k f : ℕ) (r : Plan) → k ≤ f → PlanSays p k f r → r .answer .refusal ≡ 0 → r .reads ≡ k * p
+parity-count p k f r l d z = plan-means p k f r d z .parity l
+
+-- the list that an accepted call writes
+our-list : (p k f : ℕ) (o o′ : List ℕ) (a : Answer) → ListSays p k f o o′ a → a .refusal ≡ 0 → (planFault p k f ≡ 0) × (o′ ≡ readList p k f)
+our-list p k f o o′ a d z =
+    let e : listFault p k f o ≡ 0 = sym (d .answer .refusal) ∙ z in
+    (first-none (planFault p k f) (longFault (p * (k + 2)) o) e .0, d .list ∙ ap (λ (n : ℕ). pick (eqb n 0) (readList p k f) o) e)
+
+-- Ask 1: our plan reads "only cells the full cabinet would read, P and Q cells being compared with P and Q cells of the same row", and all of those on the disks present: the two lists that `read_list` writes agree there.
+pub part-within :
+    (p k f : ℕ) (o o′ n n′ : List ℕ) (a b : Answer) → ListSays p k f o o′ a → a .refusal ≡ 0 → ListSays p p (fullDisk p k f) n n′ b → b .refusal ≡ 0
+    → (r c : ℕ) → r < p → c < k + 2 → getD o′ (place p r c) 0 ≡ getD n′ (place p r (fullDisk p k c)) 0
+part-within p k f o o′ n n′ a b d z e y r c h g =
+    let u = our-list p k f o o′ a d z in
+    let w = plan-of p k f (u .0) in
+    ap (λ (x : List ℕ). getD x (place p r c) 0) (u .1)
+    ∙ plans-part p k f (w .0) (w .3) (w .1) .within r c h g
+    ∙ sym (ap (λ (x : List ℕ). getD x (place p r (fullDisk p k c)) 0) (our-list p p (fullDisk p k f) n n′ b e y .1))

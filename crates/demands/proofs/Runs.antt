@@ -5,7 +5,7 @@ use mathlib.Core.List.{List}
 use Prim.Native.Nat.{ℕ, _+_, _*_, _<_}
 use lib.ListN.{length}
 use Rattle.liberation.specs.Sets.{diskAt}
-use Rattle.liberation.proofs.FaultLaws.{numbers-of, plan-none}
+use Rattle.liberation.proofs.FaultLaws.{numbers-plan}
 use Rattle.liberation_stripes.specs.Stripes.{cellAt, columnOf, isStripe, clean}
 use Rattle.refusals.specs.declared.Answer.{Answer}
 use Rattle.planner.specs.declared.Plan.{Plan}
@@ -22,14 +22,14 @@ use Rattle.demands.proofs.Plans.{our-reads}
 
 -- Demand 2 for a step: survivors of a clean stripe u bring the record's disk back as it was in u.
 pub step-brings-back :
-    (x x′ : Run) (i : ℕ) (t u o o′ : List ℕ) (r : Answer) → isStripe (x .width) (x .width) (x .size) u ≡ true → clean (x .width) (x .width) (x .size) u ≡ true → StepSays x x′ i t o o′ r → r .refusal ≡ 0
-    → ((c : ℕ) → c < x .width * (x .width + 2) → (diskAt (x .width) c ≡ x .disk → ⊥) → cellAt (x .size) t c ≡ cellAt (x .size) u c) → o′ ≡ columnOf (x .width) (x .size) (x .disk) u
-step-brings-back x x′ i t u o o′ r v c k z h = brings-back (x .width) (x .size) (x .disk) t u o o′ r v c (step-rebuilds x x′ i t o o′ r k z) z h
+    (x x′ : Run) (i : ℕ) (t u o o′ : List ℕ) (r : Answer) → isStripe (x .shape .width) (x .shape .disks) (x .shape .«cell_size») u ≡ true → clean (x .shape .width) (x .shape .disks) (x .shape .«cell_size») u ≡ true → StepSays x x′ i t o o′ r → r .refusal ≡ 0
+    → ((c : ℕ) → c < x .shape .width * (x .shape .disks + 2) → (diskAt (x .shape .width) c ≡ x .lost → ⊥) → cellAt (x .shape .«cell_size») t c ≡ cellAt (x .shape .«cell_size») u c) → o′ ≡ columnOf (x .shape .width) (x .shape .«cell_size») (x .lost) u
+step-brings-back x x′ i t u o o′ r v c k z h = brings-back (x .shape .width) (x .shape .disks) (x .shape .«cell_size») (x .lost) t u o o′ r v c (step-rebuilds x x′ i t o o′ r k z) z h
 
 -- "Cells read so far are next × the read count": after any calls from the opening on, as many times the planner's count for that disk as steps were accepted
 pub cells-counted :
-    (p s f n : ℕ) (r : RunAnswer) (cs : List Call) (ls : List Left) (g : Progress) (q : Plan) → OpenSays p s f n r → r .answer .refusal ≡ 0 → Made (r .run) cs ls → ProgressSays (lastRun (r .run) ls) g → PlanSays p p f q
+    (p k s f n : ℕ) (r : RunAnswer) (cs : List Call) (ls : List Left) (g : Progress) (q : Plan) → OpenSays p k s f n r → r .answer .refusal ≡ 0 → Made (r .run) cs ls → ProgressSays (lastRun (r .run) ls) g → PlanSays p k f q
     → g .cells ≡ length (columnsOf ls) * q .reads
-cells-counted p s f n r cs ls g q o z m k l =
-    let w = numbers-of p p s f (sym (o .answer .refusal) ∙ z) in
-    progress-right p s f n r cs ls g o z m k .cells ∙ ap (λ (i : ℕ). length (columnsOf ls) * i) (sym (our-reads p f q l (l .answer .refusal ∙ plan-none p p f (w .0) (w .3))))
+cells-counted p k s f n r cs ls g q o z m d l =
+    let w = numbers-plan p k s f (sym (o .answer .refusal) ∙ z) in
+    progress-right p k s f n r cs ls g o z m d .cells ∙ ap (λ (i : ℕ). length (columnsOf ls) * i) (sym (our-reads p k f q l (l .answer .refusal ∙ w)))

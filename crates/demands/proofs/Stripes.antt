@@ -15,6 +15,8 @@ use Rattle.liberation.specs.Sets.{diskAt}
 use Rattle.liberation.specs.Plans.{readList}
 use Rattle.liberation.proofs.PartPlans.{plan-accepted}
 use Rattle.liberation_stripes.specs.Stripes.{cellAt, columnOf, stripeLong, isStripe, clean, encoded, rebuilt}
+use Rattle.liberation_stripes.specs.Widened.{widened}
+use Rattle.liberation_stripes.proofs.Widening.{widened-clean, widened-encoded}
 use Rattle.liberation_stripes.proofs.Encoding.{encoded-stripe, encoded-data, encoded-clean, encoded-only}
 use Rattle.liberation_stripes.proofs.Rebuilding.{one-back, lost-unused, only-read}
 use Rattle.refusals.specs.declared.Answer.{Answer}
@@ -25,71 +27,86 @@ use Rattle.stripes.proofs.StripeRefusals.{fault-none as within-limits}
 use Rattle.rebuild_one.specs.Says.{OneSays}
 use Rattle.rebuild_one.proofs.OneRefusals.{Fit, fault-none}
 
-pub is-stripe : (p s : ℕ) (t : List ℕ) → length t ≡ stripeLong p p s → allBytes t ≡ true → isStripe p p s t ≡ true
-is-stripe p s t e b = and-i (eqb (length t) (stripeLong p p s)) (allBytes t) (eq-eqb (length t) (stripeLong p p s) e) b
+pub is-stripe : (p k s : ℕ) (t : List ℕ) → length t ≡ stripeLong p k s → allBytes t ≡ true → isStripe p k s t ≡ true
+is-stripe p k s t e b = and-i (eqb (length t) (stripeLong p k s)) (allBytes t) (eq-eqb (length t) (stripeLong p k s) e) b
 
 -- An accepted encoding of t leaves t′.
-pub record Encodes (p s : ℕ) (t t′ : List ℕ) : Type 0 where
+pub record Encodes (p k s : ℕ) (t t′ : List ℕ) : Type 0 where
   -- a stripe still, in length and bytes
-  pub stripe : isStripe p p s t′ ≡ true
-  pub is-clean : clean p p s t′ ≡ true
+  pub stripe : isStripe p k s t′ ≡ true
+  pub is-clean : clean p k s t′ ≡ true
   -- no data cell is touched
-  pub kept : (x : ℕ) → x < p * p → cellAt s t′ x ≡ cellAt s t x
+  pub kept : (x : ℕ) → x < p * k → cellAt s t′ x ≡ cellAt s t x
   -- no other clean stripe has those data
-  pub only : (u : List ℕ) → isStripe p p s u ≡ true → clean p p s u ≡ true → ((x : ℕ) → x < p * p → cellAt s u x ≡ cellAt s t x) → u ≡ t′
+  pub only : (u : List ℕ) → isStripe p k s u ≡ true → clean p k s u ≡ true → ((x : ℕ) → x < p * k → cellAt s u x ≡ cellAt s t x) → u ≡ t′
 
-pub encodes : (p s : ℕ) (t t′ : List ℕ) (r : Answer) → EncodeSays p p s t t′ r → r .refusal ≡ 0 → Encodes p s t t′
-encodes p s t t′ r k z =
-    let e : stripeFault p p s t ≡ 0 = sym (k .answer .refusal) ∙ z in
-    let done : t′ ≡ encoded p p s t = k .stripe ∙ ap (λ (n : ℕ). pick (eqb n 0) (encoded p p s t) t) e in
-    let ok : isStripe p p s t ≡ true = is-stripe p s t (within-limits p p s t (omega arith) e .long) (k .bytes) in
+encoded-is : (p k s : ℕ) (t t′ : List ℕ) (r : Answer) → EncodeSays p k s t t′ r → r .refusal ≡ 0 → t′ ≡ encoded p k s t
+encoded-is p k s t t′ r d z = d .stripe ∙ ap (λ (n : ℕ). pick (eqb n 0) (encoded p k s t) t) (sym (d .answer .refusal) ∙ z)
+
+pub encodes : (p k s : ℕ) (t t′ : List ℕ) (r : Answer) → EncodeSays p k s t t′ r → r .refusal ≡ 0 → Encodes p k s t t′
+encodes p k s t t′ r d z =
+    let e : stripeFault p k s t ≡ 0 = sym (d .answer .refusal) ∙ z in
+    let done : t′ ≡ encoded p k s t = encoded-is p k s t t′ r d z in
+    let ok : isStripe p k s t ≡ true = is-stripe p k s t (within-limits p k s t e .0 .long) (d .bytes) in
     record {
-      stripe = ap (isStripe p p s) done ∙ encoded-stripe p p s t ok;
-      is-clean = ap (clean p p s) done ∙ encoded-clean p p s t ok;
-      kept = λ x h. ap (λ (l : List ℕ). cellAt s l x) done ∙ encoded-data p p s t ok x h;
-      only = λ u a c h. encoded-only p p s t ok u a c h ∙ sym done;
+      stripe = ap (isStripe p k s) done ∙ encoded-stripe p k s t ok;
+      is-clean = ap (clean p k s) done ∙ encoded-clean p k s t ok;
+      kept = λ x h. ap (λ (l : List ℕ). cellAt s l x) done ∙ encoded-data p k s t ok x h;
+      only = λ u a c h. encoded-only p k s t ok u a c h ∙ sym done;
     }
 
 -- "The check says yes exactly for clean stripes."
-pub checks : (p s : ℕ) (t : List ℕ) (r : Checked) → CheckSays p p s t r → r .answer .refusal ≡ 0 → r .clean ≡ clean p p s t
-checks p s t r k z = k .clean ∙ ap (λ (n : ℕ). eqb n 0 && clean p p s t) (sym (k .answer .refusal) ∙ z)
+pub checks : (p k s : ℕ) (t : List ℕ) (r : Checked) → CheckSays p k s t r → r .answer .refusal ≡ 0 → r .clean ≡ clean p k s t
+checks p k s t r d z = d .clean ∙ ap (λ (n : ℕ). eqb n 0 && clean p k s t) (sym (d .answer .refusal) ∙ z)
+
+-- Ask 1: cells of absent disks "count as zero". The check says of a stripe what it says of the full one with zeros on the absent disks
+pub absent-checked : (p k s : ℕ) (t : List ℕ) (r q : Checked) → CheckSays p k s t r → r .answer .refusal ≡ 0 → CheckSays p p s (widened p k s t) q → q .answer .refusal ≡ 0 → r .clean ≡ q .clean
+absent-checked p k s t r q d z e y =
+    let a = within-limits p k s t (sym (d .answer .refusal) ∙ z) .0 in
+    checks p k s t r d z ∙ widened-clean p k s t (a .disks) (is-stripe p k s t (a .long) (d .bytes)) ∙ sym (checks p p s (widened p k s t) q e y)
+
+-- and encoding that one leaves the encoded stripe with zeros on the absent disks.
+pub absent-encoded : (p k s : ℕ) (t t′ u′ : List ℕ) (r q : Answer) → EncodeSays p k s t t′ r → r .refusal ≡ 0 → EncodeSays p p s (widened p k s t) u′ q → q .refusal ≡ 0 → u′ ≡ widened p k s t′
+absent-encoded p k s t t′ u′ r q d z e y =
+    let a = within-limits p k s t (sym (d .answer .refusal) ∙ z) .0 in
+    encoded-is p p s (widened p k s t) u′ q e y ∙ widened-encoded p k s t (a .disks) (is-stripe p k s t (a .long) (d .bytes)) ∙ ap (widened p k s) (sym (encoded-is p k s t t′ r d z))
 
 -- what an accepted rebuild shows of its arguments
-taken : (p s f : ℕ) (t o o′ : List ℕ) (r : Answer) → OneSays p p s f t o o′ r → r .refusal ≡ 0 → Fit p p s f (length t) (length o)
-taken p s f t o o′ r k z = fault-none p p s f (length t) (length o) (omega arith) (sym (k .answer .refusal) ∙ z)
+taken : (p k s f : ℕ) (t o o′ : List ℕ) (r : Answer) → OneSays p k s f t o o′ r → r .refusal ≡ 0 → Fit p k s f (length t) (length o)
+taken p k s f t o o′ r d z = fault-none p k s f (length t) (length o) (sym (d .answer .refusal) ∙ z)
 
-stripe-is : (p s f : ℕ) (t o o′ : List ℕ) (r : Answer) → OneSays p p s f t o o′ r → r .refusal ≡ 0 → isStripe p p s t ≡ true
-stripe-is p s f t o o′ r k z = is-stripe p s t (taken p s f t o o′ r k z .stripe) (k .bytes)
+stripe-is : (p k s f : ℕ) (t o o′ : List ℕ) (r : Answer) → OneSays p k s f t o o′ r → r .refusal ≡ 0 → isStripe p k s t ≡ true
+stripe-is p k s f t o o′ r d z = is-stripe p k s t (taken p k s f t o o′ r d z .stripe) (d .bytes)
 
-column-is : (p s f : ℕ) (t o o′ : List ℕ) (r : Answer) → OneSays p p s f t o o′ r → r .refusal ≡ 0 → o′ ≡ rebuilt p p s f t
-column-is p s f t o o′ r k z = k .column ∙ ap (λ (n : ℕ). pick (eqb n 0) (rebuilt p p s f t) o) (sym (k .answer .refusal) ∙ z)
+column-is : (p k s f : ℕ) (t o o′ : List ℕ) (r : Answer) → OneSays p k s f t o o′ r → r .refusal ≡ 0 → o′ ≡ rebuilt p k s f t
+column-is p k s f t o o′ r d z = d .column ∙ ap (λ (n : ℕ). pick (eqb n 0) (rebuilt p k s f t) o) (sym (d .answer .refusal) ∙ z)
 
 -- Demand 2 for one lost disk: survivors of a clean stripe u bring the disk back as it was in u, whatever stood in the lost column.
 pub brings-back :
-    (p s f : ℕ) (t u o o′ : List ℕ) (r : Answer) → isStripe p p s u ≡ true → clean p p s u ≡ true → OneSays p p s f t o o′ r → r .refusal ≡ 0
-    → ((x : ℕ) → x < p * (p + 2) → (diskAt p x ≡ f → ⊥) → cellAt s t x ≡ cellAt s u x) → o′ ≡ columnOf p s f u
-brings-back p s f t u o o′ r v c k z h =
-    let a = taken p s f t o o′ r k z in
-    column-is p s f t o o′ r k z ∙ one-back p p s f (plan-accepted p p f (a .width) (omega arith) (a .disk)) (omega (arith, a .disk)) t u (stripe-is p s f t o o′ r k z) v c h
+    (p k s f : ℕ) (t u o o′ : List ℕ) (r : Answer) → isStripe p k s u ≡ true → clean p k s u ≡ true → OneSays p k s f t o o′ r → r .refusal ≡ 0
+    → ((x : ℕ) → x < p * (k + 2) → (diskAt p x ≡ f → ⊥) → cellAt s t x ≡ cellAt s u x) → o′ ≡ columnOf p s f u
+brings-back p k s f t u o o′ r v c d z h =
+    let a = taken p k s f t o o′ r d z in
+    column-is p k s f t o o′ r d z ∙ one-back p k s f (plan-accepted p k f (a .width) (a .disks) (a .disk)) (omega (arith, a .disk)) t u (stripe-is p k s f t o o′ r d z) v c h
 
 -- "What the stripe holds for the lost disk is never used": two accepted calls on stripes alike off that disk write one column, on dirty stripes too.
 pub never-used :
-    (p s f : ℕ) (t u o o′ n n′ : List ℕ) (r q : Answer) → OneSays p p s f t o o′ r → r .refusal ≡ 0 → OneSays p p s f u n n′ q → q .refusal ≡ 0
-    → ((x : ℕ) → x < p * (p + 2) → (diskAt p x ≡ f → ⊥) → cellAt s t x ≡ cellAt s u x) → o′ ≡ n′
-never-used p s f t u o o′ n n′ r q k z m y h =
-    let a = taken p s f t o o′ r k z in
-    column-is p s f t o o′ r k z
-    ∙ lost-unused p p s f (plan-accepted p p f (a .width) (omega arith) (a .disk)) (omega (arith, a .disk)) t u (stripe-is p s f t o o′ r k z) (stripe-is p s f u n n′ q m y) h
-    ∙ sym (column-is p s f u n n′ q m y)
+    (p k s f : ℕ) (t u o o′ n n′ : List ℕ) (r q : Answer) → OneSays p k s f t o o′ r → r .refusal ≡ 0 → OneSays p k s f u n n′ q → q .refusal ≡ 0
+    → ((x : ℕ) → x < p * (k + 2) → (diskAt p x ≡ f → ⊥) → cellAt s t x ≡ cellAt s u x) → o′ ≡ n′
+never-used p k s f t u o o′ n n′ r q d z m y h =
+    let a = taken p k s f t o o′ r d z in
+    column-is p k s f t o o′ r d z
+    ∙ lost-unused p k s f (plan-accepted p k f (a .width) (a .disks) (a .disk)) (omega (arith, a .disk)) t u (stripe-is p k s f t o o′ r d z) (stripe-is p k s f u n n′ q m y) h
+    ∙ sym (column-is p k s f u n n′ q m y)
 
 -- The last sentence of demand 3: stripes alike in every cell marked 1 in the list that `read_list` writes give one rebuilt disk, dirty stripes too.
 pub one-column :
-    (p s f : ℕ) (t u o o′ n n′ l l′ : List ℕ) (r q a : Answer)
-    → OneSays p p s f t o o′ r → r .refusal ≡ 0 → OneSays p p s f u n n′ q → q .refusal ≡ 0 → ListSays p p f l l′ a → a .refusal ≡ 0
+    (p k s f : ℕ) (t u o o′ n n′ l l′ : List ℕ) (r q a : Answer)
+    → OneSays p k s f t o o′ r → r .refusal ≡ 0 → OneSays p k s f u n n′ q → q .refusal ≡ 0 → ListSays p k f l l′ a → a .refusal ≡ 0
     → ((x : ℕ) → getD l′ x 0 ≡ 1 → cellAt s t x ≡ cellAt s u x) → o′ ≡ n′
-one-column p s f t u o o′ n n′ l l′ r q a k z m y w e h =
-    let i = taken p s f t o o′ r k z in
-    let list : l′ ≡ readList p p f = w .list ∙ ap (λ (x : ℕ). pick (eqb x 0) (readList p p f) l) (sym (w .answer .refusal) ∙ e) in
-    column-is p s f t o o′ r k z
-    ∙ only-read p p s f (plan-accepted p p f (i .width) (omega arith) (i .disk)) (omega (arith, i .disk)) t u (stripe-is p s f t o o′ r k z) (stripe-is p s f u n n′ q m y) (λ x g. h x (ap (λ (v : List ℕ). getD v x 0) list ∙ g))
-    ∙ sym (column-is p s f u n n′ q m y)
+one-column p k s f t u o o′ n n′ l l′ r q a d z m y w e h =
+    let i = taken p k s f t o o′ r d z in
+    let list : l′ ≡ readList p k f = w .list ∙ ap (λ (x : ℕ). pick (eqb x 0) (readList p k f) l) (sym (w .answer .refusal) ∙ e) in
+    column-is p k s f t o o′ r d z
+    ∙ only-read p k s f (plan-accepted p k f (i .width) (i .disks) (i .disk)) (omega (arith, i .disk)) t u (stripe-is p k s f t o o′ r d z) (stripe-is p k s f u n n′ q m y) (λ x g. h x (ap (λ (v : List ℕ). getD v x 0) list ∙ g))
+    ∙ sym (column-is p k s f u n n′ q m y)
