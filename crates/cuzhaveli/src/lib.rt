@@ -1,17 +1,20 @@
 // The calls for C and Rust: each hands its numbers and slices on to the proved call and promises what that call promises.
-// Widths, disks and lengths come in as `usize`, so nothing is narrowed before it is tested.
+// Widths, disks, sizes and lengths come in as `usize`, so nothing is narrowed before it is tested.
+ghost use mathlib.Core.Path.{_≡_};
 ghost use Rattle.planner.specs.Says.{PlanSays, ListSays};
 ghost use Rattle.judge.specs.Says.{JudgeSays};
 ghost use Rattle.space.specs.Says.{SpaceSays};
 ghost use Rattle.stripes.specs.Says.{EncodeSays, CheckSays};
 ghost use Rattle.rebuild_one.specs.Says.{OneSays};
 ghost use Rattle.rebuild_two.specs.Says.{TwoSays};
-ghost use Rattle.runs.specs.Runs.{OpenSays, StepSays, ProgressSays};
+ghost use Rattle.runs.specs.Runs.{OpenSays, StepSays, ProgressSays, resumed};
 ghost use Rattle.billing.specs.Bills.{BillSays, RunBillSays};
 use billing::Bill;
 use judge::Judged;
 use planner::Plan;
 use refusals::Answer;
+use refusals::Shape;
+use runs::FullRun;
 use runs::Progress;
 use runs::Run;
 use runs::RunAnswer;
@@ -20,91 +23,102 @@ use stripes::Checked;
 
 // Our plan for a lost disk.
 #[no_mangle]
-pub extern "C" fn cuzhaveli_plan_disk(width: usize, disk: usize) -> Plan
-    ensures { λ r. ⌜ PlanSays width width disk r ⌝ }
+pub extern "C" fn cuzhaveli_plan_disk(width: usize, disks: usize, lost: usize) -> Plan
+    ensures { λ r. ⌜ PlanSays width disks lost r ⌝ }
 {
-    planner::plan_disk(width, disk)
+    planner::plan_disk(width, disks, lost)
 }
 
-// The read list of our plan, into a lent slice of p(p + 2) bytes.
+// The read list of our plan, into a lent slice of p(k + 2) bytes.
 #[no_mangle]
-pub extern "C" fn cuzhaveli_read_list(width: usize, disk: usize, list: &mut [u8]) -> Answer
-    ensures { λ r. ⌜ ListSays width width disk (now (list .entry)) (now (list .exit)) r ⌝ }
+pub extern "C" fn cuzhaveli_read_list(
+    width: usize,
+    disks: usize,
+    lost: usize,
+    list: &mut [u8],
+) -> Answer
+    ensures { λ r. ⌜ ListSays width disks lost (now (list .entry)) (now (list .exit)) r ⌝ }
 {
-    planner::read_list(width, disk, list)
+    planner::read_list(width, disks, lost, list)
 }
 
 // The judge of a plan of 3 × p bytes.
 #[no_mangle]
-pub extern "C" fn cuzhaveli_judge_plan(width: usize, disk: usize, plan: &[u8]) -> Judged
-    ensures { λ r. ⌜ JudgeSays width width disk (now (plan .entry)) r ⌝ }
+pub extern "C" fn cuzhaveli_judge_plan(
+    width: usize,
+    disks: usize,
+    lost: usize,
+    plan: &[u8],
+) -> Judged
+    ensures { λ r. ⌜ JudgeSays width disks lost (now (plan .entry)) r ⌝ }
 {
-    judge::judge_plan(width, disk, plan)
+    judge::judge_plan(width, disks, lost, plan)
 }
 
 // The space that a package takes.
 #[no_mangle]
-pub extern "C" fn cuzhaveli_package_space(width: usize, size: usize, bytes: u64, free: u64) -> Space
-    ensures { λ r. ⌜ SpaceSays width size bytes free r ⌝ }
+pub extern "C" fn cuzhaveli_package_space(shape: Shape, bytes: u64, free: u64) -> Space
+    ensures { λ r. ⌜ SpaceSays (shape .width) (shape .disks) (shape .«cell_size») bytes free r ⌝ }
 {
-    space::package_space(width, size, bytes, free)
+    space::package_space(shape, bytes, free)
 }
 
 // Writes P and Q of a lent stripe.
 #[no_mangle]
-pub extern "C" fn cuzhaveli_encode_stripe(width: usize, size: usize, stripe: &mut [u8]) -> Answer
-    ensures { λ r. ⌜ EncodeSays width width size (now (stripe .entry)) (now (stripe .exit)) r ⌝ }
+pub extern "C" fn cuzhaveli_encode_stripe(shape: Shape, stripe: &mut [u8]) -> Answer
+    ensures { λ r. ⌜ EncodeSays (shape .width) (shape .disks) (shape .«cell_size») (now (stripe .entry)) (now (stripe .exit)) r ⌝ }
 {
-    stripes::encode_stripe(width, size, stripe)
+    stripes::encode_stripe(shape, stripe)
 }
 
 // Is a lent stripe clean?
 #[no_mangle]
-pub extern "C" fn cuzhaveli_check_stripe(width: usize, size: usize, stripe: &[u8]) -> Checked
-    ensures { λ r. ⌜ CheckSays width width size (now (stripe .entry)) r ⌝ }
+pub extern "C" fn cuzhaveli_check_stripe(shape: Shape, stripe: &[u8]) -> Checked
+    ensures { λ r. ⌜ CheckSays (shape .width) (shape .disks) (shape .«cell_size») (now (stripe .entry)) r ⌝ }
 {
-    stripes::check_stripe(width, size, stripe)
+    stripes::check_stripe(shape, stripe)
 }
 
 // Rebuilds one lost disk of a lent stripe into a lent column of p × s bytes.
 #[no_mangle]
 pub extern "C" fn cuzhaveli_rebuild_one(
-    width: usize,
-    size: usize,
-    disk: usize,
+    shape: Shape,
+    lost: usize,
     stripe: &[u8],
     column: &mut [u8],
 ) -> Answer
-    ensures { λ r. ⌜ OneSays width width size disk (now (stripe .entry)) (now (column .entry)) (now (column .exit)) r ⌝ }
+    ensures { λ r. ⌜ OneSays (shape .width) (shape .disks) (shape .«cell_size») lost (now (stripe .entry)) (now (column .entry)) (now (column .exit)) r ⌝ }
 {
-    rebuild_one::rebuild_one(width, size, disk, stripe, column)
+    rebuild_one::rebuild_one(shape, lost, stripe, column)
 }
 
 // Rebuilds two lost disks of a lent stripe in place.
 #[no_mangle]
 pub extern "C" fn cuzhaveli_rebuild_two(
-    width: usize,
-    size: usize,
+    shape: Shape,
     first: usize,
     second: usize,
     stripe: &mut [u8],
 ) -> Answer
-    ensures { λ r. ⌜ TwoSays width width size first second (now (stripe .entry)) (now (stripe .exit)) r ⌝ }
+    ensures { λ r. ⌜ TwoSays (shape .width) (shape .disks) (shape .«cell_size») first second (now (stripe .entry)) (now (stripe .exit)) r ⌝ }
 {
-    rebuild_two::rebuild_two(width, size, first, second, stripe)
+    rebuild_two::rebuild_two(shape, first, second, stripe)
 }
 
 // Opens a rebuild run over `stripes` stripes.
 #[no_mangle]
-pub extern "C" fn cuzhaveli_open_run(
-    width: usize,
-    size: usize,
-    disk: usize,
-    stripes: u32,
-) -> RunAnswer
-    ensures { λ r. ⌜ OpenSays width size disk stripes r ⌝ }
+pub extern "C" fn cuzhaveli_open_run(shape: Shape, lost: usize, stripes: u32) -> RunAnswer
+    ensures { λ r. ⌜ OpenSays (shape .width) (shape .disks) (shape .«cell_size») lost stripes r ⌝ }
 {
-    runs::open_run(width, size, disk, stripes)
+    runs::open_run(shape, lost, stripes)
+}
+
+// A run that was open when its record had no number of data disks goes on with as many as its width.
+#[no_mangle]
+pub extern "C" fn cuzhaveli_resume_full_run(old: FullRun) -> Run
+    ensures { λ r. ⌜ r ≡ resumed old ⌝ }
+{
+    runs::resume_full_run(old)
 }
 
 // A step of a run over its lent record: rebuilds stripe `which` into the column and moves the record on by one.
