@@ -1,6 +1,7 @@
 //! What the groups share: how they run, lent memory, random numbers, and the model's core.
 
 pub mod answer;
+pub mod arrays;
 mod group;
 mod lent;
 pub mod model;
@@ -8,6 +9,7 @@ pub mod numbers;
 pub mod plans;
 mod random;
 pub mod runner;
+mod shape;
 pub mod small_stack;
 pub mod stripes;
 
@@ -15,3 +17,4 @@ pub use group::Group;
 pub use lent::Lent;
 pub use random::Random;
 pub use runner::Setting;
+pub use shape::Shape;

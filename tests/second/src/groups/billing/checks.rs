@@ -1,11 +1,12 @@
-//! Bills: the bands' boundaries, the largest bills, refusals, bills of runs.
+//! Bills: the bands' boundaries, the largest bills, refusals, bills of runs and of old runs taken over.
 
 use super::calls::{bill_bytes, bill_run, Bill};
 use super::model;
-use crate::groups::runs::calls::Run;
+use crate::groups::runs::calls::{resume_full_run, FullRun, Run};
+use crate::groups::runs::model::resume_full_run as model_resume;
 use crate::harness::answer::{Answer, ACCEPTED};
 use crate::harness::model::WIDTHS;
-use crate::harness::{Group, Random, Setting};
+use crate::harness::{arrays, numbers, Group, Random, Setting, Shape};
 
 const GIB: u64 = 1 << 30;
 const MOST: u64 = 1 << 54;
@@ -24,6 +25,8 @@ pub fn run(setting: &mut Setting, group: &mut Group) {
         random_run(group, random);
     }
     longest_runs(group);
+    refused_runs(group);
+    old_runs(group, random);
 }
 
 fn same_bill(group: &mut Group, bytes: u64, rates: [u64; 3]) {
@@ -86,30 +89,67 @@ fn boundaries(group: &mut Group) {
 
 fn random_bill(group: &mut Group, random: &mut Random) {
     let bytes = random.next() >> random.below(64);
-    let rates = [0, 1, 2].map(|_| random.below(1_003) as u64);
-    same_bill(group, bytes, rates);
+    same_bill(group, bytes, random_rates(random));
 }
 
 fn random_run(group: &mut Group, random: &mut Random) {
     let p = *random.pick(&WIDTHS);
-    let odd = random.once_in(6);
+    let k = if random.once_in(2) { p } else { 1 + random.below(p + 1) };
+    let width = if random.once_in(6) { random.below(40) } else { p };
     let run = Run {
-        width: if odd { random.below(40) } else { p },
-        size: random.below(4_098),
-        disk: random.below(p + 3),
+        shape: Shape::new(width, k, random.below(4_098)),
+        lost: random.below(k + 3),
         stripes: random.next() as u32,
         next: (random.next() >> (32 + random.below(32))) as u32,
     };
-    let rates = [0, 1, 2].map(|_| random.below(1_003) as u64);
-    same_run(group, &run, rates);
+    same_run(group, &run, random_rates(random));
+}
+
+fn random_rates(random: &mut Random) -> [u64; 3] {
+    [0, 1, 2].map(|_| random.below(1_003) as u64)
 }
 
 /// The largest bills that a run can have.
 fn longest_runs(group: &mut Group) {
-    for p in WIDTHS {
-        for disk in 0..p + 2 {
-            let run = Run { width: p, size: 4_096, disk, stripes: u32::MAX, next: u32::MAX };
+    for (p, k) in arrays::every() {
+        for lost in 0..k + 2 {
+            let shape = Shape::new(p, k, 4_096);
+            let run = Run { shape, lost, stripes: u32::MAX, next: u32::MAX };
             same_run(group, &run, [1_000, 1_000, 1_000]);
         }
+    }
+}
+
+/// A run's own refusals come before those of the rates.
+fn refused_runs(group: &mut Group) {
+    for shape in numbers::any_shapes() {
+        for lost in numbers::few_disks(shape.width, shape.disks) {
+            for rate in [1_000, 1_001] {
+                same_run(group, &Run { shape, lost, stripes: 7, next: 7 }, [0, rate, 0]);
+            }
+        }
+    }
+}
+
+/// The bill of a run that was open before records had data disks.
+fn old_runs(group: &mut Group, random: &mut Random) {
+    let old = FullRun { width: 5, size: 4_096, disk: 1, stripes: 9, next: 4 };
+    let bytes = 4 * 19 * 4_096;
+    let bill = Bill { answer: ACCEPTED, bands: [bytes, 0, 0], cents: 1 };
+    let got = bill_run(&resume_full_run(old), [1, 1, 1]);
+    group.same(|| format!("bill_run(resume_full_run({old:?}))"), bill, got);
+    for _ in 0..ROUNDS / 50 {
+        let p = *random.pick(&WIDTHS);
+        let old = FullRun {
+            width: if random.once_in(6) { random.below(40) } else { p },
+            size: random.below(4_098),
+            disk: random.below(p + 3),
+            stripes: random.next() as u32,
+            next: (random.next() >> (32 + random.below(32))) as u32,
+        };
+        let rates = random_rates(random);
+        let expected = model::bill_run(&model_resume(old), rates);
+        let call = || format!("bill_run(resume_full_run({old:?}), {rates:?})");
+        group.same(call, expected, bill_run(&resume_full_run(old), rates));
     }
 }

@@ -35,7 +35,7 @@ pub fn bill_bytes(bytes: u64, rates: [u64; 3]) -> Bill {
 pub fn bill_run(run: &Run, rates: [u64; 3]) -> Bill {
     let progress = run_progress(run);
     match progress.answer {
-        ACCEPTED => bill_bytes(progress.cells * run.size as u64, rates),
+        ACCEPTED => bill_bytes(progress.cells * run.shape.cell_size as u64, rates),
         answer => no_bill(answer),
     }
 }

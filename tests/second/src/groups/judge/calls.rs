@@ -10,10 +10,16 @@ pub struct Judged {
 }
 
 extern "C" {
-    fn cuzhaveli_judge_plan(width: usize, disk: usize, plan: *const u8, plan_len: usize) -> Judged;
+    fn cuzhaveli_judge_plan(
+        width: usize,
+        disks: usize,
+        lost: usize,
+        plan: *const u8,
+        plan_len: usize,
+    ) -> Judged;
 }
 
 /// The judge's word on a plan.
-pub fn judge_plan(width: usize, disk: usize, plan: &[u8]) -> Judged {
-    unsafe { cuzhaveli_judge_plan(width, disk, plan.as_ptr(), plan.len()) }
+pub fn judge_plan(width: usize, disks: usize, lost: usize, plan: &[u8]) -> Judged {
+    unsafe { cuzhaveli_judge_plan(width, disks, lost, plan.as_ptr(), plan.len()) }
 }

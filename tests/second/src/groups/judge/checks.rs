@@ -1,14 +1,15 @@
 //! The judge on accepted and damaged plans, wrong lengths and refused numbers.
 
 use super::calls::judge_plan;
-use super::model;
+use super::model::{self, Numbers};
 use crate::harness::answer::ACCEPTED;
 use crate::harness::model::{bytes_of, Step};
 use crate::harness::plans::{damaged, Loss};
 use crate::harness::{numbers, Group, Lent, Random, Setting};
 
-/// Rounds for each lost disk of each width; a round judges two plans.
+/// Rounds for each lost disk of each array; a round judges two plans.
 const ROUNDS: usize = 300;
+const PART_ROUNDS: usize = 25;
 
 /// How often the judge gave each number.
 type Seen = [u64; 256];
@@ -16,7 +17,7 @@ type Seen = [u64; 256];
 pub fn run(setting: &mut Setting, group: &mut Group) {
     let random = &mut setting.random;
     let mut seen = [0; 256];
-    for loss in Loss::all() {
+    for loss in Loss::some() {
         random_plans(group, random, &loss, &mut seen);
         refusal_at_every_place(group, random, &loss, &mut seen);
         second_steps(group, random, &loss, &mut seen);
@@ -24,7 +25,7 @@ pub fn run(setting: &mut Setting, group: &mut Group) {
     }
     every_plan_of_width_3(group, random, &mut seen);
     refused_numbers(group, random, &mut seen);
-    for number in [0, 1, 3, 5, 6, 7, 8, 9] {
+    for number in [0, 1, 3, 5, 6, 7, 8, 9, 13] {
         let often = seen[number] >= 100;
         group.same(|| format!("judge gave {number} at least 100 times"), true, often);
     }
@@ -34,31 +35,37 @@ pub fn run(setting: &mut Setting, group: &mut Group) {
 fn same_word(
     group: &mut Group,
     random: &mut Random,
-    (width, disk): (usize, usize),
+    (width, disks, lost): Numbers,
     plan: &[u8],
     seen: &mut Seen,
 ) {
     let mut lent = Lent::of(plan, random);
     let before = lent.clone();
-    let got = judge_plan(width, disk, lent.part());
-    let expected = model::judge_plan(width, disk, plan);
-    let call = || format!("judge_plan({width}, {disk}, {plan:?})");
+    let got = judge_plan(width, disks, lost, lent.part());
+    let expected = model::judge_plan(width, disks, lost, plan);
+    let call = || format!("judge_plan({width}, {disks}, {lost}, {plan:?})");
     group.same(call, expected, got);
     group.same_bytes(|| format!("{}, memory", call()), before.whole(), lent.whole());
     seen[got.answer.refusal as usize] += 1;
 }
 
+fn numbers_of(loss: &Loss) -> Numbers {
+    (loss.p, loss.k, loss.disk)
+}
+
 /// An accepted plan and a damaged one, many times.
 fn random_plans(group: &mut Group, random: &mut Random, loss: &Loss, seen: &mut Seen) {
-    for _ in 0..ROUNDS {
+    let (p, k, disk) = numbers_of(loss);
+    for _ in 0..if loss.is_full() { ROUNDS } else { PART_ROUNDS } {
         let steps = loss.accepted(random);
         let plan = bytes_of(&steps);
-        let answer = judge_plan(loss.p, loss.disk, &plan).answer;
-        let call = || format!("judge_plan({}, {}, {plan:?}), answer", loss.p, loss.disk);
+        let answer = judge_plan(p, k, disk, &plan).answer;
+        let call = || format!("judge_plan({p}, {k}, {disk}, {plan:?}), answer");
         group.same(call, ACCEPTED, answer);
-        same_word(group, random, (loss.p, loss.disk), &plan, seen);
-        let plan = damaged(loss, &steps, random);
-        same_word(group, random, (loss.p, loss.disk), &plan, seen);
+        let damaged = damaged(loss, &steps, random);
+        for plan in [plan, damaged] {
+            same_word(group, random, (p, k, disk), &plan, seen);
+        }
     }
 }
 
@@ -84,7 +91,7 @@ fn refusal_at_every_place(group: &mut Group, random: &mut Random, loss: &Loss, s
         for step in bad {
             let mut steps = steps.clone();
             steps[place] = step;
-            same_word(group, random, (p, loss.disk), &bytes_of(&steps), seen);
+            same_word(group, random, numbers_of(loss), &bytes_of(&steps), seen);
         }
     }
 }
@@ -100,53 +107,65 @@ fn second_steps(group: &mut Group, random: &mut Random, loss: &Loss, seen: &mut 
         for kind in 0..3 {
             for number in 0..=p {
                 steps[1] = Step { row: second_row, kind, number };
-                same_word(group, random, (p, loss.disk), &bytes_of(&steps), seen);
+                same_word(group, random, numbers_of(loss), &bytes_of(&steps), seen);
             }
         }
     }
 }
 
 fn wrong_lengths(group: &mut Group, random: &mut Random, loss: &Loss, seen: &mut Seen) {
-    let p = loss.p;
+    let (p, k, _) = numbers_of(loss);
     let plan = bytes_of(&loss.accepted(random));
     let right = plan.len();
-    let lengths = [0, 1, p, right - 3, right - 1, right + 1, right + 3, 2 * right, right + 256];
-    for length in lengths {
+    let near = [right - 3, right - 1, right + 1, right + 3, 2 * right, right + 256];
+    let all = [0, 1, p, 3 * k, 3 * (k + 2)].into_iter().chain(near);
+    for length in all.filter(|length| *length != right) {
         let longer: Vec<u8> = plan.iter().copied().cycle().take(length).collect();
-        same_word(group, random, (p, loss.disk), &longer, seen);
+        same_word(group, random, numbers_of(loss), &longer, seen);
     }
 }
 
-/// All three-step plans of width 3, fields up to one over the limit.
+/// All three-step plans of width 3, fields up to one over the limit; with two data disks, fields in range.
 fn every_plan_of_width_3(group: &mut Group, random: &mut Random, seen: &mut Seen) {
-    let mut steps = Vec::new();
-    for row in 0..4 {
-        for kind in 0..3 {
-            steps.extend((0..4).map(|number| [row, kind, number]));
+    for (disks, rows, kinds) in [(2, 3, 2), (3, 4, 3)] {
+        let mut steps = Vec::new();
+        for row in 0..rows {
+            for kind in 0..kinds {
+                steps.extend((0..rows).map(|number| [row, kind, number]));
+            }
         }
-    }
-    for disk in 0..5 {
-        for first in &steps {
-            for second in &steps {
-                for third in &steps {
-                    let plan = [*first, *second, *third].concat();
-                    same_word(group, random, (3, disk), &plan, seen);
+        for lost in 0..disks + 2 {
+            for first in &steps {
+                for second in &steps {
+                    for third in &steps {
+                        let plan = [*first, *second, *third].concat();
+                        same_word(group, random, (3, disks, lost), &plan, seen);
+                    }
                 }
             }
         }
     }
 }
 
-/// Refused widths and disks, with plans of right and wrong lengths.
+/// Refused widths, data disks and disks, with plans of right and wrong lengths.
 fn refused_numbers(group: &mut Group, random: &mut Random, seen: &mut Seen) {
     for width in numbers::any_widths() {
-        for disk in numbers::any_disks(width) {
-            for length in [0, 15, 3 * numbers::cut_width(width)] {
-                let rows = (0..length / 3).map(|row| Step { row, kind: 0, number: row });
-                let mut plan = bytes_of(&rows.collect::<Vec<Step>>());
-                plan.resize(length, 0);
-                same_word(group, random, (width, disk), &plan, seen);
+        for lost in numbers::any_disks(width, width) {
+            refused(group, random, (width, width, lost), seen);
+        }
+        for disks in numbers::any_data_disks(width) {
+            for lost in numbers::few_disks(width, disks) {
+                refused(group, random, (width, disks, lost), seen);
             }
         }
+    }
+}
+
+fn refused(group: &mut Group, random: &mut Random, numbers: Numbers, seen: &mut Seen) {
+    for length in [0, 15, 3 * numbers::cut(numbers.0)] {
+        let rows = (0..length / 3).map(|row| Step { row, kind: 0, number: row });
+        let mut plan = bytes_of(&rows.collect::<Vec<Step>>());
+        plan.resize(length, 0);
+        same_word(group, random, numbers, &plan, seen);
     }
 }

@@ -6,25 +6,29 @@ use super::calls::Judged;
 use crate::harness::answer::{Answer, ACCEPTED};
 use crate::harness::model::{cells_read, lost_rows, refuse, steps_of, Step};
 
+/// Width, data disks and lost disk.
+pub type Numbers = (usize, usize, usize);
+
 /// The judge's call.
-pub fn judge_plan(width: usize, disk: usize, plan: &[u8]) -> Judged {
-    let answer = refuse(width).disk(disk).length(plan.len(), |p| 3 * p).answer();
+pub fn judge_plan(width: usize, disks: usize, lost: usize, plan: &[u8]) -> Judged {
+    let numbers = refuse(width, disks).disk(lost);
+    let answer = numbers.length(plan.len(), |of| 3 * of.width).answer();
     if answer != ACCEPTED {
         return Judged { answer, reads: 0 };
     }
     let steps = steps_of(plan);
-    let answer = refuse_steps(width, disk, &steps);
+    let answer = refuse_steps((width, disks, lost), &steps);
     if answer != ACCEPTED {
         return Judged { answer, reads: 0 };
     }
-    Judged { answer, reads: cells_read(width, disk, &steps).len() as u32 }
+    Judged { answer, reads: cells_read(width, disks, lost, &steps).len() as u32 }
 }
 
 /// The first step that is refused, with its refusal.
-fn refuse_steps(p: usize, disk: usize, steps: &[Step]) -> Answer {
+fn refuse_steps(numbers: Numbers, steps: &[Step]) -> Answer {
     let mut rebuilt = HashSet::new();
     for (place, step) in steps.iter().enumerate() {
-        let refusal = refuse_step(p, disk, step, &rebuilt);
+        let refusal = refuse_step(numbers, step, &rebuilt);
         if refusal != 0 {
             return Answer { refusal, place: place as u32 };
         }
@@ -34,19 +38,19 @@ fn refuse_steps(p: usize, disk: usize, steps: &[Step]) -> Answer {
 }
 
 /// The refusal of one step, or 0, after the rows rebuilt so far.
-fn refuse_step(p: usize, disk: usize, step: &Step, rebuilt: &HashSet<usize>) -> u8 {
+fn refuse_step((p, k, lost): Numbers, step: &Step, rebuilt: &HashSet<usize>) -> u8 {
     if step.row >= p || step.kind > 1 || step.number >= p {
         return 6;
     }
-    let lost = lost_rows(p, disk, step.kind, step.number);
-    if !lost.contains(&step.row) {
+    let rows = lost_rows(p, k, lost, step.kind, step.number);
+    if !rows.contains(&step.row) {
         return 7;
     }
     if rebuilt.contains(&step.row) {
         return 8;
     }
     let stands = |row: &usize| *row == step.row || rebuilt.contains(row);
-    if lost.iter().all(stands) {
+    if rows.iter().all(stands) {
         0
     } else {
         9

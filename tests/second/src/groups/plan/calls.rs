@@ -21,12 +21,12 @@ pub struct Plan {
 }
 
 extern "C" {
-    fn cuzhaveli_plan_disk(width: usize, disk: usize) -> Plan;
+    fn cuzhaveli_plan_disk(width: usize, disks: usize, lost: usize) -> Plan;
 }
 
 /// Our plan for a disk.
-pub fn plan_disk(width: usize, disk: usize) -> Plan {
-    unsafe { cuzhaveli_plan_disk(width, disk) }
+pub fn plan_disk(width: usize, disks: usize, lost: usize) -> Plan {
+    unsafe { cuzhaveli_plan_disk(width, disks, lost) }
 }
 
 impl Steps {

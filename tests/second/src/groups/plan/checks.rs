@@ -1,48 +1,53 @@
-//! The planner: every disk of every width, and refused numbers.
+//! The planner: every disk of every array, and refused numbers.
 
 use super::calls::{plan_disk, Plan};
 use super::model;
 use crate::groups::judge::calls::{judge_plan, Judged};
 use crate::harness::answer::ACCEPTED;
-use crate::harness::model::WIDTHS;
-use crate::harness::{numbers, Group, Setting};
+use crate::harness::{arrays, numbers, Group, Setting};
 
 pub fn run(_: &mut Setting, group: &mut Group) {
-    for p in WIDTHS {
-        for disk in 0..p + 2 {
-            accepted(group, p, disk);
+    for (p, k) in arrays::every() {
+        for lost in 0..k + 2 {
+            accepted(group, p, k, lost);
         }
     }
     for width in numbers::any_widths() {
-        for disk in numbers::any_disks(width) {
-            same_plan(group, width, disk);
+        for disks in numbers::any_data_disks(width) {
+            for lost in numbers::any_disks(width, disks) {
+                same_plan(group, width, disks, lost);
+            }
         }
     }
 }
 
-fn same_plan(group: &mut Group, width: usize, disk: usize) -> Plan {
-    let got = plan_disk(width, disk);
-    let expected = model::plan_disk(width, disk);
-    group.same(|| format!("plan_disk({width}, {disk})"), expected, got);
+fn same_plan(group: &mut Group, width: usize, disks: usize, lost: usize) -> Plan {
+    let got = plan_disk(width, disks, lost);
+    let expected = model::plan_disk(width, disks, lost);
+    group.same(|| format!("plan_disk({width}, {disks}, {lost})"), expected, got);
     got
 }
 
 /// One accepted plan, with what its fields must be to one another.
-fn accepted(group: &mut Group, p: usize, disk: usize) {
-    let plan = same_plan(group, p, disk);
-    let say = |what: &str| format!("plan_disk({p}, {disk}), {what}");
+fn accepted(group: &mut Group, p: usize, k: usize, lost: usize) {
+    let plan = same_plan(group, p, k, lost);
+    let say = |what: &str| format!("plan_disk({p}, {k}, {lost}), {what}");
     group.same(|| say("answer"), ACCEPTED, plan.answer);
-    group.same(|| say("reads by formula"), formula(p, disk), plan.reads);
+    if let Some(reads) = formula(p, k, lost) {
+        group.same(|| say("reads by formula"), reads, plan.reads);
+    }
     group.same(|| say("routes"), routes(p, &plan), plan.routes);
-    let judged = judge_plan(p, disk, &plan.steps.bytes(p));
+    let judged = judge_plan(p, k, lost, &plan.steps.bytes(p));
     let expected = Judged { answer: ACCEPTED, reads: plan.reads };
-    group.same(|| format!("judge_plan({p}, {disk}, the planner's record)"), expected, judged);
+    group.same(|| format!("judge_plan({p}, {k}, {lost}, the planner's record)"), expected, judged);
 }
 
-/// The read count of our plan.
-fn formula(p: usize, disk: usize) -> u32 {
-    let reads = if disk < p { (3 * p * p + 1) / 4 } else { p * p };
-    reads as u32
+/// The read count of our plan where the papers give it.
+fn formula(p: usize, k: usize, lost: usize) -> Option<u32> {
+    if lost >= k {
+        return Some((k * p) as u32);
+    }
+    (k == p).then_some((3 * p * p + 1) as u32 / 4)
 }
 
 /// The route word that the steps of a record make.

@@ -1,4 +1,5 @@
-//! What accepted plans cost: the price formula, that none is below ours, and that the order of the steps does not matter.
+//! What accepted plans cost where there are as many data disks as rows: the price formula, that none is below ours, and
+//! that the order of the steps does not matter.
 //! The counts are those the library's judge gives.
 
 use super::model::terms;
@@ -24,7 +25,7 @@ struct Costs {
 pub fn run(setting: &mut Setting, group: &mut Group) {
     let random = &mut setting.random;
     let mut costs = Costs::default();
-    for loss in Loss::all() {
+    for loss in Loss::full() {
         let ours = our_count(&loss);
         match loss.p {
             3 => every_field(group, &loss, ours, &mut costs),
@@ -45,8 +46,8 @@ pub fn run(setting: &mut Setting, group: &mut Group) {
 
 /// The judge's count for the planner's record.
 fn our_count(loss: &Loss) -> u32 {
-    let plan = plan_disk(loss.p, loss.disk);
-    judge_plan(loss.p, loss.disk, &plan.steps.bytes(loss.p)).reads
+    let plan = plan_disk(loss.p, loss.p, loss.disk);
+    judge_plan(loss.p, loss.p, loss.disk, &plan.steps.bytes(loss.p)).reads
 }
 
 /// All step sequences with fields in range; the accepted ones are priced.
@@ -57,7 +58,7 @@ fn every_field(group: &mut Group, loss: &Loss, ours: u32, costs: &mut Costs) {
         let digit = |place: usize| code / each.pow(place as u32) % each;
         let step = |d: usize| Step { row: d / (2 * p), kind: d / p % 2, number: d % p };
         let steps: Vec<Step> = (0..p).map(|place| step(digit(place))).collect();
-        if judge_plan(p, loss.disk, &bytes_of(&steps)).answer == ACCEPTED {
+        if judge_plan(p, p, loss.disk, &bytes_of(&steps)).answer == ACCEPTED {
             priced(group, loss, &steps, ours, costs);
         }
     }
@@ -106,9 +107,9 @@ fn every_choice(group: &mut Group, random: &mut Random, loss: &Loss, ours: u32, 
 fn priced(group: &mut Group, loss: &Loss, steps: &[Step], ours: u32, costs: &mut Costs) {
     let (p, disk) = (loss.p, loss.disk);
     let plan = bytes_of(steps);
-    let judged = judge_plan(p, disk, &plan);
-    let call = |what: &str| format!("judge_plan({p}, {disk}, {plan:?}), {what}");
-    group.same(|| call("answer"), model::judge_plan(p, disk, &plan), judged);
+    let judged = judge_plan(p, p, disk, &plan);
+    let call = |what: &str| format!("judge_plan({p}, {p}, {disk}, {plan:?}), {what}");
+    group.same(|| call("answer"), model::judge_plan(p, p, disk, &plan), judged);
     let count = judged.reads;
     let (t, u, v) = terms(loss, steps);
     let formula = p * p - t * (p - t) + u + v;
@@ -134,11 +135,12 @@ fn rearranged(
     let (p, disk) = (loss.p, loss.disk);
     let mut other = steps.to_vec();
     other.swap(random.below(p), random.below(p));
-    let judge = |steps: &[Step]| judge_plan(p, disk, &bytes_of(steps));
+    let judge = |steps: &[Step]| judge_plan(p, p, disk, &bytes_of(steps));
     let judged = judge(&other);
     if judged.answer == ACCEPTED {
         costs.exchanged += 1;
-        let call = || format!("judge_plan({p}, {disk}, {other:?}), another order of {steps:?}");
+        let call =
+            || format!("judge_plan({p}, {p}, {disk}, {other:?}), another order of {steps:?}");
         group.same(call, judge(steps).reads, judged.reads);
     }
 }

@@ -12,15 +12,15 @@ pub fn terms(loss: &Loss, steps: &[Step]) -> (usize, usize, usize) {
     used.sort();
     used.dedup();
     let diagonals: Vec<usize> = used.iter().filter(|s| s.0 == 1).map(|s| s.1).collect();
-    let lone = |i: &&usize| match extra_cell(p, **i) {
+    let lone = |i: &&usize| match extra_cell(p, p, **i) {
         Some(cell) if cell.1 != disk => {
             let others = used.iter().filter(|set| **set != (1, **i));
-            others.filter(|set| set_cells(p, set.0, set.1).contains(&cell)).count() == 0
+            others.filter(|set| set_cells(p, p, set.0, set.1).contains(&cell)).count() == 0
         }
         _ => false,
     };
     let through_extra = |step: &Step| {
-        let extra = extra_cell(p, step.number);
+        let extra = extra_cell(p, p, step.number);
         step.kind == 1 && extra == Some((step.row, disk))
     };
     let u = diagonals.iter().filter(lone).count();

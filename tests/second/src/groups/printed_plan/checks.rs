@@ -76,7 +76,7 @@ fn every_disk(group: &mut Group, program: &Path) {
             let shown = run_program(program, &[&input]);
             compare(group, &input, &printed(&input), &shown);
             let call = || format!("plan program, values {p},{lost}, sum of new");
-            let reads = plan_disk(p, lost).reads;
+            let reads = plan_disk(p, p, lost).reads;
             group.same(call, Some(reads), sum_of_new(&shown.text));
         }
     }

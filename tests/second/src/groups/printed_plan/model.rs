@@ -1,4 +1,4 @@
-//! The printed plan in the second implementation.
+//! The printed plan in the second implementation: as many data disks as rows.
 
 use std::collections::HashSet;
 
@@ -9,7 +9,7 @@ use crate::harness::model::{cells_read, our_steps, refuse};
 pub fn printed(input: &[u8]) -> Vec<u8> {
     let text = match values(input) {
         None => "refused,12\n".to_string(),
-        Some((p, lost)) => match refuse(p).disk(lost).answer() {
+        Some((p, lost)) => match refuse(p, p).disk(lost).answer() {
             ACCEPTED => printed_steps(p, lost),
             answer => format!("refused,{}\n", answer.refusal),
         },
@@ -41,9 +41,9 @@ fn decimal(field: &[u8]) -> Option<usize> {
 fn printed_steps(p: usize, lost: usize) -> String {
     let mut text = String::from("step,row,set,number,new\n");
     let mut read = HashSet::new();
-    for (place, step) in our_steps(p, lost).iter().enumerate() {
+    for (place, step) in our_steps(p, p, lost).iter().enumerate() {
         let before = read.len();
-        read.extend(cells_read(p, lost, std::slice::from_ref(step)));
+        read.extend(cells_read(p, p, lost, std::slice::from_ref(step)));
         let new = read.len() - before;
         let letter = ["R", "D"][step.kind];
         text += &format!("{place},{},{letter},{},{new}\n", step.row, step.number);

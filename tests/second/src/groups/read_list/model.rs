@@ -4,11 +4,12 @@ use crate::harness::answer::{Answer, ACCEPTED};
 use crate::harness::model::{cells_read, our_steps, refuse};
 
 /// The read list's call.
-pub fn read_list(width: usize, disk: usize, list: &mut [u8]) -> Answer {
-    let answer = refuse(width).disk(disk).length(list.len(), |p| p * (p + 2)).answer();
+pub fn read_list(width: usize, disks: usize, lost: usize, list: &mut [u8]) -> Answer {
+    let numbers = refuse(width, disks).disk(lost);
+    let answer = numbers.length(list.len(), |of| of.width * (of.disks + 2)).answer();
     if answer == ACCEPTED {
         list.fill(0);
-        for (i, c) in cells_read(width, disk, &our_steps(width, disk)) {
+        for (i, c) in cells_read(width, disks, lost, &our_steps(width, disks, lost)) {
             list[c * width + i] = 1;
         }
     }

@@ -1,11 +1,11 @@
 //! The library's call that rebuilds two lost disks.
 
 use crate::harness::answer::Answer;
+use crate::harness::Shape;
 
 extern "C" {
     fn cuzhaveli_rebuild_two(
-        width: usize,
-        size: usize,
+        shape: Shape,
         first: usize,
         second: usize,
         stripe: *mut u8,
@@ -14,13 +14,7 @@ extern "C" {
 }
 
 /// Rebuilds two disks of a stripe in place.
-pub fn rebuild_two(
-    width: usize,
-    size: usize,
-    first: usize,
-    second: usize,
-    stripe: &mut [u8],
-) -> Answer {
+pub fn rebuild_two(shape: Shape, first: usize, second: usize, stripe: &mut [u8]) -> Answer {
     let (stripe, stripe_len) = (stripe.as_mut_ptr(), stripe.len());
-    unsafe { cuzhaveli_rebuild_two(width, size, first, second, stripe, stripe_len) }
+    unsafe { cuzhaveli_rebuild_two(shape, first, second, stripe, stripe_len) }
 }

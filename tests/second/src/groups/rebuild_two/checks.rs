@@ -1,152 +1,206 @@
-//! The rebuild of two lost disks: every pair of every width in both orders, and refused calls.
+//! The rebuild of two lost disks: every pair of every array, and refused calls.
 
 use super::calls::rebuild_two;
-use super::model::{self, Numbers};
+use super::model;
 use crate::groups::stripes::model::check_stripe;
 use crate::harness::answer::{ACCEPTED, YES};
 use crate::harness::model::{disk_place, stripe_length, WIDTHS};
 use crate::harness::stripes::clean_stripe;
-use crate::harness::{numbers, small_stack, Group, Lent, Random, Setting};
+use crate::harness::{arrays, numbers, small_stack, Group, Lent, Random, Setting, Shape};
 
-/// Cell sizes for every pair, and for some pairs.
+/// Cell sizes for every pair of a full array, and for some pairs of some arrays.
 const ALL_PAIRS: [usize; 2] = [1, 8];
 const SOME_PAIRS: [usize; 4] = [3, 64, 511, 4_096];
+const PART_PAIRS: [usize; 2] = [3, 64];
+
+/// Two lost disks.
+type Pair = (usize, usize);
 
 pub fn run(setting: &mut Setting, group: &mut Group) {
     let random = &mut setting.random;
     for p in WIDTHS {
         for s in ALL_PAIRS {
-            for first in 0..p + 2 {
-                for second in (0..p + 2).filter(|second| *second != first) {
-                    exact(group, random, (p, s, first, second));
-                    any_survivors(group, random, (p, s, first, second));
-                    extreme_survivors(group, random, (p, s, first, second));
-                }
-            }
+            full_pairs(group, random, Shape::full(p, s));
         }
-        for s in SOME_PAIRS {
-            some_pairs(group, random, p, s);
-            refused_lengths(group, random, p, s);
+    }
+    for (p, k) in arrays::every() {
+        part_pairs(group, random, Shape::new(p, k, 1));
+    }
+    for (p, k) in arrays::some() {
+        let sizes: &[usize] = if k == p { &SOME_PAIRS } else { &PART_PAIRS };
+        for &s in sizes {
+            some_pairs(group, random, Shape::new(p, k, s));
+            refused_lengths(group, random, Shape::new(p, k, s));
         }
-        refused_disks(group, random, p);
+        refused_disks(group, random, p, k);
     }
     refused_numbers(group, random);
     little_stack(group, random);
 }
 
-fn some_pairs(group: &mut Group, random: &mut Random, p: usize, s: usize) {
-    let pairs = [(0, 1), (p - 1, 0), (p, p + 1), (p + 1, p), (0, p), (p + 1, 1), (p - 2, p - 1)];
-    for (first, second) in pairs {
-        exact(group, random, (p, s, first, second));
-        any_survivors(group, random, (p, s, first, second));
+// Accepted calls.
+
+/// Every pair in both orders.
+fn full_pairs(group: &mut Group, random: &mut Random, shape: Shape) {
+    for first in shape.all_disks() {
+        for second in shape.all_disks().filter(|second| *second != first) {
+            exact(group, random, shape, (first, second));
+            any_survivors(group, random, shape, (first, second));
+            extreme_survivors(group, random, shape, (first, second));
+        }
     }
-    let first = random.below(p);
-    let second = (first + 1 + random.below(p - 1)) % p;
-    exact(group, random, (p, s, first, second));
+}
+
+/// Every pair of fewer data disks than rows, in one of its orders.
+fn part_pairs(group: &mut Group, random: &mut Random, shape: Shape) {
+    if shape.disks == shape.width {
+        return;
+    }
+    for first in shape.all_disks() {
+        for second in 0..first {
+            let pair = if random.once_in(2) { (first, second) } else { (second, first) };
+            any_survivors(group, random, shape, pair);
+        }
+    }
+}
+
+fn some_pairs(group: &mut Group, random: &mut Random, shape: Shape) {
+    let k = shape.disks;
+    let pairs = [(0, 1), (k - 1, 0), (k, k + 1), (k + 1, k), (0, k), (k + 1, 1), (k - 2, k - 1)];
+    for pair in pairs {
+        exact(group, random, shape, pair);
+        any_survivors(group, random, shape, pair);
+    }
+    let first = random.below(k);
+    let second = (first + 1 + random.below(k - 1)) % k;
+    exact(group, random, shape, (first, second));
 }
 
 /// Both columns of a clean stripe are scrambled and come back, and nothing else changes.
-fn exact(group: &mut Group, random: &mut Random, (p, s, first, second): Numbers) {
-    let mut stripe = clean_stripe(random, p, s);
+fn exact(group: &mut Group, random: &mut Random, shape: Shape, (first, second): Pair) {
+    let mut stripe = clean_stripe(random, shape);
     let before = stripe.clone();
-    random.fill(&mut stripe.part()[disk_place(p, s, first)]);
-    random.fill(&mut stripe.part()[disk_place(p, s, second)]);
-    let got = rebuild_two(p, s, first, second, stripe.part());
-    let call = || format!("rebuild_two({p}, {s}, {first}, {second}, clean)");
+    random.fill(&mut stripe.part()[disk_place(shape, first)]);
+    random.fill(&mut stripe.part()[disk_place(shape, second)]);
+    let got = rebuild_two(shape, first, second, stripe.part());
+    let call = || format!("rebuild_two({shape:?}, {first}, {second}, clean)");
     group.same(call, ACCEPTED, got);
     group.same_bytes(|| format!("{}, memory", call()), before.whole(), stripe.whole());
 }
 
 /// Any contents of the other disks: the result is clean, and the other disks are as they were.
-fn any_survivors(group: &mut Group, random: &mut Random, numbers: Numbers) {
-    let (p, s, _, _) = numbers;
-    let stripe = Lent::noise(stripe_length(p, s), random);
-    made_clean(group, numbers, stripe);
+fn any_survivors(group: &mut Group, random: &mut Random, shape: Shape, pair: Pair) {
+    let mut stripe = Lent::noise(stripe_length(shape), random);
+    made_clean(group, shape, pair, &mut stripe);
 }
 
 /// Survivors that are all zeros or all ones, and ones with a single bit set; the lost disks hold the opposite.
-fn extreme_survivors(group: &mut Group, random: &mut Random, numbers: Numbers) {
-    let (p, s, first, second) = numbers;
+fn extreme_survivors(group: &mut Group, random: &mut Random, shape: Shape, pair: Pair) {
     for (byte, single) in [(0x00, false), (0xFF, false), (0x00, true)] {
-        let mut stripe = Lent::of(&vec![byte; stripe_length(p, s)], random);
+        let mut stripe = Lent::of(&vec![byte; stripe_length(shape)], random);
         if single {
-            let place = random.below(stripe_length(p, s));
+            let place = random.below(stripe_length(shape));
             stripe.part()[place] ^= 1 << random.below(8);
         }
-        for disk in [first, second] {
-            stripe.part()[disk_place(p, s, disk)].fill(!byte);
+        for disk in [pair.0, pair.1] {
+            stripe.part()[disk_place(shape, disk)].fill(!byte);
         }
-        made_clean(group, numbers, stripe);
+        made_clean(group, shape, pair, &mut stripe);
     }
 }
 
 /// The call makes the stripe clean and leaves the other disks as they were.
-fn made_clean(group: &mut Group, (p, s, first, second): Numbers, mut stripe: Lent) {
+fn made_clean(group: &mut Group, shape: Shape, (first, second): Pair, stripe: &mut Lent) {
     let mut before = stripe.clone();
-    let got = rebuild_two(p, s, first, second, stripe.part());
-    let call = || format!("rebuild_two({p}, {s}, {first}, {second}, any survivors)");
+    let got = rebuild_two(shape, first, second, stripe.part());
+    let call = || format!("rebuild_two({shape:?}, {first}, {second}, any survivors)");
     group.same(call, ACCEPTED, got);
-    group.same(|| format!("{}, clean", call()), YES, check_stripe(p, s, stripe.part()).clean);
+    group.same(|| format!("{}, clean", call()), YES, check_stripe(shape, stripe.part()).clean);
     for disk in [first, second] {
-        let place = disk_place(p, s, disk);
+        let place = disk_place(shape, disk);
         let column = stripe.part()[place.clone()].to_vec();
         before.part()[place].copy_from_slice(&column);
     }
     group.same_bytes(|| format!("{}, other disks", call()), before.whole(), stripe.whole());
 }
 
+// Refused calls.
+
+/// A call on random bytes, if it is refused.
+fn refused(group: &mut Group, random: &mut Random, shape: Shape, pair: Pair, length: usize) {
+    refused_on(group, shape, pair, &mut Lent::noise(length, random));
+}
+
 /// A refused call gives its number and changes nothing.
-fn refused(group: &mut Group, random: &mut Random, numbers: Numbers, length: usize) {
-    let expected = model::rebuild_two(numbers, length);
+fn refused_on(group: &mut Group, shape: Shape, (first, second): Pair, stripe: &mut Lent) {
+    let length = stripe.part().len();
+    let expected = model::rebuild_two(shape, first, second, length);
     if expected == ACCEPTED {
         return;
     }
-    let mut stripe = Lent::noise(length, random);
     let before = stripe.clone();
-    let (width, size, first, second) = numbers;
-    let got = rebuild_two(width, size, first, second, stripe.part());
-    let call = || format!("rebuild_two({width}, {size}, {first}, {second}), length {length}");
+    let got = rebuild_two(shape, first, second, stripe.part());
+    let call = || format!("rebuild_two({shape:?}, {first}, {second}), length {length}");
     group.same(call, expected, got);
     group.same_bytes(|| format!("{}, memory", call()), before.whole(), stripe.whole());
 }
 
-fn refused_lengths(group: &mut Group, random: &mut Random, p: usize, s: usize) {
-    let right = stripe_length(p, s);
-    for length in [0, 1, p * s, right - 1, right + 1, 2 * right] {
-        refused(group, random, (p, s, 0, p), length);
-        refused(group, random, (p, s, 3, 3), length);
+fn refused_lengths(group: &mut Group, random: &mut Random, shape: Shape) {
+    let right = stripe_length(shape);
+    let column = shape.width * shape.cell_size;
+    let full = stripe_length(Shape::full(shape.width, shape.cell_size));
+    for length in [0, 1, column, right - column, right - 1, right + 1, 2 * right, full] {
+        refused(group, random, shape, (0, shape.disks), length);
+        refused(group, random, shape, (3, 3), length);
     }
 }
 
-fn refused_disks(group: &mut Group, random: &mut Random, p: usize) {
-    for s in [1, 0, 4_097] {
-        for first in [0, p, p + 1, p + 2, p + 3, 1 << 32, usize::MAX] {
-            for second in [0, p, p + 1, p + 2, p + 3, 1 << 32, usize::MAX] {
-                for length in [stripe_length(p, s), stripe_length(p, s) + 1] {
-                    refused(group, random, (p, s, first, second), length);
+fn refused_disks(group: &mut Group, random: &mut Random, p: usize, k: usize) {
+    let disks = [0, k, k + 1, k + 2, k + 3, p + 1, 1 << 32, usize::MAX];
+    let sizes: &[usize] = if k == p || p <= 7 { &[1, 0, 4_097] } else { &[1, 0] };
+    for &s in sizes {
+        let shape = Shape::new(p, k, s);
+        for length in [stripe_length(shape), stripe_length(shape) + 1] {
+            let mut stripe = Lent::noise(length, random);
+            for first in disks {
+                for second in disks {
+                    refused_on(group, shape, (first, second), &mut stripe);
                 }
             }
         }
     }
 }
 
+/// Widths with sizes, and widths with data disks, each good or bad, with pairs and lengths that are so too.
 fn refused_numbers(group: &mut Group, random: &mut Random) {
+    let mut shapes = numbers::any_shapes();
     for width in numbers::any_widths() {
-        for size in [1, 0, 4_097, usize::MAX] {
-            for (first, second) in [(0, 1), (1, 1), (width, width)] {
-                refused(group, random, (width, size, first, second), 35);
+        shapes.extend([1, 0, 4_097, usize::MAX].map(|size| Shape::full(width, size)));
+    }
+    for shape in shapes {
+        let k = shape.disks;
+        let right = stripe_length(numbers::cut_shapes(shape)[0]);
+        for pair in [(0, 1), (1, 1), (k, k), (0, k.wrapping_add(1)), (k.wrapping_add(2), 0)] {
+            for length in [35, right, numbers::wrapped_length(shape)] {
+                refused(group, random, shape, pair, length);
             }
         }
     }
 }
 
-/// The widest array on a thread with little stack.
+// Stack.
+
+/// The widest array, and one with fewer disks, on a thread with little stack.
 fn little_stack(group: &mut Group, random: &mut Random) {
-    let (p, s) = (31, 4_096);
-    let mut stripe = clean_stripe(random, p, s);
-    let before = stripe.clone();
-    random.fill(&mut stripe.part()[disk_place(p, s, 7)]);
-    random.fill(&mut stripe.part()[disk_place(p, s, 20)]);
-    small_stack::run(|| rebuild_two(p, s, 7, 20, stripe.part()));
-    group.same_bytes(|| "rebuild_two on a small stack".to_string(), before.whole(), stripe.whole());
+    for (shape, first, second) in
+        [(Shape::full(31, 4_096), 7, 20), (Shape::new(29, 14, 4_096), 13, 4)]
+    {
+        let mut stripe = clean_stripe(random, shape);
+        let before = stripe.clone();
+        random.fill(&mut stripe.part()[disk_place(shape, first)]);
+        random.fill(&mut stripe.part()[disk_place(shape, second)]);
+        small_stack::run(|| rebuild_two(shape, first, second, stripe.part()));
+        let call = || format!("rebuild_two({shape:?}, {first}, {second}) on 64 KiB of stack");
+        group.same_bytes(call, before.whole(), stripe.whole());
+    }
 }

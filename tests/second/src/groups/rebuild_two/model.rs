@@ -4,12 +4,10 @@
 //! stripe, so a clean result with the other disks as they were is the right one.
 
 use crate::harness::answer::Answer;
-use crate::harness::model::refuse;
-
-/// Width, cell size and the two lost disks.
-pub type Numbers = (usize, usize, usize, usize);
+use crate::harness::model::refuse_shape;
+use crate::harness::Shape;
 
 /// The answer of the call on a stripe of that length.
-pub fn rebuild_two((width, size, first, second): Numbers, length: usize) -> Answer {
-    refuse(width).size(size).two_disks(first, second).stripe(length).answer()
+pub fn rebuild_two(shape: Shape, first: usize, second: usize, length: usize) -> Answer {
+    refuse_shape(shape).two_disks(first, second).stripe(length).answer()
 }

@@ -1,11 +1,22 @@
 //! The library's calls on rebuild runs.
 
 use crate::harness::answer::{Answer, Yes};
+use crate::harness::Shape;
 
 /// A run's record.
 #[repr(C)]
 #[derive(Clone, Copy, Debug, Default, PartialEq)]
 pub struct Run {
+    pub shape: Shape,
+    pub lost: usize,
+    pub stripes: u32,
+    pub next: u32,
+}
+
+/// The record of document 01, of a run that was open before records had data disks.
+#[repr(C)]
+#[derive(Clone, Copy, Debug, Default, PartialEq)]
+pub struct FullRun {
     pub width: usize,
     pub size: usize,
     pub disk: usize,
@@ -30,7 +41,7 @@ pub struct Progress {
 }
 
 extern "C" {
-    fn cuzhaveli_open_run(width: usize, size: usize, disk: usize, stripes: u32) -> Opened;
+    fn cuzhaveli_open_run(shape: Shape, lost: usize, stripes: u32) -> Opened;
     fn cuzhaveli_step_run(
         run: *mut Run,
         which: u64,
@@ -40,11 +51,12 @@ extern "C" {
         column_len: usize,
     ) -> Answer;
     fn cuzhaveli_run_progress(run: *const Run) -> Progress;
+    fn cuzhaveli_resume_full_run(old: FullRun) -> Run;
 }
 
 /// Opens a run.
-pub fn open_run(width: usize, size: usize, disk: usize, stripes: u32) -> Opened {
-    unsafe { cuzhaveli_open_run(width, size, disk, stripes) }
+pub fn open_run(shape: Shape, lost: usize, stripes: u32) -> Opened {
+    unsafe { cuzhaveli_open_run(shape, lost, stripes) }
 }
 
 /// A step over a lent record.
@@ -57,4 +69,9 @@ pub fn step_run(run: &mut Run, which: u64, stripe: &[u8], column: &mut [u8]) -> 
 /// How far a run is.
 pub fn run_progress(run: &Run) -> Progress {
     unsafe { cuzhaveli_run_progress(run) }
+}
+
+/// The record that an old one becomes.
+pub fn resume_full_run(old: FullRun) -> Run {
+    unsafe { cuzhaveli_resume_full_run(old) }
 }

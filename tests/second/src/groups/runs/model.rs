@@ -1,20 +1,21 @@
 //! Rebuild runs in the second implementation.
 
-use super::calls::{Opened, Progress, Run};
+use super::calls::{FullRun, Opened, Progress, Run};
 use crate::groups::{plan, rebuild_one};
 use crate::harness::answer::{yes, Answer, ACCEPTED};
-use crate::harness::model::refuse;
+use crate::harness::model::refuse_shape;
+use crate::harness::Shape;
 
 /// The refusals of a record's numbers.
-fn refuse_numbers(width: usize, size: usize, disk: usize) -> Answer {
-    refuse(width).size(size).disk(disk).answer()
+fn refuse_numbers(shape: Shape, lost: usize) -> Answer {
+    refuse_shape(shape).disk(lost).answer()
 }
 
 /// The call that opens a run; a refusal gives a record of zeros.
-pub fn open_run(width: usize, size: usize, disk: usize, stripes: u32) -> Opened {
-    let answer = refuse_numbers(width, size, disk);
+pub fn open_run(shape: Shape, lost: usize, stripes: u32) -> Opened {
+    let answer = refuse_numbers(shape, lost);
     let run = match answer {
-        ACCEPTED => Run { width, size, disk, stripes, next: 0 },
+        ACCEPTED => Run { shape, lost, stripes, next: 0 },
         _ => Run::default(),
     };
     Opened { answer, run }
@@ -23,8 +24,7 @@ pub fn open_run(width: usize, size: usize, disk: usize, stripes: u32) -> Opened 
 /// A step: the rebuild's own refusals come before 10, and only an accepted step writes.
 pub fn step_run(run: &mut Run, which: u64, stripe: &[u8], column: &mut [u8]) -> Answer {
     let mut rebuilt = column.to_vec();
-    let rebuild = rebuild_one::model::rebuild_one;
-    let answer = rebuild(run.width, run.size, run.disk, stripe, &mut rebuilt);
+    let answer = rebuild_one::model::rebuild_one(run.shape, run.lost, stripe, &mut rebuilt);
     if answer != ACCEPTED {
         return answer;
     }
@@ -38,11 +38,17 @@ pub fn step_run(run: &mut Run, which: u64, stripe: &[u8], column: &mut [u8]) -> 
 
 /// The call that reads a record.
 pub fn run_progress(run: &Run) -> Progress {
-    let answer = refuse_numbers(run.width, run.size, run.disk);
+    let answer = refuse_numbers(run.shape, run.lost);
     if answer != ACCEPTED {
         return Progress { answer, ..Progress::default() };
     }
-    let reads = plan::model::plan_disk(run.width, run.disk).reads;
+    let reads = plan::model::plan_disk(run.shape.width, run.shape.disks, run.lost).reads;
     let cells = u64::from(run.next) * u64::from(reads);
     Progress { answer, over: yes(run.next == run.stripes), cells }
+}
+
+/// The call that takes over an old record: as many data disks as rows, the rest as it was.
+pub fn resume_full_run(old: FullRun) -> Run {
+    let shape = Shape { width: old.width, disks: old.width, cell_size: old.size };
+    Run { shape, lost: old.disk, stripes: old.stripes, next: old.next }
 }

@@ -1,6 +1,7 @@
 //! The library's call that reckons the space of a package.
 
 use crate::harness::answer::{Answer, Yes};
+use crate::harness::Shape;
 
 #[repr(C)]
 #[derive(Clone, Copy, Debug, Default, PartialEq)]
@@ -13,10 +14,10 @@ pub struct Space {
 }
 
 extern "C" {
-    fn cuzhaveli_package_space(width: usize, size: usize, bytes: u64, free: u64) -> Space;
+    fn cuzhaveli_package_space(shape: Shape, bytes: u64, free: u64) -> Space;
 }
 
 /// The space of a package, and whether it fits.
-pub fn package_space(width: usize, size: usize, bytes: u64, free: u64) -> Space {
-    unsafe { cuzhaveli_package_space(width, size, bytes, free) }
+pub fn package_space(shape: Shape, bytes: u64, free: u64) -> Space {
+    unsafe { cuzhaveli_package_space(shape, bytes, free) }
 }

@@ -6,19 +6,21 @@ use crate::groups::rebuild_two::calls::rebuild_two;
 use crate::groups::stripes;
 use crate::groups::stripes::calls::{check_stripe, encode_stripe, Checked};
 use crate::harness::answer::{Answer, ACCEPTED, NO, YES};
-use crate::harness::model::disk_place;
-use crate::harness::{Group, Lent, Random, Setting};
+use crate::harness::model::{column_length, disk_place};
+use crate::harness::{Group, Lent, Random, Setting, Shape};
 
-/// The widths that the file must hold, encoded and decoded.
-const WIDTHS: [usize; 6] = [3, 5, 7, 11, 17, 31];
+/// The arrays, width and data disks, that the file must hold, encoded and decoded.
+const ARRAYS: [(usize, usize); 6] = [(3, 3), (5, 5), (7, 7), (11, 11), (17, 17), (31, 31)];
 
 pub fn run(setting: &mut Setting, group: &mut Group) {
     let random = &mut setting.random;
     let vectors = vectors();
-    for p in WIDTHS {
+    for array in ARRAYS {
         for decoded in [false, true] {
-            let holds = |vector: &Vector| vector.p == p && vector.lost.is_some() == decoded;
-            let call = || format!("jerasure.txt holds width {p}, decoded: {decoded}");
+            let array_of = |vector: &Vector| (vector.shape.width, vector.shape.disks);
+            let holds =
+                |vector: &Vector| array_of(vector) == array && vector.lost.is_some() == decoded;
+            let call = || format!("jerasure.txt holds p, k = {array:?}, decoded: {decoded}");
             group.same(call, true, vectors.iter().any(holds));
         }
     }
@@ -31,7 +33,7 @@ pub fn run(setting: &mut Setting, group: &mut Group) {
         }
         encoded(group, random, vector);
         checked(group, random, vector);
-        for disk in 0..vector.p + 2 {
+        for disk in vector.shape.all_disks() {
             rebuilt(group, random, vector, disk);
         }
     }
@@ -39,9 +41,9 @@ pub fn run(setting: &mut Setting, group: &mut Group) {
 
 // Calls, each the library's and the model's.
 
-type Encode = fn(usize, usize, &mut [u8]) -> Answer;
-type Check = fn(usize, usize, &[u8]) -> Checked;
-type Rebuild = fn(usize, usize, usize, &[u8], &mut [u8]) -> Answer;
+type Encode = fn(Shape, &mut [u8]) -> Answer;
+type Check = fn(Shape, &[u8]) -> Checked;
+type Rebuild = fn(Shape, usize, &[u8], &mut [u8]) -> Answer;
 
 const ENCODES: [(&str, Encode); 2] =
     [("encode_stripe", encode_stripe), ("the model's encode", stripes::model::encode_stripe)];
@@ -52,29 +54,29 @@ const REBUILDS: [(&str, Rebuild); 2] =
 
 /// The data with random bytes for P and Q becomes Jerasure's stripe.
 fn encoded(group: &mut Group, random: &mut Random, vector: &Vector) {
-    let (p, s) = (vector.p, vector.s);
+    let shape = vector.shape;
     for (name, call) in ENCODES {
         let mut lent = Lent::of(&vector.stripe, random);
-        random.fill(&mut lent.part()[p * p * s..]);
-        group.same(|| vector.name(name), ACCEPTED, call(p, s, lent.part()));
+        random.fill(&mut lent.part()[shape.data_length()..]);
+        group.same(|| vector.name(name), ACCEPTED, call(shape, lent.part()));
         group.same_bytes(|| vector.name(name), &vector.stripe, lent.part());
     }
 }
 
 /// Jerasure's stripe is clean, and isn't with a bit flipped in any disk.
 fn checked(group: &mut Group, random: &mut Random, vector: &Vector) {
-    let (p, s) = (vector.p, vector.s);
+    let shape = vector.shape;
     for (name, call) in CHECKS {
         let mut lent = Lent::of(&vector.stripe, random);
         let clean = Checked { answer: ACCEPTED, clean: YES };
-        group.same(|| vector.name(name), clean, call(p, s, lent.part()));
-        for disk in 0..p + 2 {
-            let place = disk_place(p, s, disk).start + random.below(p * s);
+        group.same(|| vector.name(name), clean, call(shape, lent.part()));
+        for disk in shape.all_disks() {
+            let place = disk_place(shape, disk).start + random.below(column_length(shape));
             let bit = 1 << random.below(8);
             lent.part()[place] ^= bit;
             let dirty = Checked { clean: NO, ..clean };
             let say = || format!("{}, bits {bit:#x} of byte {place} flipped", vector.name(name));
-            group.same(say, dirty, call(p, s, lent.part()));
+            group.same(say, dirty, call(shape, lent.part()));
             lent.part()[place] ^= bit;
         }
     }
@@ -82,13 +84,13 @@ fn checked(group: &mut Group, random: &mut Random, vector: &Vector) {
 
 /// A lost disk comes back from Jerasure's stripe.
 fn rebuilt(group: &mut Group, random: &mut Random, vector: &Vector, disk: usize) {
-    let (p, s) = (vector.p, vector.s);
-    let place = disk_place(p, s, disk);
+    let shape = vector.shape;
+    let place = disk_place(shape, disk);
     for (name, call) in REBUILDS {
         let mut stripe = Lent::of(&vector.stripe, random);
         random.fill(&mut stripe.part()[place.clone()]);
-        let mut column = Lent::noise(p * s, random);
-        let got = call(p, s, disk, stripe.part(), column.part());
+        let mut column = Lent::noise(column_length(shape), random);
+        let got = call(shape, disk, stripe.part(), column.part());
         let say = || format!("{}, disk {disk}", vector.name(name));
         group.same(say, ACCEPTED, got);
         group.same_bytes(say, &vector.stripe[place.clone()], column.part());
@@ -97,11 +99,11 @@ fn rebuilt(group: &mut Group, random: &mut Random, vector: &Vector, disk: usize)
 
 /// Two lost disks become what Jerasure decoded, whatever they held.
 fn decoded(group: &mut Group, random: &mut Random, vector: &Vector, (a, b): (usize, usize)) {
-    let (p, s) = (vector.p, vector.s);
+    let shape = vector.shape;
     let mut stripe = Lent::of(&vector.stripe, random);
-    random.fill(&mut stripe.part()[disk_place(p, s, a)]);
-    random.fill(&mut stripe.part()[disk_place(p, s, b)]);
+    random.fill(&mut stripe.part()[disk_place(shape, a)]);
+    random.fill(&mut stripe.part()[disk_place(shape, b)]);
     let say = || format!("{}, disks {a} and {b}", vector.name("rebuild_two"));
-    group.same(say, ACCEPTED, rebuild_two(p, s, a, b, stripe.part()));
+    group.same(say, ACCEPTED, rebuild_two(shape, a, b, stripe.part()));
     group.same_bytes(say, &vector.stripe, stripe.part());
 }

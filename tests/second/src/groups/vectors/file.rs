@@ -1,21 +1,21 @@
 //! The stripes that Jerasure encoded or decoded, read from their file.
 
 use crate::harness::model::stripe_length;
+use crate::harness::Shape;
 
 /// tests/vectors/make_vectors.c wrote it and tells its form.
 const TEXT: &str = include_str!("../../../../vectors/jerasure.txt");
 
 /// A stripe as Jerasure encoded it, or decoded the two lost disks of it.
 pub struct Vector {
-    pub p: usize,
-    pub s: usize,
+    pub shape: Shape,
     pub lost: Option<[usize; 2]>,
     pub stripe: Vec<u8>,
 }
 
 impl Vector {
     pub fn name(&self, call: &str) -> String {
-        format!("{call} with Jerasure's stripe of p = {}, s = {}", self.p, self.s)
+        format!("{call} with Jerasure's stripe of {:?}", self.shape)
     }
 }
 
@@ -26,14 +26,14 @@ pub fn vectors() -> Vec<Vector> {
     while let Some(line) = lines.next() {
         let numbers: Vec<usize> =
             line.split(' ').map(|word| word.parse().expect("a number")).collect();
-        let (p, s, lost) = match numbers[..] {
-            [p, s] => (p, s, None),
-            [p, s, a, b] => (p, s, Some([a, b])),
-            _ => panic!("a line `p s` or `p s a b`"),
+        let (shape, lost) = match numbers[..] {
+            [p, k, s] => (Shape::new(p, k, s), None),
+            [p, k, s, a, b] => (Shape::new(p, k, s), Some([a, b])),
+            _ => panic!("a line `p k s` or `p k s a b`"),
         };
-        let stripe: Vec<u8> = lines.by_ref().take(p + 2).flat_map(bytes_of).collect();
-        assert_eq!(stripe.len(), stripe_length(p, s), "a stripe's length");
-        vectors.push(Vector { p, s, lost, stripe });
+        let stripe: Vec<u8> = lines.by_ref().take(shape.disks + 2).flat_map(bytes_of).collect();
+        assert_eq!(stripe.len(), stripe_length(shape), "a stripe's length");
+        vectors.push(Vector { shape, lost, stripe });
     }
     vectors
 }

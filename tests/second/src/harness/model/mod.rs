@@ -1,5 +1,5 @@
-//! The core of the second implementation, written from document 01 alone: sets are explicit
-//! lists of cells, and everything else is counted on them.
+//! The core of the second implementation, written from documents 01 and 02 alone: sets are
+//! explicit lists of cells, and everything else is counted on them.
 
 mod our_plan;
 mod refusals;
@@ -8,7 +8,7 @@ mod steps;
 mod stripe;
 
 pub use our_plan::our_steps;
-pub use refusals::{refuse, WIDTHS};
+pub use refusals::{refuse, refuse_shape, WIDTHS};
 pub use sets::{diagonal_set, extra_cell, row_set, set_cells, Cell};
 pub use steps::{bytes_of, cells_read, lost_rows, steps_of, Step};
 pub use stripe::{add, cell_place, column_length, disk_place, encode, stripe_length, sum_of};

@@ -37,11 +37,11 @@ fn data_disk_steps(p: usize, f: usize) -> Vec<Step> {
     by_row.chain(by_diagonal).collect()
 }
 
-/// The steps of our plan for any disk.
-pub fn our_steps(p: usize, disk: usize) -> Vec<Step> {
-    if disk < p {
+/// The steps of our plan for any disk; those of a data disk do not depend on k.
+pub fn our_steps(p: usize, k: usize, disk: usize) -> Vec<Step> {
+    if disk < k {
         return data_disk_steps(p, disk);
     }
-    let kind = disk - p;
+    let kind = disk - k;
     (0..p).map(|i| Step { row: i, kind, number: i }).collect()
 }

@@ -13,14 +13,14 @@ pub struct Step {
 }
 
 /// The rows of the lost disk that a set holds.
-pub fn lost_rows(p: usize, disk: usize, kind: usize, number: usize) -> Vec<usize> {
-    let cells = set_cells(p, kind, number);
+pub fn lost_rows(p: usize, k: usize, disk: usize, kind: usize, number: usize) -> Vec<usize> {
+    let cells = set_cells(p, k, kind, number);
     cells.iter().filter(|cell| cell.1 == disk).map(|cell| cell.0).collect()
 }
 
 /// The different surviving cells in the sets used.
-pub fn cells_read(p: usize, disk: usize, steps: &[Step]) -> HashSet<Cell> {
-    let used = steps.iter().flat_map(|step| set_cells(p, step.kind, step.number));
+pub fn cells_read(p: usize, k: usize, disk: usize, steps: &[Step]) -> HashSet<Cell> {
+    let used = steps.iter().flat_map(|step| set_cells(p, k, step.kind, step.number));
     used.filter(|cell| cell.1 != disk).collect()
 }
 

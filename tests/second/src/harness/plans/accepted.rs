@@ -42,7 +42,7 @@ impl Loss {
 
     /// The choices of our plan.
     fn ours(&self) -> Vec<Choice> {
-        let steps = our_steps(self.p, self.disk);
+        let steps = our_steps(self.p, self.k, self.disk);
         steps.iter().map(|step| self.choice_of(step)).collect()
     }
 

@@ -1,5 +1,6 @@
 //! A lost disk and the steps that could rebuild each of its rows.
 
+use crate::harness::arrays;
 use crate::harness::model::{extra_cell, lost_rows, Step, WIDTHS};
 
 /// A step that could rebuild its row, and the rows that must stand before it.
@@ -11,34 +12,54 @@ pub struct Choice {
     pub extra: bool,
 }
 
-/// One lost disk of one width, with every choice of each row.
+/// One lost disk of one array, with every choice of each row.
 pub struct Loss {
     pub p: usize,
+    pub k: usize,
     pub disk: usize,
     pub choices: Vec<Vec<Choice>>,
 }
 
 impl Loss {
-    pub fn new(p: usize, disk: usize) -> Loss {
+    pub fn new(p: usize, k: usize, disk: usize) -> Loss {
         let mut choices = vec![Vec::new(); p];
         for kind in 0..2 {
             for number in 0..p {
-                let lost = lost_rows(p, disk, kind, number);
+                let lost = lost_rows(p, k, disk, kind, number);
                 for &row in &lost {
                     let needs = lost.iter().copied().filter(|r| *r != row).collect();
-                    let extra = kind == 1 && extra_cell(p, number) == Some((row, disk));
+                    let extra = kind == 1 && extra_cell(p, k, number) == Some((row, disk));
                     let step = Step { row, kind, number };
                     choices[row].push(Choice { step, needs, extra });
                 }
             }
         }
-        Loss { p, disk, choices }
+        Loss { p, k, disk, choices }
     }
 
-    /// Every lost disk of every width.
-    pub fn all() -> Vec<Loss> {
-        let of_width = |&p: &usize| (0..p + 2).map(move |disk| Loss::new(p, disk));
-        WIDTHS.iter().flat_map(of_width).collect()
+    /// Every lost disk of one array.
+    fn of_array((p, k): (usize, usize)) -> Vec<Loss> {
+        (0..k + 2).map(|disk| Loss::new(p, k, disk)).collect()
+    }
+
+    /// Every lost disk of every width with as many data disks as rows.
+    pub fn full() -> Vec<Loss> {
+        WIDTHS.iter().flat_map(|&p| Loss::of_array((p, p))).collect()
+    }
+
+    /// Those of every width with several numbers of data disks; of large arrays that are not full,
+    /// the first disk, the last two data disks, P and Q.
+    pub fn some() -> Vec<Loss> {
+        let kept = |loss: &Loss| {
+            let ends = loss.disk == 0 || loss.disk + 2 >= loss.k;
+            loss.is_full() || loss.p <= 13 || ends
+        };
+        arrays::some().into_iter().flat_map(Loss::of_array).filter(kept).collect()
+    }
+
+    /// There are as many data disks as rows.
+    pub fn is_full(&self) -> bool {
+        self.k == self.p
     }
 
     /// The choice of a row that a step is.
