@@ -3,7 +3,7 @@
 use super::calls::judge_plan;
 use super::model::{self, Numbers};
 use crate::harness::answer::ACCEPTED;
-use crate::harness::model::{bytes_of, Step};
+use crate::harness::model::{bytes_of, full_disk, Step};
 use crate::harness::plans::{damaged, Loss};
 use crate::harness::{numbers, Group, Lent, Random, Setting};
 
@@ -49,6 +49,14 @@ fn same_word(
     seen[got.answer.refusal as usize] += 1;
 }
 
+/// The full array's answer on the same plan is the same; only the reads may differ.
+fn same_as_full(group: &mut Group, (p, k, lost): Numbers, plan: &[u8]) {
+    let full = judge_plan(p, p, full_disk(p, k, lost), plan).answer;
+    let got = judge_plan(p, k, lost, plan).answer;
+    let call = || format!("judge_plan({p}, {k}, {lost}, {plan:?}), the full array's answer");
+    group.same(call, full, got);
+}
+
 fn numbers_of(loss: &Loss) -> Numbers {
     (loss.p, loss.k, loss.disk)
 }
@@ -65,6 +73,9 @@ fn random_plans(group: &mut Group, random: &mut Random, loss: &Loss, seen: &mut 
         let damaged = damaged(loss, &steps, random);
         for plan in [plan, damaged] {
             same_word(group, random, (p, k, disk), &plan, seen);
+            if !loss.is_full() {
+                same_as_full(group, (p, k, disk), &plan);
+            }
         }
     }
 }

@@ -4,6 +4,7 @@ use super::calls::{plan_disk, Plan};
 use super::model;
 use crate::groups::judge::calls::{judge_plan, Judged};
 use crate::harness::answer::ACCEPTED;
+use crate::harness::model::full_disk;
 use crate::harness::{arrays, numbers, Group, Setting};
 
 pub fn run(_: &mut Setting, group: &mut Group) {
@@ -28,7 +29,7 @@ fn same_plan(group: &mut Group, width: usize, disks: usize, lost: usize) -> Plan
     got
 }
 
-/// One accepted plan, with what its fields must be to one another.
+/// One accepted plan, with what its fields must be to one another and to the full array's plan.
 fn accepted(group: &mut Group, p: usize, k: usize, lost: usize) {
     let plan = same_plan(group, p, k, lost);
     let say = |what: &str| format!("plan_disk({p}, {k}, {lost}), {what}");
@@ -37,6 +38,8 @@ fn accepted(group: &mut Group, p: usize, k: usize, lost: usize) {
         group.same(|| say("reads by formula"), reads, plan.reads);
     }
     group.same(|| say("routes"), routes(p, &plan), plan.routes);
+    let full = plan_disk(p, p, full_disk(p, k, lost));
+    group.same(|| say("the full array's plan"), Plan { reads: plan.reads, ..full }, plan);
     let judged = judge_plan(p, k, lost, &plan.steps.bytes(p));
     let expected = Judged { answer: ACCEPTED, reads: plan.reads };
     group.same(|| format!("judge_plan({p}, {k}, {lost}, the planner's record)"), expected, judged);

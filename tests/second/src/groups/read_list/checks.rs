@@ -1,8 +1,10 @@
-//! The read list: every disk of every array, and refused numbers and lengths.
+//! The read list: every disk of every array, beside the full array's, and refused numbers and lengths.
 
 use super::calls::read_list;
 use super::model;
 use crate::groups::plan::calls::plan_disk;
+use crate::harness::answer::ACCEPTED;
+use crate::harness::model::full_disk;
 use crate::harness::{arrays, numbers, Group, Lent, Random, Setting};
 
 /// Width, data disks and lost disk.
@@ -43,7 +45,8 @@ fn same_list(group: &mut Group, random: &mut Random, numbers: Numbers, length: u
     lent.part().to_vec()
 }
 
-/// An accepted list has as many ones as the plan has reads.
+/// An accepted list has as many ones as the plan has reads, and the full array's list has the
+/// same bytes for the same disks: P's and Q's rows beside P's and Q's.
 fn accepted(group: &mut Group, random: &mut Random, (p, k, lost): Numbers) {
     let list = same_list(group, random, (p, k, lost), p * (k + 2));
     let ones = list.iter().filter(|byte| **byte == 1).count() as u32;
@@ -52,6 +55,12 @@ fn accepted(group: &mut Group, random: &mut Random, (p, k, lost): Numbers) {
     let call = |what: &str| format!("read_list({p}, {k}, {lost}), {what}");
     let all = (p * (k + 2)) as u32;
     group.same(|| call("ones and zeros"), (reads, all - reads), (ones, zeros));
+    let mut full = vec![0; p * (p + 2)];
+    let answer = read_list(p, p, full_disk(p, k, lost), &mut full);
+    group.same(|| call("the full array's answer"), ACCEPTED, answer);
+    let in_full = |disk: usize| &full[full_disk(p, k, disk) * p..][..p];
+    let expected: Vec<u8> = (0..k + 2).flat_map(in_full).copied().collect();
+    group.same_bytes(|| call("beside the full array's"), &expected, &list);
 }
 
 fn other_lengths(p: usize, k: usize) -> Vec<usize> {

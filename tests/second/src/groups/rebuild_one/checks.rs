@@ -1,10 +1,12 @@
-//! The rebuild of one lost disk: clean and dirty stripes, and refused calls.
+//! The rebuild of one lost disk: clean and dirty stripes, the full array's stripes, and refused calls.
 
 use super::calls::rebuild_one;
 use super::model;
 use crate::groups::read_list;
-use crate::harness::answer::Answer;
-use crate::harness::model::{cell_place, column_length, disk_place, stripe_length, Cell};
+use crate::harness::answer::{Answer, ACCEPTED};
+use crate::harness::model::{
+    cell_place, column_length, disk_place, full_disk, full_shape, stripe_length, widened, Cell,
+};
 use crate::harness::stripes::{clean_stripe, shapes, EXAMPLE, PART_EXAMPLE};
 use crate::harness::{arrays, numbers, small_stack, Group, Lent, Random, Setting, Shape};
 
@@ -16,6 +18,9 @@ pub fn run(setting: &mut Setting, group: &mut Group) {
         clean_losses(group, random, shape);
         dirty_losses(group, random, shape);
         wrong_lengths(group, random, shape);
+    }
+    for (p, k) in arrays::every() {
+        beside_full(group, random, Shape::new(p, k, 2));
     }
     for (p, k) in arrays::some().into_iter().filter(|(p, k)| k == p || *p <= 7) {
         wrong_sizes(group, random, p, k);
@@ -100,6 +105,23 @@ fn cells_off_list(shape: Shape, lost: usize) -> Vec<Cell> {
     off.map(|place| (place % p, place / p)).collect()
 }
 
+/// Absent disks count as zero: from a dirty stripe a disk comes back as it does in the full array
+/// from that stripe with zeros in their place.
+fn beside_full(group: &mut Group, random: &mut Random, shape: Shape) {
+    let Shape { width: p, disks: k, .. } = shape;
+    let mut stripe = Lent::noise(stripe_length(shape), random);
+    let wide = widened(shape, stripe.part());
+    for lost in shape.all_disks() {
+        let mut column = Lent::noise(column_length(shape), random);
+        same_rebuild(group, shape, lost, &mut stripe, &mut column);
+        let mut expected = vec![0; column_length(shape)];
+        let got = rebuild_one(full_shape(shape), full_disk(p, k, lost), &wide, &mut expected);
+        let call = || format!("rebuild_one({shape:?}, {lost}), beside the full array's");
+        group.same(call, ACCEPTED, got);
+        group.same_bytes(call, &expected, column.part());
+    }
+}
+
 // Refused calls.
 
 /// A call on random bytes of these lengths, mostly refused.
@@ -118,7 +140,7 @@ fn with_lengths(
 /// One length wrong at a time, then both.
 fn wrong_lengths(group: &mut Group, random: &mut Random, shape: Shape) {
     let (right, column) = (stripe_length(shape), column_length(shape));
-    let (s, full) = (shape.cell_size, stripe_length(Shape::full(shape.width, shape.cell_size)));
+    let (s, full) = (shape.cell_size, stripe_length(full_shape(shape)));
     let lost = random.below(shape.disks + 2);
     let near = [right - 1, right + 1, right + s, right + column, 2 * right];
     let stripes = [0, 1, column, shape.data_length(), full].into_iter().chain(near);

@@ -4,7 +4,7 @@ use super::calls::rebuild_two;
 use super::model;
 use crate::groups::stripes::model::check_stripe;
 use crate::harness::answer::{ACCEPTED, YES};
-use crate::harness::model::{disk_place, stripe_length, WIDTHS};
+use crate::harness::model::{disk_place, full_disk, full_shape, stripe_length, widened, WIDTHS};
 use crate::harness::stripes::clean_stripe;
 use crate::harness::{arrays, numbers, small_stack, Group, Lent, Random, Setting, Shape};
 
@@ -51,15 +51,15 @@ fn full_pairs(group: &mut Group, random: &mut Random, shape: Shape) {
     }
 }
 
-/// Every pair of fewer data disks than rows, in one of its orders.
+/// Every pair of fewer data disks than rows, in one of its orders, as in the full array.
 fn part_pairs(group: &mut Group, random: &mut Random, shape: Shape) {
-    if shape.disks == shape.width {
+    if shape == full_shape(shape) {
         return;
     }
     for first in shape.all_disks() {
         for second in 0..first {
             let pair = if random.once_in(2) { (first, second) } else { (second, first) };
-            any_survivors(group, random, shape, pair);
+            beside_full(group, random, shape, pair);
         }
     }
 }
@@ -124,6 +124,19 @@ fn made_clean(group: &mut Group, shape: Shape, (first, second): Pair, stripe: &m
     group.same_bytes(|| format!("{}, other disks", call()), before.whole(), stripe.whole());
 }
 
+/// Absent disks count as zero: with any survivors the result is the full array's from the stripe
+/// with zeros in their place.
+fn beside_full(group: &mut Group, random: &mut Random, shape: Shape, pair: Pair) {
+    let mut stripe = Lent::noise(stripe_length(shape), random);
+    let mut wide = widened(shape, stripe.part());
+    made_clean(group, shape, pair, &mut stripe);
+    let [first, second] = [pair.0, pair.1].map(|disk| full_disk(shape.width, shape.disks, disk));
+    let got = rebuild_two(full_shape(shape), first, second, &mut wide);
+    let call = || format!("rebuild_two({shape:?}, {pair:?}), beside the full array's");
+    group.same(call, ACCEPTED, got);
+    group.same_bytes(call, &wide, &widened(shape, stripe.part()));
+}
+
 // Refused calls.
 
 /// A call on random bytes, if it is refused.
@@ -148,7 +161,7 @@ fn refused_on(group: &mut Group, shape: Shape, (first, second): Pair, stripe: &m
 fn refused_lengths(group: &mut Group, random: &mut Random, shape: Shape) {
     let right = stripe_length(shape);
     let column = shape.width * shape.cell_size;
-    let full = stripe_length(Shape::full(shape.width, shape.cell_size));
+    let full = stripe_length(full_shape(shape));
     for length in [0, 1, column, right - column, right - 1, right + 1, 2 * right, full] {
         refused(group, random, shape, (0, shape.disks), length);
         refused(group, random, shape, (3, 3), length);

@@ -1,10 +1,11 @@
-//! Encoding and the check: random stripes, flipped bits and refused calls.
+//! Encoding and the check: random stripes, flipped bits, the full array's stripes and refused calls.
 
 use super::calls::{check_stripe, encode_stripe, Checked};
 use super::model;
-use crate::harness::answer::{yes, Answer, ACCEPTED, NO, YES};
+use crate::harness::answer::{yes, Answer, Yes, ACCEPTED, NO, YES};
 use crate::harness::model::{
-    cell_place, column_length, diagonal_set, disk_place, row_set, stripe_length, Cell,
+    cell_place, column_length, diagonal_set, disk_place, full_shape, row_set, stripe_length,
+    widened, Cell,
 };
 use crate::harness::stripes::{clean_stripe, shapes, EXAMPLE, PART_EXAMPLE};
 use crate::harness::{arrays, numbers, small_stack, Group, Lent, Random, Setting, Shape};
@@ -16,6 +17,7 @@ pub fn run(setting: &mut Setting, group: &mut Group) {
     for shape in shapes() {
         encoded(group, random, shape);
         clean_and_dirty(group, random, shape);
+        beside_full(group, random, shape);
         wrong_lengths(group, random, shape);
     }
     for (p, k) in arrays::some() {
@@ -134,6 +136,38 @@ fn flipped_disks(random: &mut Random, shape: Shape) -> Vec<usize> {
     }
 }
 
+/// Absent disks count as zero: to encode and then put zeros in their place is to put them and
+/// then encode, and the check says of both stripes the same.
+fn beside_full(group: &mut Group, random: &mut Random, shape: Shape) {
+    let full = full_shape(shape);
+    if shape == full {
+        return;
+    }
+    let mut stripe = Lent::noise(stripe_length(shape), random);
+    same_verdict(group, shape, stripe.part(), NO);
+    let mut wide = widened(shape, stripe.part());
+    let answers = (encode_stripe(shape, stripe.part()), encode_stripe(full, &mut wide));
+    let say = || format!("encode_stripe({shape:?}), beside the full array's");
+    group.same(say, (ACCEPTED, ACCEPTED), answers);
+    group.same_bytes(say, &wide, &widened(shape, stripe.part()));
+    same_verdict(group, shape, stripe.part(), YES);
+    for disk in [random.below(shape.disks), shape.disks, shape.disks + 1] {
+        let place = disk_place(shape, disk).start + random.below(column_length(shape));
+        stripe.part()[place] ^= 1 << random.below(8);
+        same_verdict(group, shape, stripe.part(), NO);
+        encode_stripe(shape, stripe.part());
+    }
+}
+
+/// A stripe and the full array's are both clean or both not.
+fn same_verdict(group: &mut Group, shape: Shape, stripe: &[u8], clean: Yes) {
+    let wide = check_stripe(full_shape(shape), &widened(shape, stripe));
+    let got = (check_stripe(shape, stripe), wide);
+    let expected = Checked { answer: ACCEPTED, clean };
+    let say = || format!("check_stripe({shape:?}), and with zeros for the absent disks");
+    group.same(say, (expected, expected), got);
+}
+
 /// A clean stripe with a random bit of one byte flipped; it is flipped back.
 fn flipped(group: &mut Group, random: &mut Random, shape: Shape, lent: &mut Lent, place: usize) {
     let bit = 1 << random.below(8);
@@ -205,7 +239,7 @@ fn wrong_lengths(group: &mut Group, random: &mut Random, shape: Shape) {
     let parity = disk_place(shape, shape.disks);
     let mut lengths = vec![0, 1, column, parity.start, parity.end, right - 1, right + 1];
     lengths.extend([right - s, right + s, right - column, right + column, 2 * right]);
-    lengths.extend([stripe_length(Shape::full(shape.width, s)), right / s * (s + 1)]);
+    lengths.extend([stripe_length(full_shape(shape)), right / s * (s + 1)]);
     lengths.retain(|length| *length != right);
     for length in lengths {
         both(group, random, shape, length);

@@ -1,12 +1,14 @@
 //! The core of the second implementation, written from documents 01 and 02 alone: sets are
 //! explicit lists of cells, and everything else is counted on them.
 
+mod full;
 mod our_plan;
 mod refusals;
 mod sets;
 mod steps;
 mod stripe;
 
+pub use full::{full_disk, full_shape, widened};
 pub use our_plan::our_steps;
 pub use refusals::{refuse, refuse_shape, WIDTHS};
 pub use sets::{diagonal_set, extra_cell, row_set, set_cells, Cell};
