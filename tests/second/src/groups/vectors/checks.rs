@@ -10,7 +10,36 @@ use crate::harness::model::{column_length, disk_place};
 use crate::harness::{Group, Lent, Random, Setting, Shape};
 
 /// The arrays, width and data disks, that the file must hold, encoded and decoded.
-const ARRAYS: [(usize, usize); 6] = [(3, 3), (5, 5), (7, 7), (11, 11), (17, 17), (31, 31)];
+const ARRAYS: [(usize, usize); 28] = [
+    (3, 3),
+    (5, 5),
+    (7, 7),
+    (11, 11),
+    (17, 17),
+    (31, 31),
+    (3, 2),
+    (5, 2),
+    (5, 3),
+    (5, 4),
+    (7, 2),
+    (7, 3),
+    (7, 4),
+    (7, 5),
+    (7, 6),
+    (11, 2),
+    (11, 6),
+    (11, 10),
+    (13, 7),
+    (13, 12),
+    (17, 12),
+    (17, 16),
+    (19, 10),
+    (23, 3),
+    (29, 2),
+    (29, 14),
+    (31, 2),
+    (31, 16),
+];
 
 pub fn run(setting: &mut Setting, group: &mut Group) {
     let random = &mut setting.random;
