@@ -91,7 +91,7 @@ static double cells_of_plans(const struct Array *array)
 {
     double cells = 0;
     for (int disk = 0; disk < array->k; disk++) {
-        struct Plan plan = cuzhaveli_plan_disk(array->p, disk);
+        struct Plan plan = cuzhaveli_plan_disk(array->p, array->k, disk);
         demand(plan.answer.number == 0, "the library refuses to plan");
         cells += plan.reads;
     }

@@ -29,15 +29,19 @@ struct Checked {
     uint8_t clean;
 };
 
-struct Plan cuzhaveli_plan_disk(size_t width, size_t disk);
-struct Answer cuzhaveli_encode_stripe(size_t width, size_t size, uint8_t *stripe,
+struct Shape {
+    size_t width;       /* rows, p */
+    size_t disks;       /* data disks, k */
+    size_t cell_size;
+};
+
+struct Plan cuzhaveli_plan_disk(size_t width, size_t disks, size_t lost);
+struct Answer cuzhaveli_encode_stripe(struct Shape shape, uint8_t *stripe, size_t stripe_len);
+struct Checked cuzhaveli_check_stripe(struct Shape shape, const uint8_t *stripe,
                                       size_t stripe_len);
-struct Checked cuzhaveli_check_stripe(size_t width, size_t size, const uint8_t *stripe,
-                                      size_t stripe_len);
-struct Answer cuzhaveli_rebuild_one(size_t width, size_t size, size_t disk,
-                                    const uint8_t *stripe, size_t stripe_len,
-                                    uint8_t *column, size_t column_len);
-struct Answer cuzhaveli_rebuild_two(size_t width, size_t size, size_t first, size_t second,
+struct Answer cuzhaveli_rebuild_one(struct Shape shape, size_t lost, const uint8_t *stripe,
+                                    size_t stripe_len, uint8_t *column, size_t column_len);
+struct Answer cuzhaveli_rebuild_two(struct Shape shape, size_t first, size_t second,
                                     uint8_t *stripe, size_t stripe_len);
 
 #endif

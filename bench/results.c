@@ -4,9 +4,8 @@
 #include <stdlib.h>
 #include <string.h>
 
-/* An array with fewer data disks than rows is a pair here, once the library's
-   calls take their number (library.h, the `our_` calls, and plan_disk in array.c). */
-const int SHAPES[ARRAYS][2] = { { 5, 5 }, { 7, 7 }, { 17, 17 }, { 31, 31 } };
+/* Two arrays with fewer data disks than rows stand beside those with as many. */
+const int SHAPES[ARRAYS][2] = { { 5, 5 }, { 7, 7 }, { 7, 5 }, { 17, 17 }, { 17, 12 }, { 31, 31 } };
 const size_t CELL_SIZES[SIZES] = { 64, 512, 4096 };
 
 const char *const MODE_NAMES[MODES] = { "warm", "streaming" };

@@ -5,7 +5,7 @@
 
 #include "calls.h"
 
-enum { ARRAYS = 4, SIZES = 3, MOST_RUNS = 20, MOST_ROUNDS = 200 };
+enum { ARRAYS = 6, SIZES = 3, MOST_RUNS = 20, MOST_ROUNDS = 200 };
 
 /* The arrays, rows and data disks, and the bytes of a cell. */
 extern const int SHAPES[ARRAYS][2];
