@@ -7,7 +7,7 @@ use Rattle.laws.specs.Choice.{pick}
 use Rattle.laws.proofs.ChoiceLaws.{first-none}
 use Rattle.runs.specs.declared.Run.{Run}
 use Rattle.runs.specs.declared.Progress.{Progress}
-use Rattle.runs.specs.Runs.{cellsSoFar, runFault, ProgressSays}
+use Rattle.runs.specs.Runs.{cellsSoFar, readFault, ProgressSays}
 use Rattle.billing.specs.declared.Bill.{Bill}
 use Rattle.billing.specs.Bills.{gib, inFirst, inSecond, inThird, charge, centsOf, billFault, Says, BillSays, runBytes, runBillFault, RunBillSays}
 use Rattle.billing.proofs.BillLaws.{bands-add, cents-enough, cents-fewest}
@@ -52,5 +52,5 @@ run-bill-means x r s t y k z = means (runBillFault x r s t) (runBytes x) r s t y
 -- "The bill of a run takes cells read × s as its bytes": the cells that reading the record answers
 pub run-bill-read : (x : Run) (r s t : ℕ) (y : Bill) (g : Progress) → RunBillSays x r s t y → y .answer .refusal ≡ 0 → ProgressSays x g → BillMeans (g .cells * x .shape .«cell_size») r s t y
 run-bill-read x r s t y g k z q =
-    let e : runFault x ≡ 0 = first-none (runFault x) (billFault (runBytes x) r s t) (sym (k .answer .refusal) ∙ z) .0 in
+    let e : readFault x ≡ 0 = first-none (readFault x) (billFault (runBytes x) r s t) (sym (k .answer .refusal) ∙ z) .0 in
     subst (λ (n : ℕ). BillMeans (n * x .shape .«cell_size») r s t y) (sym (q .cells ∙ ap (λ (n : ℕ). pick (eqb n 0) (cellsSoFar x) 0) e)) (run-bill-means x r s t y k z)

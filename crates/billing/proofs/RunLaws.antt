@@ -9,7 +9,8 @@ use Rattle.laws.proofs.ChoiceLaws.{first-kept}
 use Rattle.liberation.proofs.FaultLaws.{numbers-of}
 use Rattle.runs.specs.declared.Run.{Run}
 use Rattle.runs.specs.declared.Progress.{Progress}
-use Rattle.runs.specs.Runs.{cellsSoFar, runFault, ProgressSays}
+use Rattle.runs.specs.Runs.{cellsSoFar, readFault, ProgressSays}
+use Rattle.runs.proofs.RunRefusals.{read-passed}
 use Rattle.billing.specs.declared.Bill.{Bill}
 use Rattle.billing.specs.Bills.{runBytes, runBillFault, billFault, Refused, Says, BillSays, RunBillSays}
 use Rattle.billing.proofs.BillLaws.{bill-refused}
@@ -17,11 +18,11 @@ use Rattle.billing.proofs.BillLaws.{bill-refused}
 -- the record is refused
 pub run-refused : (x : Run) (r s t : ℕ) (g : Progress) (y : Bill) → ProgressSays x g → (g .answer .refusal ≡ 0 → ⊥) → Refused (g .answer .refusal) y → RunBillSays x r s t y
 run-refused x r s t g y k n d =
-    bill-refused (runBillFault x r s t) (runBytes x) r s t (g .answer .refusal) y (first-kept (g .answer .refusal) (runFault x) (billFault (runBytes x) r s t) (k .answer .refusal) n) n d
+    bill-refused (runBillFault x r s t) (runBytes x) r s t (g .answer .refusal) y (first-kept (g .answer .refusal) (readFault x) (billFault (runBytes x) r s t) (k .answer .refusal) n) n d
 
 -- what was read of a record that is not refused
 module _ (x : Run) (g : Progress) (k : ProgressSays x g) (z : g .answer .refusal ≡ 0) where
-  fine : runFault x ≡ 0
+  fine : readFault x ≡ 0
   fine = sym (k .answer .refusal) ∙ z
 
   read : g .cells ≡ cellsSoFar x
@@ -29,7 +30,7 @@ module _ (x : Run) (g : Progress) (k : ProgressSays x g) (z : g .answer .refusal
 
   -- its bytes are below 2^54, so they do not wrap and 17 never comes
   pub bytes-fit : g .cells * x .shape .«cell_size» ≤ 2 ^ 54
-  bytes-fit = omega (arith, mul-le-mul (k .few) (numbers-of (x .shape .width) (x .shape .disks) (x .shape .«cell_size») (x .lost) fine .2))
+  bytes-fit = omega (arith, mul-le-mul (k .few) (numbers-of (x .shape .width) (x .shape .disks) (x .shape .«cell_size») (x .lost) (read-passed x fine .0) .2))
 
   -- and are billed
   pub run-billed : (r s t : ℕ) (y : Bill) → BillSays (g .cells * x .shape .«cell_size») r s t y → RunBillSays x r s t y

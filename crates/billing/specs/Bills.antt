@@ -6,7 +6,7 @@ use lib.Dec.{eqb, leb, ltb}
 use Rattle.laws.specs.Choice.{pick, when, firstOf}
 use Rattle.refusals.specs.Answers.{Answers}
 use Rattle.runs.specs.declared.Run.{Run}
-use Rattle.runs.specs.Runs.{cellsSoFar, runFault}
+use Rattle.runs.specs.Runs.{cellsSoFar, readFault}
 use Rattle.billing.specs.declared.Bill.{Bill}
 
 abbrev pub least : ℕ → ℕ → ℕ
@@ -55,12 +55,12 @@ pub record Says (n b r s t : ℕ) (x : Bill) : Type 0 where
 abbrev pub BillSays : ℕ → ℕ → ℕ → ℕ → Bill → Type 0
 BillSays b r s t x = Says (billFault b r s t) b r s t x
 
--- "The bill of a run takes cells read × s as its bytes": its record refuses by 1, 13, 2 and 3, as reading it does
+-- "The bill of a run takes cells read × s as its bytes": its record refuses by 1, 13, 2, 3 and 10, as reading it does
 abbrev pub runBytes : Run → ℕ
 runBytes x = cellsSoFar x * x .shape .«cell_size»
 
 abbrev pub runBillFault : Run → ℕ → ℕ → ℕ → ℕ
-runBillFault x r s t = firstOf (runFault x) (billFault (runBytes x) r s t)
+runBillFault x r s t = firstOf (readFault x) (billFault (runBytes x) r s t)
 
 abbrev pub RunBillSays : Run → ℕ → ℕ → ℕ → Bill → Type 0
 RunBillSays x r s t y = Says (runBillFault x r s t) (runBytes x) r s t y

@@ -75,7 +75,7 @@ pub fn bill_bytes(bytes: u64, first: u64, second: u64, third: u64) -> Bill
     }
 }
 
-// The bill of a run: cells read so far times the bytes of a cell. Refusals: 1, 13, 2, 3, 16.
+// The bill of a run: cells read so far times the bytes of a cell. Refusals: 1, 13, 2, 3, 10, 16.
 pub fn bill_run(run: Run, first: u64, second: u64, third: u64) -> Bill
     ensures { λ r. ⌜ RunBillSays run first second third r ⌝ }
 {

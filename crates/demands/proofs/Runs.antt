@@ -3,7 +3,6 @@ use mathlib.Core.Path.{_≡_, sym, ap, _∙_}
 use mathlib.Core.Bool.{true}
 use mathlib.Core.List.{List}
 use Prim.Native.Nat.{ℕ, _+_, _*_, _<_}
-use lib.ListN.{length}
 use Rattle.liberation.specs.Sets.{diskAt}
 use Rattle.liberation.proofs.FaultLaws.{numbers-plan}
 use Rattle.liberation_stripes.specs.Stripes.{cellAt, columnOf, isStripe, clean}
@@ -14,9 +13,9 @@ use Rattle.runs.specs.declared.Run.{Run}
 use Rattle.runs.specs.declared.RunAnswer.{RunAnswer}
 use Rattle.runs.specs.declared.Progress.{Progress}
 use Rattle.runs.specs.Runs.{OpenSays, StepSays, ProgressSays}
-use Rattle.runs.specs.Claims.{Call, Left, Made, lastRun, columnsOf}
 use Rattle.runs.proofs.RunRefusals.{step-rebuilds}
-use Rattle.runs.proofs.MadeLaws.{progress-right}
+use Rattle.run_laws.specs.Claims.{Event, Made, lastRun, stepped}
+use Rattle.run_laws.proofs.MadeLaws.{progress-right}
 use Rattle.demands.proofs.Stripes.{brings-back}
 use Rattle.demands.proofs.Plans.{our-reads}
 
@@ -26,10 +25,10 @@ pub step-brings-back :
     → ((c : ℕ) → c < x .shape .width * (x .shape .disks + 2) → (diskAt (x .shape .width) c ≡ x .lost → ⊥) → cellAt (x .shape .«cell_size») t c ≡ cellAt (x .shape .«cell_size») u c) → o′ ≡ columnOf (x .shape .width) (x .shape .«cell_size») (x .lost) u
 step-brings-back x x′ i t u o o′ r v c k z h = brings-back (x .shape .width) (x .shape .disks) (x .shape .«cell_size») (x .lost) t u o o′ r v c (step-rebuilds x x′ i t o o′ r k z) z h
 
--- "Cells read so far are next × the read count": after any calls from the opening on, as many times the planner's count for that disk as steps were accepted
+-- "Cells read become rebuilt stripes × the read count": after any calls from the opening on, as many times the planner's count for that disk as steps were accepted
 pub cells-counted :
-    (p k s f n : ℕ) (r : RunAnswer) (cs : List Call) (ls : List Left) (g : Progress) (q : Plan) → OpenSays p k s f n r → r .answer .refusal ≡ 0 → Made (r .run) cs ls → ProgressSays (lastRun (r .run) ls) g → PlanSays p k f q
-    → g .cells ≡ length (columnsOf ls) * q .reads
-cells-counted p k s f n r cs ls g q o z m d l =
+    (p k s f n : ℕ) (r : RunAnswer) (es : List Event) (g : Progress) (q : Plan) → OpenSays p k s f n r → r .answer .refusal ≡ 0 → Made (r .run) es → ProgressSays (lastRun (r .run) es) g → PlanSays p k f q
+    → g .cells ≡ stepped es * q .reads
+cells-counted p k s f n r es g q o z m d l =
     let w = numbers-plan p k s f (sym (o .answer .refusal) ∙ z) in
-    progress-right p k s f n r cs ls g o z m d .cells ∙ ap (λ (i : ℕ). length (columnsOf ls) * i) (sym (our-reads p k f q l (l .answer .refusal ∙ w)))
+    progress-right p k s f n r es g o z m d .cells ∙ ap (λ (i : ℕ). stepped es * i) (sym (our-reads p k f q l (l .answer .refusal ∙ w)))

@@ -1,3 +1,2 @@
--- Rebuild runs: what opening, a step and reading do, and what is claimed of steps one after another.
+-- Rebuild runs: what opening, a step, a skip and reading do.
 pub mod Runs
-pub mod Claims

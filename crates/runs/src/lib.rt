@@ -1,12 +1,22 @@
-// Rebuild runs over many stripes (document 01, "Run and space"): the record is opened, stepped and read. Numbers that another program put into a record are tested like any others.
+// Rebuild runs over many stripes (document 01, "Run and space"): the record is opened, stepped and read. A stripe may also be skipped (document 02, ask 8). Numbers that another program put into a record are tested like any others.
 ghost use mathlib.Core.Path.{_≡_};
-ghost use Rattle.runs.specs.Runs.{stepLengthsFault, OpenSays, StepSays, ProgressSays, resumed};
+ghost use Rattle.runs.specs.Runs.{readFault, nextFault, stepLengthsFault, skipFault, CanMove, movedBy, OpenSays, StepSays, SkipSays, ProgressSays, resumed, resumedDisks};
 use refusals::Answer;
 use refusals::Shape;
 
-// A run: the shape of the array, the lost disk, how many stripes there are, and which of them is next.
+// A run: the shape of the array, the lost disk, how many stripes there are, which of them is next, and how many before it were skipped.
 #[repr(C)]
 pub struct Run {
+    pub shape: Shape,
+    pub lost: usize,
+    pub stripes: u32,
+    pub next: u32,
+    pub skipped: u32,
+}
+
+// The record of a run before stripes could be skipped.
+#[repr(C)]
+pub struct DisksRun {
     pub shape: Shape,
     pub lost: usize,
     pub stripes: u32,
@@ -55,6 +65,7 @@ pub fn open_run(shape: Shape, lost: usize, stripes: u32) -> RunAnswer
                 lost: 0,
                 stripes: 0,
                 next: 0,
+                skipped: 0,
             },
         };
     }
@@ -65,6 +76,7 @@ pub fn open_run(shape: Shape, lost: usize, stripes: u32) -> RunAnswer
             lost: lost,
             stripes: stripes,
             next: 0,
+            skipped: 0,
         },
     }
 }
@@ -82,7 +94,44 @@ pub fn resume_full_run(old: FullRun) -> Run
         lost: old.disk,
         stripes: old.stripes,
         next: old.next,
+        skipped: 0,
     }
+}
+
+// A run that was open when no stripe could be skipped goes on with none skipped.
+pub fn resume_disks_run(before: DisksRun) -> Run
+    ensures { λ r. ⌜ r ≡ resumedDisks before ⌝ }
+{
+    let shape = before.shape;
+    Run {
+        shape: shape,
+        lost: before.lost,
+        stripes: before.stripes,
+        next: before.next,
+        skipped: 0,
+    }
+}
+
+// The refusal of a record that is read, 0 for none: 1, 13, 2, 3, and 10 for more stripes skipped than are past.
+fn read_fault(run: Run) -> u8
+    ensures { λ r. ⌜ r ≡ readFault run ⌝ }
+{
+    let s = run.shape;
+    let fault = refusals::numbers_fault(s.width, s.disks, s.cell_size, run.lost);
+    if fault != 0 {
+        return fault;
+    }
+    if run.next < run.skipped { 10 } else { 0 }
+}
+
+// 10 for a stripe that is not the next one, 0 for that one.
+fn next_fault(run: Run, which: u64) -> u8
+    ensures { λ r. ⌜ r ≡ nextFault run which ⌝ }
+{
+    if run.stripes <= run.next {
+        return 10;
+    }
+    if which != run.next as u64 { 10 } else { 0 }
 }
 
 // The refusal of a step for stripe `which` on a stripe and a column of these many bytes, 0 for none.
@@ -90,17 +139,25 @@ fn step_fault(run: Run, which: u64, stripe: usize, column: usize) -> u8
     ensures { λ r. ⌜ r ≡ stepLengthsFault run which stripe column ⌝ }
 {
     let s = run.shape;
-    let fault = rebuild_one::one_fault(s.width, s.disks, s.cell_size, run.lost, stripe, column);
-    if fault != 0 {
-        return fault;
+    let unfit = rebuild_one::one_fault(s.width, s.disks, s.cell_size, run.lost, stripe, column);
+    if unfit != 0 {
+        return unfit;
     }
-    if run.stripes <= run.next {
+    if run.next < run.skipped {
         return 10;
     }
-    if which != run.next as u64 {
-        return 10;
-    }
-    0
+    next_fault(run, which)
+}
+
+// The record moved on by one stripe, with `skips` more of them skipped.
+fn moved_on(run: Run, skips: u32) -> Run
+    requires { ⌜ CanMove run skips ⌝ }
+    ensures { λ r. ⌜ r ≡ movedBy run skips ⌝ }
+{
+    let mut moved = run;
+    moved.next = run.next + 1;
+    moved.skipped = run.skipped + skips;
+    moved
 }
 
 // A step by value: rebuilds stripe `which` into the column and gives the record moved on by one. Refusals: 1, 13, 2, 3, 5, 10; they leave column and record as they were.
@@ -116,31 +173,58 @@ pub fn step_run(run: Run, which: u64, stripe: &[u8], column: &mut [u8]) -> RunAn
     }
     let s = run.shape;
     rebuild_one::rebuild_column(s.width, s.disks, s.cell_size, run.lost, stripe, column);
-    let mut moved = run;
-    moved.next = run.next + 1;
     RunAnswer {
         answer: refusals::answered(0),
-        run: moved,
+        run: moved_on(run, 0),
     }
 }
 
-// How far a run is. Refusals: 1, 13, 2, 3.
+// The refusal of a skip of stripe `which`, 0 for none.
+fn skip_fault(run: Run, which: u64) -> u8
+    ensures { λ r. ⌜ r ≡ skipFault run which ⌝ }
+{
+    let unread = read_fault(run);
+    if unread != 0 {
+        return unread;
+    }
+    next_fault(run, which)
+}
+
+// A skip by value: gives the record moved on by one stripe that is not rebuilt. Refusals: 1, 13, 2, 3, 10; they leave the record as it was.
+pub fn skip_stripe(run: Run, which: u64) -> RunAnswer
+    ensures { λ r. ⌜ SkipSays run (r .run) which (r .answer) ⌝ }
+{
+    let denied = skip_fault(run, which);
+    if denied != 0 {
+        return RunAnswer {
+            answer: refusals::answered(denied),
+            run: run,
+        };
+    }
+    RunAnswer {
+        answer: refusals::answered(0),
+        run: moved_on(run, 1),
+    }
+}
+
+// How far a run is: only stripes that were not skipped were read. Refusals: 1, 13, 2, 3, 10.
 pub fn run_progress(run: Run) -> Progress
     ensures { λ r. ⌜ ProgressSays run r ⌝ }
 {
-    let s = run.shape;
-    let fault = refusals::numbers_fault(s.width, s.disks, s.cell_size, run.lost);
-    if fault != 0 {
+    let refused = read_fault(run);
+    if refused != 0 {
         return Progress {
-            answer: refusals::answered(fault),
+            answer: refusals::answered(refused),
             over: false,
             cells: 0,
         };
     }
+    let s = run.shape;
     let plan = planner::plan_disk(s.width, s.disks, run.lost);
+    let rebuilt = run.next - run.skipped;
     Progress {
         answer: refusals::answered(0),
         over: run.next == run.stripes,
-        cells: run.next as u64 * plan.reads as u64,
+        cells: rebuilt as u64 * plan.reads as u64,
     }
 }

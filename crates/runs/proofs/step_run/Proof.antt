@@ -4,7 +4,7 @@ use native.Mathlib.Omega.{arith}
 use borrow.Author.Needs.{needs}
 use Rattle.xor.proofs.SourceLaws.{bytes-all}
 use Rattle.runs.specs.Runs.{stepFault}
-use Rattle.runs.proofs.RunRefusals.{not-over, step-refused, step-fits, step-done}
+use Rattle.runs.proofs.RunRefusals.{step-passed, step-refused, step-done}
 use Rattle.runs.proofs.step_run.Statement.{statement}
 use Rattle.runs.proofs.step_run.Tie as tie
 
@@ -29,27 +29,29 @@ rebuild-column-requires : tie.Need-rebuild-column-requires
 rebuild-column-requires c κs =
     let i = c .before .before in
     let a = i .before .before .before .before .args in
-    step-fits (a .run) (a .which) (a .stripe .now) (a .column .now) (passed i)
-
-add-moved : tie.Need-add-moved
-add-moved c =
-    let i = c .before .before .before .before .before .before in
-    let a = i .before .before .before .before .args in
-    omega (arith, not-over (a .run) (a .which) _ _ (passed i))
+    step-passed (a .run) (a .which) (a .stripe .now) (a .column .now) (passed i) .0
 
 answered-requires-2 : tie.Need-answered-requires-2
 answered-requires-2 c κs = search needs
+
+moved-on-requires : tie.Need-moved-on-requires
+moved-on-requires c κs =
+    let i = c .before .before .before .before .before .before in
+    let a = i .before .before .before .before .args in
+    let q = step-passed (a .run) (a .which) (a .stripe .now) (a .column .now) (passed i) in
+    record { next = q .1 .1 .1; skipped = omega (arith, q .1 .0) }
 
 same-length : tie.Need-same-length
 same-length c = search needs
 
 returns-2 : tie.Need-returns-2
 returns-2 c =
-    let r = c .before .before .before .before in
+    let n = c .before in
+    let r = n .before .before .before in
     let i = r .before .before .before in
     let a = i .before .before .before .before .args in
-    step-done (a .run) (a .which) (a .stripe .now) (a .column .now) (r .rebuild-column .last .1 .1 .1 .1 .1 .0) (c .answered2 .result) (passed i) (r .rebuild-column .ensures) (c .answered2 .ensures)
+    step-done (a .run) (c .moved-on .result) (a .which) (a .stripe .now) (a .column .now) (r .rebuild-column .last .1 .1 .1 .1 .1 .0) (n .answered2 .result) (passed i) (r .rebuild-column .ensures) (c .moved-on .ensures) (n .answered2 .ensures)
     (bytes-all (a .stripe .now) (i .before .before .before .shared-slice-known .given))
 
 pub step-run-spec : {M : Type 1} → statement M
-step-run-spec = tie.close (tie.spec step-fault-requires answered-requires returns rebuild-column-requires add-moved answered-requires-2 same-length returns-2)
+step-run-spec = tie.close (tie.spec step-fault-requires answered-requires returns rebuild-column-requires answered-requires-2 moved-on-requires same-length returns-2)

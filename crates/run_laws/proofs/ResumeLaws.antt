@@ -1,0 +1,75 @@
+-- A run that was open before records had a number of data disks, or of skipped stripes: with as many disks as its width, and none skipped, it is refused, over, and counted as was said of its old record, and goes on from there.
+use mathlib.Core.Path.{_≡_, refl, ap, ap₂, _∙_}
+use mathlib.Core.Bool.{_&&_}
+use Prim.Native.Nat.{ℕ, _-_, _*_, _≤_}
+use native.Mathlib.Omega.{arith}
+use lib.Dec.{eqb}
+use Rattle.laws.specs.Choice.{pick, firstOf}
+use Rattle.laws.proofs.ChoiceLaws.{first-zero}
+use Rattle.liberation.proofs.FaultLaws.{numbers-full}
+use Rattle.rebuild_one.specs.Says.{lengthsFault}
+use Rattle.runs.specs.declared.Run.{Run}
+use Rattle.runs.specs.declared.FullRun.{FullRun}
+use Rattle.runs.specs.declared.DisksRun.{DisksRun}
+use Rattle.runs.specs.declared.Progress.{Progress}
+use Rattle.runs.specs.Runs.{isOver, readsOf, cellsSoFar, runFault, readFault, nextFault, stepLengthsFault, resumed, resumedDisks, ProgressSays}
+use Rattle.runs.proofs.RunRefusals.{skipped-few}
+use Rattle.run_laws.specs.Claims.{Full-on, Disks-on, fullFault, Full-read, disksRunFault, Disks-read}
+use Rattle.run_laws.proofs.MadeLaws.{calls-on}
+
+-- a record with no skipped stripe
+module _ (x : Run) (e : x .skipped ≡ 0) where
+  below : x .skipped ≤ x .next
+  below = omega (arith, e)
+
+  -- its refusals are those without that of skipped stripes
+  pub read-as-before : readFault x ≡ runFault x
+  read-as-before = ap (firstOf (runFault x)) (skipped-few x below) ∙ first-zero (runFault x)
+
+  pub step-as-before : (i n m : ℕ) → stepLengthsFault x i n m ≡ firstOf (lengthsFault (x .shape .width) (x .shape .disks) (x .shape .«cell_size») (x .lost) n m) (nextFault x i)
+  step-as-before i n m = ap (λ (a : ℕ). firstOf (lengthsFault (x .shape .width) (x .shape .disks) (x .shape .«cell_size») (x .lost) n m) (firstOf a (nextFault x i))) (skipped-few x below)
+
+  -- and every stripe that is past was read
+  cells-as-before : cellsSoFar x ≡ x .next * readsOf x
+  cells-as-before = let d : x .next - x .skipped ≡ x .next = omega (arith, e) in ap (λ (n : ℕ). n * readsOf x) d
+
+  -- so it is read as before, by the refusal a that it had
+  over-read : (a : ℕ) (g : Progress) → readFault x ≡ a → ProgressSays x g → g .over ≡ (eqb a 0 && isOver x)
+  over-read a g z k = k .over ∙ ap (λ (n : ℕ). eqb n 0 && isOver x) z
+
+  cells-read : (a : ℕ) (g : Progress) → readFault x ≡ a → ProgressSays x g → g .cells ≡ pick (eqb a 0) (x .next * readsOf x) 0
+  cells-read a g z k = k .cells ∙ ap₂ (λ (n c : ℕ). pick (eqb n 0) c 0) z cells-as-before
+
+-- refusals of the old records
+pub full-fault : (y : FullRun) → readFault (resumed y) ≡ fullFault y
+full-fault y = read-as-before (resumed y) refl ∙ numbers-full (y .width) (y .size) (y .disk)
+
+pub disks-fault : (y : DisksRun) → readFault (resumedDisks y) ≡ disksRunFault y
+disks-fault y = read-as-before (resumedDisks y) refl
+
+pub full-read : Full-read
+full-read y x g e k =
+    let z : readFault x ≡ fullFault y = ap readFault e ∙ full-fault y in
+    let s : x .skipped ≡ 0 = ap (λ (v : Run). v .skipped) e in
+    record {
+      refusal = k .answer .refusal ∙ z;
+      over = over-read x s (fullFault y) g z k ∙ ap (λ (v : Run). eqb (fullFault y) 0 && isOver v) e;
+      cells = cells-read x s (fullFault y) g z k ∙ ap (λ (v : Run). pick (eqb (fullFault y) 0) (v .next * readsOf v) 0) e;
+    }
+
+pub disks-read : Disks-read
+disks-read y x g e k =
+    let z : readFault x ≡ disksRunFault y = ap readFault e ∙ disks-fault y in
+    let s : x .skipped ≡ 0 = ap (λ (v : Run). v .skipped) e in
+    record {
+      refusal = k .answer .refusal ∙ z;
+      over = over-read x s (disksRunFault y) g z k ∙ ap (λ (v : Run). eqb (disksRunFault y) 0 && isOver v) e;
+      cells = cells-read x s (disksRunFault y) g z k ∙ ap (λ (v : Run). pick (eqb (disksRunFault y) 0) (v .next * readsOf v) 0) e;
+    }
+
+-- what its events do is added to what it had
+pub full-on : Full-on
+full-on y x es e m = calls-on x es (below x (ap (λ (v : Run). v .skipped) e)) m
+
+pub disks-on : Disks-on
+disks-on y x es e m = calls-on x es (below x (ap (λ (v : Run). v .skipped) e)) m
