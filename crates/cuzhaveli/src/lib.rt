@@ -7,13 +7,14 @@ ghost use Rattle.space.specs.Says.{SpaceSays};
 ghost use Rattle.stripes.specs.Says.{EncodeSays, CheckSays};
 ghost use Rattle.rebuild_one.specs.Says.{OneSays};
 ghost use Rattle.rebuild_two.specs.Says.{TwoSays};
-ghost use Rattle.runs.specs.Runs.{OpenSays, StepSays, ProgressSays, resumed};
+ghost use Rattle.runs.specs.Runs.{OpenSays, StepSays, SkipSays, ProgressSays, resumed, resumedDisks};
 ghost use Rattle.billing.specs.Bills.{BillSays, RunBillSays};
 use billing::Bill;
 use judge::Judged;
 use planner::Plan;
 use refusals::Answer;
 use refusals::Shape;
+use runs::DisksRun;
 use runs::FullRun;
 use runs::Progress;
 use runs::Run;
@@ -121,6 +122,14 @@ pub extern "C" fn cuzhaveli_resume_full_run(old: FullRun) -> Run
     runs::resume_full_run(old)
 }
 
+// A run that was open when no stripe could be skipped goes on with none skipped.
+#[no_mangle]
+pub extern "C" fn cuzhaveli_resume_disks_run(old: DisksRun) -> Run
+    ensures { λ r. ⌜ r ≡ resumedDisks old ⌝ }
+{
+    runs::resume_disks_run(old)
+}
+
 // A step of a run over its lent record: rebuilds stripe `which` into the column and moves the record on by one.
 #[no_mangle]
 pub extern "C" fn cuzhaveli_step_run(
@@ -132,6 +141,16 @@ pub extern "C" fn cuzhaveli_step_run(
     ensures { λ r. ⌜ StepSays (now (run .entry)) (now (run .exit)) which (now (stripe .entry)) (now (column .entry)) (now (column .exit)) r ⌝ }
 {
     let r = runs::step_run(*run, which, stripe, column);
+    *run = r.run;
+    r.answer
+}
+
+// A skip of stripe `which` over the lent record of a run: moves it on by one stripe that is not rebuilt.
+#[no_mangle]
+pub extern "C" fn cuzhaveli_skip_stripe(run: &mut Run, which: u64) -> Answer
+    ensures { λ r. ⌜ SkipSays (now (run .entry)) (now (run .exit)) which r ⌝ }
+{
+    let r = runs::skip_stripe(*run, which);
     *run = r.run;
     r.answer
 }
