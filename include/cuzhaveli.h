@@ -1,0 +1,249 @@
+/* cuzhaveli.h: a proved Liberation RAID-6 code. C99 and C++; x86-64 Linux; link libcuzhaveli.a.
+ *
+ * An array has a width p (3, 5, 7, 11, 13, 17, 19, 23, 29 or 31), k data disks (2 to p; disks 0 to k - 1), row
+ * parity P (disk k) and diagonal parity Q (disk k + 1). In a stripe each disk holds p cells of s bytes, s = 1 to
+ * 4096. The cell of row i on disk c starts at byte (c * p + i) * s, so the first k * p * s bytes are the film in
+ * order, and each disk is contiguous.
+ *
+ * Row set R i holds the cells of row i on the data disks and on P. Diagonal set D i holds the cell of row
+ * (i + c) mod p on each data disk c, the cell of row i on Q and, for i from 1, one cell more: row p - 1 - i of
+ * disk p - (2 * i mod p), if that is a data disk. A stripe is clean if the cells of every set XOR to zero.
+ *
+ * Every call: tests its arguments first, in the order in which its comment lists the refusals, so a caller need
+ * check none of them; answers a refusal number (CUZHAVELI_OK = 0) and a `place` (the step for refusals 6 to 9, else
+ * 0); on a refusal writes nothing through its pointers, and gives every other field as 0 or false. It keeps no
+ * state, allocates nothing, makes no system call, sets no errno, takes under 8 KiB of stack, and may run on several
+ * threads at once on memory apart.
+ *
+ * What is proved, for every argument, is in docs/TRUST.md. What a C caller owes, since no proof sees it:
+ *  - a pointer with a length n points to n bytes that may be read (and written, if not const), at any
+ *    alignment; it may be NULL if n is not the length required (the call is then refused, at the latest by 5);
+ *  - `run` is not NULL and is aligned as struct cuzhaveli_run;
+ *  - memory that a call writes overlaps nothing else it is lent, and nobody else uses it meanwhile.
+ * Padding between fields is unspecified: compare fields, not bytes. */
+
+#ifndef CUZHAVELI_H
+#define CUZHAVELI_H
+
+#include <stddef.h>
+#include <stdint.h>
+#ifndef __cplusplus
+#include <stdbool.h>
+#endif
+
+#ifdef __cplusplus
+extern "C" {
+#endif
+
+#define CUZHAVELI_MAX_WIDTH 31
+#define CUZHAVELI_MAX_CELL_SIZE 4096
+#define CUZHAVELI_MAX_STRIPES 4294967295u /* of one run; cuzhaveli_package_space can give more */
+
+/* Sizes in bytes, for a shape within the limits. */
+#define CUZHAVELI_COLUMN_BYTES(shape) ((shape).width * (shape).cell_size)           /* a disk's part of a stripe */
+#define CUZHAVELI_DATA_BYTES(shape) ((shape).disks * CUZHAVELI_COLUMN_BYTES(shape)) /* a stripe's film */
+#define CUZHAVELI_STRIPE_BYTES(shape) (((shape).disks + 2) * CUZHAVELI_COLUMN_BYTES(shape))
+#define CUZHAVELI_LIST_BYTES(p, k) (((size_t)(k) + 2) * (size_t)(p)) /* a read list */
+#define CUZHAVELI_PLAN_BYTES(p) ((size_t)3 * (size_t)(p))            /* a plan for the judge */
+
+/* The place of a cell in a read list; times the cell size, its first byte in a stripe. */
+#define CUZHAVELI_CELL(p, row, disk) ((size_t)(disk) * (size_t)(p) + (size_t)(row))
+
+enum cuzhaveli_refusal {
+    CUZHAVELI_OK = 0,
+    CUZHAVELI_BAD_WIDTH = 1,         /* p is not one of the ten */
+    CUZHAVELI_BAD_CELL_SIZE = 2,     /* s is 0 or over 4096 */
+    CUZHAVELI_NO_SUCH_DISK = 3,      /* a disk number over k + 1 */
+    CUZHAVELI_SAME_DISK = 4,         /* the two lost disks are one */
+    CUZHAVELI_BAD_LENGTH = 5,        /* a length is another than the one required */
+    CUZHAVELI_STEP_RANGE = 6,        /* a step's row or set number is p or more, or its kind over 1 */
+    CUZHAVELI_STEP_SET = 7,          /* the step's set lacks that row's lost cell */
+    CUZHAVELI_STEP_REPEATED = 8,     /* the row was rebuilt by an earlier step */
+    CUZHAVELI_STEP_EARLY = 9,        /* another lost cell of the set is still missing */
+    CUZHAVELI_NOT_NEXT = 10,         /* the run is over, the stripe is not its next, or more skipped than passed */
+    CUZHAVELI_PACKAGE_TOO_LONG = 11, /* a package of more than 2^48 bytes */
+    CUZHAVELI_BAD_TEXT = 12,         /* input of the plan program; no call here gives it */
+    CUZHAVELI_BAD_DISKS = 13,        /* k is under 2 or over p; tested right after 1 */
+    CUZHAVELI_BAD_RATE = 16,         /* a rate of more than 1000 cents a GiB */
+    CUZHAVELI_TOO_MANY_BYTES = 17    /* a bill of more than 2^54 bytes */
+};
+
+/* p, k and s. */
+struct cuzhaveli_shape {
+    size_t width;
+    size_t disks;
+    size_t cell_size;
+};
+
+/* An enum cuzhaveli_refusal and, for 6 to 9, the step, counted from 0. The first field of every other answer. */
+struct cuzhaveli_answer {
+    uint8_t refusal;
+    uint32_t place;
+};
+
+/* Step n rebuilds the lost cell of rows[n] as the XOR of the other cells of set numbers[n], a row set (kinds[n] = 0)
+ * or a diagonal set (1); n from 0 to p - 1, zeros after. */
+struct cuzhaveli_steps {
+    uint8_t rows[31];
+    uint8_t kinds[31];
+    uint8_t numbers[31];
+};
+
+/* A plan. Bit i of `routes` is set if row i takes a diagonal; `reads` counts the different surviving cells read. */
+struct cuzhaveli_plan {
+    struct cuzhaveli_answer answer;
+    struct cuzhaveli_steps steps;
+    uint32_t routes;
+    uint32_t reads;
+};
+
+/* The judge's answer: how many different surviving cells the plan reads. */
+struct cuzhaveli_judged {
+    struct cuzhaveli_answer answer;
+    uint32_t reads;
+};
+
+struct cuzhaveli_checked {
+    struct cuzhaveli_answer answer;
+    bool clean;
+};
+
+/* The stripes that a package takes, the bytes of one disk for them, and whether these are free. */
+struct cuzhaveli_space {
+    struct cuzhaveli_answer answer;
+    uint64_t stripes;
+    uint64_t bytes;
+    bool fits;
+};
+
+/* A run's record: plain numbers. Keep them in a file field by field, not as this struct's bytes. */
+struct cuzhaveli_run {
+    struct cuzhaveli_shape shape;
+    size_t lost;
+    uint32_t stripes; /* of the run */
+    uint32_t next;    /* stripe, counted from 0; so many have been passed */
+    uint32_t skipped; /* of those passed */
+};
+
+struct cuzhaveli_run_answer {
+    struct cuzhaveli_answer answer;
+    struct cuzhaveli_run run;
+};
+
+/* Whether a run is over (next = stripes), and the cells read so far: rebuilt stripes times the plan's reads. */
+struct cuzhaveli_progress {
+    struct cuzhaveli_answer answer;
+    bool over;
+    uint64_t cells;
+};
+
+/* The bytes in each band, which add up to the whole, and the price in cents. */
+struct cuzhaveli_bill {
+    struct cuzhaveli_answer answer;
+    uint64_t first;
+    uint64_t second;
+    uint64_t third;
+    uint64_t cents;
+};
+
+/* Records of runs opened by earlier versions: of arrays with k = p, and of those with k before stripes could be
+ * skipped. */
+struct cuzhaveli_full_run {
+    size_t width;
+    size_t size;
+    size_t disk;
+    uint32_t stripes;
+    uint32_t next;
+};
+
+struct cuzhaveli_disks_run {
+    struct cuzhaveli_shape shape;
+    size_t lost;
+    uint32_t stripes;
+    uint32_t next;
+};
+
+/* Plans. They move no bytes of a stripe and need no cell size. */
+
+/* Our plan for a lost disk. It reads k * p cells for P or Q and, where k = p, (3 * p * p + 1) / 4 for a data disk, and
+ * no plan that the judge accepts reads less; where k < p it reads the cells on the disks present that the plan for
+ * k = p reads. Refuses 1, 13, 3. */
+struct cuzhaveli_plan cuzhaveli_plan_disk(size_t width, size_t disks, size_t lost);
+
+/* Marks the cells that our plan reads: writes list[0 .. CUZHAVELI_LIST_BYTES(width, disks)), 1 at
+ * CUZHAVELI_CELL(width, row, disk) for a cell that is read, else 0. Only these have to be read from disk before a
+ * rebuild of that lost disk. Refuses 1, 13, 3, 5. */
+struct cuzhaveli_answer cuzhaveli_read_list(size_t width, size_t disks, size_t lost, uint8_t *list, size_t list_len);
+
+/* Judges another planner's plan of CUZHAVELI_PLAN_BYTES(width) bytes, three a step: row, kind, set number. It is
+ * accepted exactly if none of the refusals applies; steps are tested in order, 6 to 9 upward within a step, and
+ * `place` is the step. Refuses 1, 13, 3, 5, 6, 7, 8, 9. */
+struct cuzhaveli_judged cuzhaveli_judge_plan(size_t width, size_t disks, size_t lost, const uint8_t *plan,
+                                             size_t plan_len);
+
+/* The space that a package of `bytes` bytes takes: bytes / CUZHAVELI_DATA_BYTES(shape) stripes, rounded up, and
+ * CUZHAVELI_COLUMN_BYTES(shape) bytes of each disk for a stripe; it fits if that need is at most `free`, the free
+ * bytes of one disk. Refuses 1, 13, 2, 11. */
+struct cuzhaveli_space cuzhaveli_package_space(struct cuzhaveli_shape shape, uint64_t bytes, uint64_t free);
+
+/* Stripes. `stripe_len` is CUZHAVELI_STRIPE_BYTES(shape), `column_len` CUZHAVELI_COLUMN_BYTES(shape). */
+
+/* Writes P and Q, the last two disks of the stripe, so that it is clean; the film before them stands. Refuses 1, 13,
+ * 2, 5. */
+struct cuzhaveli_answer cuzhaveli_encode_stripe(struct cuzhaveli_shape shape, uint8_t *stripe, size_t stripe_len);
+
+/* Says whether a stripe is clean. Refuses 1, 13, 2, 5. */
+struct cuzhaveli_checked cuzhaveli_check_stripe(struct cuzhaveli_shape shape, const uint8_t *stripe,
+                                                size_t stripe_len);
+
+/* Writes the lost disk to `column` by our plan. Only the cells marked in the read list matter: the rest of the stripe
+ * may hold anything, the lost disk's part too. If the marked cells are those of a clean stripe, the column is that
+ * stripe's. The stripe is only read. Refuses 1, 13, 2, 3, 5. */
+struct cuzhaveli_answer cuzhaveli_rebuild_one(struct cuzhaveli_shape shape, size_t lost, const uint8_t *stripe,
+                                              size_t stripe_len, uint8_t *column, size_t column_len);
+
+/* Writes the two lost disks, in either order, in their places in the stripe: any contents of the other disks belong to
+ * exactly one clean stripe, and that is what stands there after. What the stripe held for the two is never used.
+ * Refuses 1, 13, 2, 3, 4, 5. */
+struct cuzhaveli_answer cuzhaveli_rebuild_two(struct cuzhaveli_shape shape, size_t first, size_t second,
+                                              uint8_t *stripe, size_t stripe_len);
+
+/* Runs: the rebuild of one disk over many stripes, in their order, each rebuilt or skipped. */
+
+/* Opens a run over `stripes` stripes (0: over at once), with next = 0 and skipped = 0. A number over
+ * CUZHAVELI_MAX_STRIPES is cut to 32 bits by C before the call can see it: compare first, and use a second run.
+ * Refuses 1, 13, 2, 3, with a record of zeros, which every call refuses. */
+struct cuzhaveli_run_answer cuzhaveli_open_run(struct cuzhaveli_shape shape, size_t lost, uint32_t stripes);
+
+/* Rebuilds stripe `which`, which must be the run's next, as cuzhaveli_rebuild_one does, and moves the record on by
+ * one. On a refusal the record stands, too. Refuses 1, 13, 2, 3, 5, 10. */
+struct cuzhaveli_answer cuzhaveli_step_run(struct cuzhaveli_run *run, uint64_t which, const uint8_t *stripe,
+                                           size_t stripe_len, uint8_t *column, size_t column_len);
+
+/* Skips stripe `which`, which must be the run's next, and which holds no film: moves next and skipped on by one. On a
+ * refusal the record stands. Refuses 1, 13, 2, 3, 10. */
+struct cuzhaveli_answer cuzhaveli_skip_stripe(struct cuzhaveli_run *run, uint64_t which);
+
+/* How far a run is; the record is only read. Refuses 1, 13, 2, 3, and 10 if skipped is above next. */
+struct cuzhaveli_progress cuzhaveli_run_progress(const struct cuzhaveli_run *run);
+
+/* The record of a run that an earlier version opened, as this version keeps it: k = p for the first, nothing skipped
+ * for both. Refuses nothing; calls on the record do, as on any other. */
+struct cuzhaveli_run cuzhaveli_resume_full_run(struct cuzhaveli_full_run old);
+struct cuzhaveli_run cuzhaveli_resume_disks_run(struct cuzhaveli_disks_run old);
+
+/* Bills. A rate is in cents a GiB (2^30 bytes), 0 to 1000: `first` for the first 64 GiB, `second` for the part above
+ * up to 1024 GiB, `third` for the rest. The three products are added, then rounded up to a whole cent. */
+
+/* The bill of so many bytes. Refuses 16, 17. */
+struct cuzhaveli_bill cuzhaveli_bill_bytes(uint64_t bytes, uint64_t first, uint64_t second, uint64_t third);
+
+/* The bill of a run: of the cells it has read so far, times the cell size. Refuses 1, 13, 2, 3, 10 (if skipped is
+ * above next), 16. */
+struct cuzhaveli_bill cuzhaveli_bill_run(struct cuzhaveli_run run, uint64_t first, uint64_t second, uint64_t third);
+
+#ifdef __cplusplus
+}
+#endif
+
+#endif
