@@ -1,0 +1,49 @@
+//! Finds libcuzhaveli.a: in the folder that CUZHAVELI_LIB_DIR names, else in build/ of the
+//! repository, else where the program pkg-config says.
+
+use std::env;
+use std::path::{Path, PathBuf};
+use std::process::Command;
+
+const ARCHIVE: &str = "libcuzhaveli.a";
+
+fn main() {
+    println!("cargo:rerun-if-env-changed=CUZHAVELI_LIB_DIR");
+    println!("cargo:rerun-if-env-changed=PKG_CONFIG_PATH");
+    let folder = named().or_else(built).or_else(installed).unwrap_or_else(|| {
+        panic!(
+            "no {ARCHIVE}: CUZHAVELI_LIB_DIR is not set, the repository's build/ has none, and pkg-config \
+             knows no cuzhaveli. Run `make` in the repository, or set CUZHAVELI_LIB_DIR to the folder \
+             that holds {ARCHIVE}"
+        )
+    });
+    println!("cargo:rerun-if-changed={}", folder.join(ARCHIVE).display());
+    println!("cargo:rustc-link-search=native={}", folder.display());
+    println!("cargo:rustc-link-lib=static=cuzhaveli");
+}
+
+/// The folder that the environment names; one without an archive is an error, not a reason to look on.
+fn named() -> Option<PathBuf> {
+    let folder = PathBuf::from(env::var_os("CUZHAVELI_LIB_DIR")?);
+    let folder = folder.canonicalize().unwrap_or(folder);
+    assert!(
+        folder.join(ARCHIVE).is_file(),
+        "CUZHAVELI_LIB_DIR is {}, which has no {ARCHIVE}: set it to the folder that has, or unset it",
+        folder.display()
+    );
+    Some(folder)
+}
+
+fn built() -> Option<PathBuf> {
+    let root = env::var_os("CARGO_MANIFEST_DIR").expect("cargo sets CARGO_MANIFEST_DIR");
+    let folder = Path::new(&root).join("../../build");
+    println!("cargo:rerun-if-changed={}", folder.join(ARCHIVE).display());
+    folder.join(ARCHIVE).is_file().then_some(folder)
+}
+
+fn installed() -> Option<PathBuf> {
+    let output =
+        Command::new("pkg-config").args(["--variable=libdir", "cuzhaveli"]).output().ok()?;
+    let folder = PathBuf::from(String::from_utf8(output.stdout).ok()?.trim());
+    folder.join(ARCHIVE).is_file().then_some(folder)
+}

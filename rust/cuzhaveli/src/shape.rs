@@ -1,0 +1,308 @@
+//! The shape of an array, and the calls on its stripes.
+
+use std::ops::Range;
+
+use crate::{ffi, Plan, ReadList, Refusal, Run, Step};
+
+/// The width, the data disks and the cell size of an array, within the limits.
+#[derive(Clone, Copy, Debug, PartialEq, Eq)]
+pub struct Shape(ffi::Shape);
+
+/// The space that a package takes.
+#[derive(Clone, Copy, Debug, PartialEq, Eq)]
+pub struct Space {
+    /// Stripes for the package, the last one perhaps in part.
+    pub stripes: u64,
+    /// Bytes of each disk for these stripes.
+    pub bytes_per_disk: u64,
+    /// Whether one disk's free bytes are as many.
+    pub fits: bool,
+}
+
+impl Shape {
+    /// A shape of that width p, with that number of data disks k and cell size s. Refuses 1, 13, 2.
+    ///
+    /// ```
+    /// use cuzhaveli::Shape;
+    ///
+    /// assert!(Shape::new(7, 5, 4096).is_ok());
+    /// assert_eq!(Shape::new(7, 8, 4096).unwrap_err().number(), 13);
+    /// assert_eq!(Shape::new(7, 7, 4097).unwrap_err().number(), 2);
+    /// ```
+    pub fn new(width: usize, disks: usize, cell_size: usize) -> Result<Shape, Refusal> {
+        let shape = ffi::Shape { width, disks, cell_size };
+        // The space call refuses these three numbers and nothing else of an empty package.
+        unsafe { ffi::cuzhaveli_package_space(shape, 0, 0) }.answer.accepted()?;
+        Ok(Shape(shape))
+    }
+
+    /// The width p: the rows of a stripe, and the most data disks.
+    ///
+    /// ```
+    /// # let shape = cuzhaveli::Shape::new(7, 5, 512)?;
+    /// assert_eq!(shape.width(), 7);
+    /// # Ok::<(), cuzhaveli::Refusal>(())
+    /// ```
+    pub fn width(self) -> usize {
+        self.0.width
+    }
+
+    /// The number of data disks k; P is disk k, Q disk k + 1.
+    ///
+    /// ```
+    /// # let shape = cuzhaveli::Shape::new(7, 5, 512)?;
+    /// assert_eq!(shape.disks(), 5);
+    /// # Ok::<(), cuzhaveli::Refusal>(())
+    /// ```
+    pub fn disks(self) -> usize {
+        self.0.disks
+    }
+
+    /// The bytes of a cell.
+    ///
+    /// ```
+    /// # let shape = cuzhaveli::Shape::new(7, 5, 512)?;
+    /// assert_eq!(shape.cell_size(), 512);
+    /// # Ok::<(), cuzhaveli::Refusal>(())
+    /// ```
+    pub fn cell_size(self) -> usize {
+        self.0.cell_size
+    }
+
+    /// The bytes of a disk's part of a stripe, p × s.
+    ///
+    /// ```
+    /// # let shape = cuzhaveli::Shape::new(7, 5, 512)?;
+    /// assert_eq!(shape.column_len(), 7 * 512);
+    /// # Ok::<(), cuzhaveli::Refusal>(())
+    /// ```
+    pub fn column_len(self) -> usize {
+        self.0.width * self.0.cell_size
+    }
+
+    /// The bytes of film in a stripe, k × p × s; they stand first.
+    ///
+    /// ```
+    /// # let shape = cuzhaveli::Shape::new(7, 5, 512)?;
+    /// assert_eq!(shape.data_len(), 5 * 7 * 512);
+    /// # Ok::<(), cuzhaveli::Refusal>(())
+    /// ```
+    pub fn data_len(self) -> usize {
+        self.0.disks * self.column_len()
+    }
+
+    /// The bytes of a stripe, (k + 2) × p × s.
+    ///
+    /// ```
+    /// # let shape = cuzhaveli::Shape::new(7, 5, 512)?;
+    /// assert_eq!(shape.stripe_len(), 7 * 7 * 512);
+    /// # Ok::<(), cuzhaveli::Refusal>(())
+    /// ```
+    pub fn stripe_len(self) -> usize {
+        (self.0.disks + 2) * self.column_len()
+    }
+
+    /// Where a cell stands in a stripe. Panics, as an index does, if the array has no such cell.
+    ///
+    /// ```
+    /// # let shape = cuzhaveli::Shape::new(7, 5, 512)?;
+    /// assert_eq!(shape.cell_range(1, 2), (2 * 7 + 1) * 512..(2 * 7 + 2) * 512);
+    /// # Ok::<(), cuzhaveli::Refusal>(())
+    /// ```
+    pub fn cell_range(self, row: usize, disk: usize) -> Range<usize> {
+        assert!(
+            row < self.0.width && disk < self.0.disks + 2,
+            "no cell ({row}, {disk}) in {:?}",
+            self.0
+        );
+        let start = (disk * self.0.width + row) * self.0.cell_size;
+        start..start + self.0.cell_size
+    }
+
+    /// Where a disk's part stands in a stripe. Panics, as an index does, if the array has no such disk.
+    ///
+    /// ```
+    /// # let shape = cuzhaveli::Shape::new(7, 5, 512)?;
+    /// assert_eq!(shape.disk_range(6), 6 * 7 * 512..7 * 7 * 512); // Q, the last
+    /// # Ok::<(), cuzhaveli::Refusal>(())
+    /// ```
+    pub fn disk_range(self, disk: usize) -> Range<usize> {
+        assert!(disk < self.0.disks + 2, "no disk {disk} in {:?}", self.0);
+        disk * self.column_len()..(disk + 1) * self.column_len()
+    }
+
+    /// Writes P and Q, so that the stripe is clean; the film before them stands. Refuses 5.
+    ///
+    /// ```
+    /// let shape = cuzhaveli::Shape::new(3, 3, 1)?;
+    /// let mut stripe = [0x01, 0x08, 0x40, 0x02, 0x10, 0x80, 0x04, 0x20, 0x00, 0, 0, 0, 0, 0, 0];
+    /// shape.encode(&mut stripe)?;
+    /// assert_eq!(stripe[9..], [0x07, 0x38, 0xC0, 0x11, 0x9C, 0x66]);
+    /// # Ok::<(), cuzhaveli::Refusal>(())
+    /// ```
+    pub fn encode(self, stripe: &mut [u8]) -> Result<(), Refusal> {
+        let (stripe, stripe_len) = (stripe.as_mut_ptr(), stripe.len());
+        unsafe { ffi::cuzhaveli_encode_stripe(self.0, stripe, stripe_len) }.accepted()
+    }
+
+    /// Whether the cells of every set XOR to zero. Refuses 5.
+    ///
+    /// ```
+    /// let shape = cuzhaveli::Shape::new(3, 2, 1)?;
+    /// let mut stripe = [0; 12];
+    /// assert!(shape.is_clean(&stripe)?);
+    /// stripe[4] = 1;
+    /// assert!(!shape.is_clean(&stripe)?);
+    /// # Ok::<(), cuzhaveli::Refusal>(())
+    /// ```
+    pub fn is_clean(self, stripe: &[u8]) -> Result<bool, Refusal> {
+        let (stripe, stripe_len) = (stripe.as_ptr(), stripe.len());
+        let checked = unsafe { ffi::cuzhaveli_check_stripe(self.0, stripe, stripe_len) };
+        checked.answer.accepted().map(|()| checked.clean.get())
+    }
+
+    /// Our plan for a lost disk: where k = p no plan that the judge accepts reads less. Refuses 3.
+    ///
+    /// ```
+    /// let plan = cuzhaveli::Shape::new(5, 5, 512)?.plan(1)?;
+    /// assert_eq!(plan.reads(), 19); // by rows alone 25
+    /// # Ok::<(), cuzhaveli::Refusal>(())
+    /// ```
+    pub fn plan(self, lost: usize) -> Result<Plan, Refusal> {
+        let plan = unsafe { ffi::cuzhaveli_plan_disk(self.0.width, self.0.disks, lost) };
+        plan.answer.accepted().map(|()| Plan::new(plan, self.0.width))
+    }
+
+    /// The read count of another planner's plan for a lost disk. Refuses 3, 5 (other than p steps), 7, 8, 9, and 6 for
+    /// a number of p or more.
+    ///
+    /// ```
+    /// use cuzhaveli::{Set, Shape, Step};
+    ///
+    /// let by_rows = [0, 1, 2, 3, 4].map(|row| Step { row, set: Set::Row(row) });
+    /// assert_eq!(Shape::new(5, 5, 512)?.judge(1, &by_rows)?, 25);
+    /// # Ok::<(), cuzhaveli::Refusal>(())
+    /// ```
+    pub fn judge(self, lost: usize, steps: &[Step]) -> Result<u32, Refusal> {
+        let plan: Vec<u8> = steps.iter().flat_map(Step::bytes).collect();
+        self.judge_bytes(lost, &plan)
+    }
+
+    /// The same of a plan as a host sends it: 3 × p bytes, three a step: row, kind, set number. Refuses 3, 5, 6 to 9.
+    ///
+    /// ```
+    /// let shape = cuzhaveli::Shape::new(3, 3, 1)?;
+    /// assert_eq!(shape.judge_bytes(1, &[0, 0, 0, 1, 1, 0, 2, 1, 1])?, 7); // R0, D0, D1
+    /// assert_eq!(shape.judge_bytes(1, &[0, 2, 0, 1, 1, 0, 2, 1, 1]).unwrap_err().number(), 6);
+    /// # Ok::<(), cuzhaveli::Refusal>(())
+    /// ```
+    pub fn judge_bytes(self, lost: usize, plan: &[u8]) -> Result<u32, Refusal> {
+        let (width, disks, plan_len) = (self.0.width, self.0.disks, plan.len());
+        let judged =
+            unsafe { ffi::cuzhaveli_judge_plan(width, disks, lost, plan.as_ptr(), plan_len) };
+        judged.answer.accepted().map(|()| judged.reads)
+    }
+
+    /// The cells that a rebuild of that disk by our plan reads. Refuses 3.
+    ///
+    /// ```
+    /// let list = cuzhaveli::Shape::new(5, 5, 512)?.read_list(1)?;
+    /// assert!(list.contains(0, 0) && !list.contains(1, 0));
+    /// # Ok::<(), cuzhaveli::Refusal>(())
+    /// ```
+    pub fn read_list(self, lost: usize) -> Result<ReadList, Refusal> {
+        let (width, disks) = (self.0.width, self.0.disks);
+        let mut marks = vec![0; (disks + 2) * width];
+        let (list, list_len) = (marks.as_mut_ptr(), marks.len());
+        unsafe { ffi::cuzhaveli_read_list(width, disks, lost, list, list_len) }.accepted()?;
+        Ok(ReadList::new(marks, width))
+    }
+
+    /// Writes a lost disk's part to the column by our plan. Only the cells of the read list matter: the rest of the
+    /// stripe may hold anything. Refuses 3, 5.
+    ///
+    /// ```
+    /// let shape = cuzhaveli::Shape::new(3, 3, 1)?;
+    /// let stripe = [1, 8, 0x40, 0, 0, 0, 4, 0x20, 0, 7, 0x38, 0xC0, 0x11, 0x9C, 0x66];
+    /// let mut column = [0; 3];
+    /// shape.rebuild_one(1, &stripe, &mut column)?;
+    /// assert_eq!(column, [0x02, 0x10, 0x80]);
+    /// # Ok::<(), cuzhaveli::Refusal>(())
+    /// ```
+    pub fn rebuild_one(self, lost: usize, stripe: &[u8], column: &mut [u8]) -> Result<(), Refusal> {
+        let (stripe, stripe_len) = (stripe.as_ptr(), stripe.len());
+        let (column, column_len) = (column.as_mut_ptr(), column.len());
+        let answer = unsafe {
+            ffi::cuzhaveli_rebuild_one(self.0, lost, stripe, stripe_len, column, column_len)
+        };
+        answer.accepted()
+    }
+
+    /// Writes the two lost disks in their places in the stripe, which is then the one clean stripe with those contents
+    /// of the others. Refuses 3, 4, 5.
+    ///
+    /// ```
+    /// let shape = cuzhaveli::Shape::new(3, 3, 1)?;
+    /// let mut stripe = [1, 8, 0x40, 0, 0, 0, 4, 0x20, 0, 7, 0x38, 0xC0, 0, 0, 0];
+    /// shape.rebuild_two([4, 1], &mut stripe)?;
+    /// assert_eq!(stripe[3..6], [0x02, 0x10, 0x80]);
+    /// assert_eq!(stripe[12..], [0x11, 0x9C, 0x66]);
+    /// # Ok::<(), cuzhaveli::Refusal>(())
+    /// ```
+    pub fn rebuild_two(self, lost: [usize; 2], stripe: &mut [u8]) -> Result<(), Refusal> {
+        let (stripe, stripe_len) = (stripe.as_mut_ptr(), stripe.len());
+        let [first, second] = lost;
+        unsafe { ffi::cuzhaveli_rebuild_two(self.0, first, second, stripe, stripe_len) }.accepted()
+    }
+
+    /// Opens a run: the rebuild of one disk over so many stripes. Refuses 3.
+    ///
+    /// ```
+    /// let run = cuzhaveli::Shape::new(5, 5, 1)?.open_run(1, 196)?;
+    /// assert_eq!((run.next(), run.stripes()), (0, 196));
+    /// # Ok::<(), cuzhaveli::Refusal>(())
+    /// ```
+    pub fn open_run(self, lost: usize, stripes: u32) -> Result<Run, Refusal> {
+        let opened = unsafe { ffi::cuzhaveli_open_run(self.0, lost, stripes) };
+        opened.answer.accepted().map(|()| Run::new(opened.run))
+    }
+
+    /// A run's record from its numbers, as kept in a file. Refuses 3, and 10 where `skipped` is above `next` or `next`
+    /// above `stripes`.
+    ///
+    /// ```
+    /// let shape = cuzhaveli::Shape::new(5, 5, 1)?;
+    /// let run = shape.resume_run(1, 196, 100, 40)?;
+    /// assert_eq!(run.cells_read(), 60 * 19);
+    /// assert_eq!(shape.resume_run(1, 196, 100, 101).unwrap_err().number(), 10);
+    /// assert_eq!(shape.resume_run(1, 196, 197, 40).unwrap_err().number(), 10);
+    /// # Ok::<(), cuzhaveli::Refusal>(())
+    /// ```
+    pub fn resume_run(
+        self,
+        lost: usize,
+        stripes: u32,
+        next: u32,
+        skipped: u32,
+    ) -> Result<Run, Refusal> {
+        Run::resumed(ffi::Run { shape: self.0, lost, stripes, next, skipped })
+    }
+
+    /// The space of a package of so many bytes, where one disk has so many free. Refuses 11.
+    ///
+    /// ```
+    /// let space = cuzhaveli::Shape::new(5, 5, 4096)?.space(102_401, 40_960)?;
+    /// assert_eq!((space.stripes, space.bytes_per_disk, space.fits), (2, 40_960, true));
+    /// # Ok::<(), cuzhaveli::Refusal>(())
+    /// ```
+    pub fn space(self, package: u64, free: u64) -> Result<Space, Refusal> {
+        let space = unsafe { ffi::cuzhaveli_package_space(self.0, package, free) };
+        space.answer.accepted()?;
+        let fits = space.fits.get();
+        Ok(Space { stripes: space.stripes, bytes_per_disk: space.bytes, fits })
+    }
+
+    pub(crate) fn of(shape: ffi::Shape) -> Shape {
+        Shape(shape)
+    }
+}
