@@ -1,0 +1,290 @@
+#!/usr/bin/env python3
+"""Holds the interface that users see to the proved source, field by field.
+
+Usage: tests/interface/check.py LIBRARY FOLDER
+  LIBRARY: libcuzhaveli.a; FOLDER: an existing folder for what is compiled.
+
+The exports of crates/cuzhaveli/src/lib.rt and the #[repr(C)] structs that they use are the
+reference. include/cuzhaveli.h and rust/cuzhaveli/src/ffi.rs must declare the same calls and
+structs, with the same sizes and offsets; LIBRARY must define exactly these calls, hold no
+data, and need nothing but memcpy and memset; the refusals must have one set of names and
+numbers in the header, the crate and the documents. Prints a line for each part; exit status 1
+if something differs.
+"""
+
+import pathlib
+import re
+import subprocess
+import sys
+
+TOP = pathlib.Path(__file__).resolve().parents[2]
+EXPORTS = TOP / "crates/cuzhaveli/src/lib.rt"
+HEADER = TOP / "include/cuzhaveli.h"
+FFI = TOP / "rust/cuzhaveli/src/ffi.rs"
+KINDS = TOP / "rust/cuzhaveli/src/refusal.rs"
+TABLES = [TOP / "README.md", TOP / "docs/C.md"]
+NEEDED = {"memcpy", "memset"}
+SIZES = {"u8": 1, "bool": 1, "u32": 4, "u64": 8, "usize": 8}
+STANDARDS = [("gcc", "c99"), ("gcc", "c11"), ("g++", "c++98"), ("g++", "c++17")]
+
+problems = 0
+
+
+def differs(what, where, remedy):
+    global problems
+    problems += 1
+    print(f"interface: DIFFERS: {what}\n  in: {where}\n  do: {remedy}")
+
+
+def without_comments(text):
+    text = re.sub(r"/\*.*?\*/", "", text, flags=re.S)
+    return re.sub(r"//[^\n]*", "", text)
+
+
+def split_list(text):
+    """The items of a list between commas, brackets kept together."""
+    return [item.strip() for item in re.findall(r"(?:\[[^\]]*\]|[^,\[])+", text) if item.strip()]
+
+
+# Each reader gives a pair: calls {name: [(parameter, type), .., ("", result)]} and structs
+# {name: [(field, type), ..]}. Types are written as in Rust: usize, u8, bool, [u8; 31], Shape,
+# *const u8, *mut Run.
+
+
+def named(item):
+    """A Rattle or Rust parameter or field: its name and type."""
+    name, type_ = item.split(":", 1)
+    return name.replace("pub ", "").strip(), " ".join(type_.split())
+
+
+def rattle_parameters(items):
+    """A Rattle call's parameters as C sees them: a slice is a pointer and a length."""
+    for name, type_ in map(named, items):
+        lent = re.fullmatch(r"&(mut )?(.*)", type_)
+        if not lent:
+            yield name, type_
+            continue
+        pointer = "*mut " if lent[1] else "*const "
+        if re.fullmatch(r"\[\w+\]", lent[2]):
+            yield name, pointer + lent[2].strip("[]")
+            yield name + "_len", "usize"
+        else:
+            yield name, pointer + lent[2]
+
+
+def read_rattle():
+    text = without_comments(EXPORTS.read_text())
+    pattern = r'#\[no_mangle\]\s*pub extern "C" fn (\w+)\s*\(([^)]*)\)\s*->\s*(\w+)'
+    calls = {}
+    for name, parameters, result in re.findall(pattern, text):
+        calls[name] = list(rattle_parameters(split_list(parameters))) + [("", result)]
+    structs = {}
+    for path in sorted(TOP.glob("crates/*/src/*.rt")):
+        text = without_comments(path.read_text())
+        for name, fields in re.findall(r"#\[repr\(C\)\]\s*pub struct (\w+)\s*\{(.*?)\}", text, re.S):
+            structs[name] = [named(item) for item in split_list(fields)]
+    return calls, used(calls, structs)
+
+
+def used(calls, structs):
+    """The structs that the calls use, and those within them."""
+    wanted, found = [t for call in calls.values() for _, t in call], {}
+    while wanted:
+        name = wanted.pop().split()[-1]
+        if name in structs and name not in found:
+            found[name] = structs[name]
+            wanted += [t for _, t in structs[name]]
+    return found
+
+
+def read_ffi():
+    text = without_comments(FFI.read_text())
+    calls = {}
+    for name, parameters, result in re.findall(r"pub fn (cuzhaveli_\w+)\(([^)]*)\)\s*->\s*(\w+);", text):
+        calls[name] = [named(item) for item in split_list(parameters)] + [("", result)]
+    structs = {}
+    records = text[text.index("records! {\n") :]
+    for name, fields in re.findall(r"pub struct (\w+) \{([^$]*?)\}", records, re.S):
+        fields = [named(item) for item in split_list(fields)]
+        structs[name] = [(field, "bool" if t == "YesNo" else t) for field, t in fields]
+    return calls, structs
+
+
+C_TYPES = {"size_t": "usize", "uint8_t": "u8", "uint32_t": "u32", "uint64_t": "u64", "bool": "bool"}
+
+
+def c_type(words):
+    """A C type as Rust writes it."""
+    words = words.replace("*", " * ").split()
+    pointer = "" if "*" not in words else "*const " if "const" in words else "*mut "
+    words = [word for word in words if word not in ("const", "*")]
+    if words[0] == "struct":
+        return pointer + "".join(part.title() for part in words[1].split("_")[1:])
+    return pointer + C_TYPES.get(words[0], words[0])
+
+
+def c_named(item):
+    """A C parameter or field: its name and type."""
+    words, name, size = re.fullmatch(r"(.*?)(\w+)\s*(?:\[(\d+)\])?", item.strip(), re.S).groups()
+    return name, f"[{c_type(words)}; {size}]" if size else c_type(words)
+
+
+def read_header():
+    text = without_comments(HEADER.read_text())
+    text = re.sub(r"^\s*#.*$", "", text, flags=re.M)
+    calls = {}
+    for result, name, parameters in re.findall(r"([\w ]+?)\s*\b(cuzhaveli_\w+)\(([^)]*)\);", text):
+        calls[name] = [c_named(item) for item in split_list(parameters)] + [("", c_type(result))]
+    structs = {}
+    for name, fields in re.findall(r"struct (cuzhaveli_\w+) \{(.*?)\};", text, re.S):
+        fields = [field for field in fields.split(";") if field.strip()]
+        structs[c_type("struct " + name)] = [c_named(field) for field in fields]
+    return calls, structs
+
+
+def compare(what, wanted, given, where):
+    """Two dictionaries of calls or structs: the same names, and the same parts in the same order."""
+    for name in wanted.keys() - given.keys():
+        differs(f"{what} {name} of the proved source is not declared", where, "declare it there")
+    for name in given.keys() - wanted.keys():
+        differs(f"{what} {name} is declared, and no export has it", where, f"take it out, or export it in {EXPORTS}")
+    for name in wanted.keys() & given.keys():
+        if wanted[name] != given[name]:
+            differs(f"{what} {name}: {given[name]}\n  proved: {wanted[name]}", where, "declare it as the proved source does")
+
+
+def layout(structs):
+    """The size, the alignment and the offsets of each struct, by the C rules for x86-64."""
+
+    def measure(type_):
+        array = re.fullmatch(r"\[(\w+); (\d+)\]", type_)
+        if array:
+            size, align = measure(array[1])
+            return size * int(array[2]), align
+        return place(type_)[:2] if type_ in structs else (SIZES[type_],) * 2
+
+    def place(name):
+        end, most, offsets = 0, 1, {}
+        for field, type_ in structs[name]:
+            size, align = measure(type_)
+            offsets[field] = -(-end // align) * align
+            end, most = offsets[field] + size, max(most, align)
+        return -(-end // most) * most, most, offsets
+
+    return {name: place(name) for name in structs}
+
+
+def snake(name):
+    return "cuzhaveli_" + re.sub(r"(?<!^)([A-Z])", r"_\1", name).lower()
+
+
+def compiles(words, what, where, remedy):
+    done = subprocess.run(words, capture_output=True, text=True)
+    if done.returncode != 0:
+        differs(f"{what}:\n{done.stderr.strip()[:3000]}", where, remedy)
+    return done.returncode == 0
+
+
+def check_layout(structs, folder):
+    """Sizes and offsets, asserted by the C and the Rust compiler."""
+    c = ['#include "cuzhaveli.h"', "_Static_assert(sizeof(size_t) == 8, \"x86-64\");"]
+    rust = [f'#[path = "{FFI}"] #[allow(dead_code)] mod ffi;', "use std::mem::{align_of, offset_of, size_of};", "const _: () = {"]
+    count = 0
+    for name, (size, align, offsets) in layout(structs).items():
+        c_name = f"struct {snake(name)}"
+        c.append(f'_Static_assert(sizeof({c_name}) == {size}, "size of {c_name}");')
+        c.append(f'_Static_assert(_Alignof({c_name}) == {align}, "alignment of {c_name}");')
+        rust.append(f'assert!(size_of::<ffi::{name}>() == {size} && align_of::<ffi::{name}>() == {align}, "size of {name}");')
+        for field, offset in offsets.items():
+            count += 1
+            c.append(f'_Static_assert(offsetof({c_name}, {field}) == {offset}, "offset of {c_name}.{field}");')
+            rust.append(f'assert!(offset_of!(ffi::{name}, {field}) == {offset}, "offset of {name}.{field}");')
+    (folder / "layout.c").write_text("\n".join(c) + "\n")
+    (folder / "layout.rs").write_text("\n".join(rust + ["};", "fn main() {}"]) + "\n")
+    compiles(["gcc", "-std=c11", "-fsyntax-only", f"-I{HEADER.parent}", folder / "layout.c"],
+             "a size or an offset in C is not that of the proved struct", HEADER, "declare the struct as the proved source does")
+    compiles(["rustc", "--edition", "2021", "--emit", "metadata", "-o", folder / "layout.rmeta", folder / "layout.rs"],
+             "a size or an offset in Rust is not that of the proved struct", FFI, "declare the struct as the proved source does")
+    return count
+
+
+def check_header(structs, folder):
+    """The header compiles in every standard without a warning, each struct and macro used."""
+    uses = "".join(f"    struct {snake(name)} x_{name};\n    (void)x_{name};\n" for name in structs)
+    macros = re.findall(r"#define (CUZHAVELI_\w+)(\(([^)]*)\))?", HEADER.read_text())
+    for name, _, parameters in macros:
+        if name != "CUZHAVELI_H":
+            arguments = ", ".join("shape" if word.strip() == "shape" else "3" for word in parameters.split(","))
+            uses += f"    total += {name}{f'({arguments})' if parameters else ''};\n"
+    start = "    struct cuzhaveli_shape shape = {5, 5, 1};\n    size_t total = 0;\n"
+    body = f'#include "cuzhaveli.h"\n#include "cuzhaveli.h"\nint main(void)\n{{\n{start}{uses}    return total == 0;\n}}\n'
+    declarations, uses = body.split("    total +=", 1)
+    (folder / "header.c").write_text(declarations + "    total +=" + uses)
+    (folder / "header.cc").write_text((folder / "header.c").read_text())
+    for compiler, standard in STANDARDS:
+        source = folder / ("header.c" if compiler == "gcc" else "header.cc")
+        strict = [f"-std={standard}", "-Wall", "-Wextra", "-pedantic", "-Werror", "-Wno-uninitialized", "-fsyntax-only"]
+        compiles([compiler, *strict, f"-I{HEADER.parent}", source], f"the header does not compile as {standard}", HEADER,
+                 "write it so that all of C99, C11, C++98 and C++17 take it without a warning")
+
+
+def check_archive(calls, library):
+    """The archive's symbols are the calls, and it needs and holds nothing else."""
+    symbols = subprocess.run(["nm", "-P", library], capture_output=True, text=True, check=True).stdout
+    kinds = [line.split()[:2] for line in symbols.splitlines() if " " in line]
+    defined = {name for name, kind in kinds if kind == "T"}
+    for name in calls.keys() - defined:
+        differs(f"the archive does not define {name}", library, "build it anew: `rt staticlib cuzhaveli`")
+    for name in defined - calls.keys():
+        differs(f"the archive defines {name}, and no export has it", library, "export it, or take it out of the archive")
+    for name, kind in kinds:
+        if kind == "U" and name not in NEEDED:
+            differs(f"the archive needs {name}; users were told {', '.join(sorted(NEEDED))}", library, "find the call that brought it in")
+        if kind in "BbCcDdGgSs":
+            differs(f"the archive has data, {name}; a call is to keep no state", library, "find the static that brought it in")
+    sections = subprocess.run(["readelf", "-SW", library], capture_output=True, text=True, check=True).stdout
+    for name, size, flags in re.findall(r"\] (\S+) +\S+ +[0-9a-f]{16} [0-9a-f]+ ([0-9a-f]+) [0-9a-f]+ +([A-Za-z]*) ", sections):
+        if "W" in flags and int(size, 16) > 0:
+            differs(f"the archive has a section that can be written, {name}", library, "find the static that brought it in")
+    return len(defined)
+
+
+def check_refusals():
+    """One set of refusals: the header's enum, the crate's kinds, the documents' tables."""
+    enum = re.search(r"enum cuzhaveli_refusal \{(.*?)\};", without_comments(HEADER.read_text()), re.S)[1]
+    wanted = {name: int(number) for name, number in re.findall(r"CUZHAVELI_(\w+) = (\d+)", enum)}
+    kinds = re.findall(r'^    (\w+) = (\d+), "', KINDS.read_text(), re.M)
+    given = {re.sub(r"(?<!^)([A-Z])", r"_\1", name).upper(): int(number) for name, number in kinds}
+    given.pop("UNKNOWN", None)
+    if {"OK": 0, **given} != wanted:
+        differs(f"refusals {sorted(given.items())}\n  header: {sorted(wanted.items())}", KINDS, "take the header's names and numbers")
+    for path in TABLES:
+        rows = re.findall(r"^\| (\d+) \| `CUZHAVELI_(\w+)` \|", path.read_text(), re.M) if path.exists() else []
+        table = {name: int(number) for number, name in rows}
+        if {"OK": 0, **table} != wanted:
+            differs(f"refusals {sorted(table.items())}\n  header: {sorted(wanted.items())}", path, "take the header's names and numbers")
+    return len(wanted) - 1
+
+
+def main():
+    if len(sys.argv) != 3:
+        sys.exit(__doc__.split("\n\n")[1])
+    library, folder = pathlib.Path(sys.argv[1]), pathlib.Path(sys.argv[2])
+    for path in (library, folder):
+        if not path.exists():
+            sys.exit(f"interface: no {path}; give the archive and a folder that exists")
+    calls, structs = read_rattle()
+    for path, (given_calls, given_structs) in ((HEADER, read_header()), (FFI, read_ffi())):
+        compare("call", calls, given_calls, path)
+        compare("struct", structs, given_structs, path)
+    check_header(structs, folder)
+    fields = check_layout(structs, folder)
+    symbols = check_archive(calls, library)
+    refusals = check_refusals()
+    if problems:
+        sys.exit(f"interface: {problems} differences")
+    print(f"interface: {len(calls)} calls, {len(structs)} structs, {fields} offsets, {symbols} symbols, {refusals} refusals agree")
+
+
+if __name__ == "__main__":
+    main()
