@@ -1,15 +1,16 @@
 #!/usr/bin/env python3
 """Holds the interface that users see to the proved source, field by field.
 
-Usage: tests/interface/check.py LIBRARY FOLDER
-  LIBRARY: libcuzhaveli.a; FOLDER: an existing folder for what is compiled.
+Usage: tests/interface/check.py LIBRARY FOLDER BOUNDARY
+  LIBRARY: libcuzhaveli.a; FOLDER: an existing folder for what is compiled;
+  BOUNDARY: what tests/boundary printed.
 
 The exports of crates/cuzhaveli/src/lib.rt and the #[repr(C)] structs that they use are the
 reference. include/cuzhaveli.h and rust/cuzhaveli/src/ffi.rs must declare the same calls and
 structs, with the same sizes and offsets; LIBRARY must define exactly these calls, hold no
 data, and need nothing but memcpy and memset; the refusals must have one set of names and
-numbers in the header, the crate and the documents. Prints a line for each part; exit status 1
-if something differs.
+numbers in the header, the crate and the documents; the refusals that the header names for a
+call must be those that it gave in the random calls. Exit status 1 if something differs.
 """
 
 import pathlib
@@ -266,13 +267,27 @@ def check_refusals():
     return len(wanted) - 1
 
 
+def check_given(boundary):
+    """The refusals that the header names for each call, and those that the random calls gave."""
+    seen = {name: set(map(int, numbers.split())) for name, numbers in re.findall(r"^refused (\w+):(.*)$", boundary.read_text(), re.M)}
+    named_in = {}
+    for comment, calls in re.findall(r"/\*((?:(?!\*/).)*)\*/\n((?:struct[^;{}]*\([^;{}]*\);\n)+)", HEADER.read_text(), re.S):
+        listed = re.search(r"Refuses ((?:(?!\. |\.$).)*)", comment, re.S)
+        for name in re.findall(r"(cuzhaveli_\w+)\(", calls):
+            named_in[name] = set(map(int, re.findall(r"\d+", listed[1]))) if listed else None
+    for name in seen.keys() | named_in.keys():
+        if seen.get(name) != named_in.get(name):
+            differs(f"{name} gave refusals {sorted(seen.get(name) or [])}, its comment has {sorted(named_in.get(name) or [])}",
+                    HEADER, "correct the comment, or add the call to tests/boundary/calls.c")
+
+
 def main():
-    if len(sys.argv) != 3:
+    if len(sys.argv) != 4:
         sys.exit(__doc__.split("\n\n")[1])
-    library, folder = pathlib.Path(sys.argv[1]), pathlib.Path(sys.argv[2])
-    for path in (library, folder):
+    library, folder, boundary = map(pathlib.Path, sys.argv[1:])
+    for path in (library, folder, boundary):
         if not path.exists():
-            sys.exit(f"interface: no {path}; give the archive and a folder that exists")
+            sys.exit(f"interface: no {path}; give the archive, a folder that exists, and the output of tests/boundary")
     calls, structs = read_rattle()
     for path, (given_calls, given_structs) in ((HEADER, read_header()), (FFI, read_ffi())):
         compare("call", calls, given_calls, path)
@@ -281,6 +296,7 @@ def main():
     fields = check_layout(structs, folder)
     symbols = check_archive(calls, library)
     refusals = check_refusals()
+    check_given(boundary)
     if problems:
         sys.exit(f"interface: {problems} differences")
     print(f"interface: {len(calls)} calls, {len(structs)} structs, {fields} offsets, {symbols} symbols, {refusals} refusals agree")

@@ -1,0 +1,348 @@
+/* Each call with random arguments, by the library and by the second implementation. */
+
+#include "boundary.h"
+
+#include <stdio.h>
+#include <string.h>
+
+enum { PLAN, LIST, JUDGE, SPACE, ENCODE, CHECK, ONE, TWO, OPEN, STEP, SKIP, PROGRESS, FULL, DISKS, BYTES, BILL };
+
+#define SAY(caller, ...) snprintf((caller)->what, sizeof (caller)->what, __VA_ARGS__)
+#define SHAPE "{%zu, %zu, %zu}"
+#define OF(shape) (shape).width, (shape).disks, (shape).cell_size
+#define RUN "{" SHAPE ", %zu, %u, %u, %u}"
+#define OF_RUN(run) OF((run).shape), (run).lost, (run).stripes, (run).next, (run).skipped
+
+/* Counts the answer and compares it. */
+static bool same(struct caller *c, int call, struct cuzhaveli_answer got, struct cuzhaveli_answer wanted)
+{
+    c->refused[call][got.refusal]++;
+    size_t used = strlen(c->what);
+    snprintf(c->what + used, sizeof c->what - used, ": answer %u, %u, second implementation %u, %u", got.refusal,
+             got.place, wanted.refusal, wanted.place);
+    return got.refusal == wanted.refusal && got.place == wanted.place;
+}
+
+static bool same_shape(struct cuzhaveli_shape a, struct cuzhaveli_shape b)
+{
+    return a.width == b.width && a.disks == b.disks && a.cell_size == b.cell_size;
+}
+
+static bool same_run(struct cuzhaveli_run a, struct cuzhaveli_run b)
+{
+    return same_shape(a.shape, b.shape) && a.lost == b.lost && a.stripes == b.stripes && a.next == b.next &&
+           a.skipped == b.skipped;
+}
+
+/* A length that the shape requires; if it is none, some length. */
+static size_t required(struct caller *c, struct cuzhaveli_shape shape, size_t columns)
+{
+    return is_shape(shape) ? columns * CUZHAVELI_COLUMN_BYTES(shape) : below(&c->random, 400);
+}
+
+/* Lends a stripe: noise, or a clean one, or that with one byte changed. */
+static void lend_stripe(struct caller *c, struct cuzhaveli_shape shape)
+{
+    struct lent *stripe = &c->first;
+    lend(stripe, &c->random, required(c, shape, shape.disks + 2), c->at_end);
+    if (stripe->bytes && once_in(&c->random, 2)) {
+        second_encode_stripe(shape, stripe->same, stripe->same_length);
+        if (stripe->length > 0 && once_in(&c->random, 2))
+            stripe->same[below(&c->random, stripe->length)] ^= (uint8_t)next_number(&c->random);
+        set_content(stripe);
+    }
+}
+
+static void lend_column(struct caller *c, struct cuzhaveli_shape shape)
+{
+    lend(&c->second, &c->random, required(c, shape, 1), c->at_end);
+}
+
+struct array { size_t width, disks, lost; };
+
+static struct array any_array(struct random *r)
+{
+    struct array a;
+    a.width = any_width(r);
+    a.disks = any_disks(r, a.width);
+    a.lost = any_disk(r, a.disks);
+    return a;
+}
+
+static bool is_array(struct array a)
+{
+    struct cuzhaveli_shape shape = {a.width, a.disks, 1};
+    return is_shape(shape);
+}
+
+static bool plan_disk(struct caller *c)
+{
+    struct array a = any_array(&c->random);
+    SAY(c, "cuzhaveli_plan_disk(%zu, %zu, %zu)", a.width, a.disks, a.lost);
+    struct cuzhaveli_plan got = cuzhaveli_plan_disk(a.width, a.disks, a.lost);
+    struct cuzhaveli_plan wanted = second_plan_disk(a.width, a.disks, a.lost);
+    return same(c, PLAN, got.answer, wanted.answer) && memcmp(&got.steps, &wanted.steps, sizeof got.steps) == 0 &&
+           got.routes == wanted.routes && got.reads == wanted.reads;
+}
+
+static bool read_list(struct caller *c)
+{
+    struct array a = any_array(&c->random);
+    struct lent *list = &c->first;
+    size_t right = is_array(a) ? CUZHAVELI_LIST_BYTES(a.width, a.disks) : below(&c->random, 400);
+    lend(list, &c->random, right, c->at_end);
+    SAY(c, "cuzhaveli_read_list(%zu, %zu, %zu, %p, %zu)", a.width, a.disks, a.lost, (void *)list->bytes, list->length);
+    struct cuzhaveli_answer got = cuzhaveli_read_list(a.width, a.disks, a.lost, list->bytes, list->length);
+    struct cuzhaveli_answer wanted = second_read_list(a.width, a.disks, a.lost, list->same, list->same_length);
+    return same(c, LIST, got, wanted) && lent_agrees(list);
+}
+
+/* Our plan as bytes, with steps exchanged or bytes changed now and then. */
+static void lend_plan(struct caller *c, struct array a)
+{
+    struct lent *plan = &c->first;
+    struct random *r = &c->random;
+    lend(plan, r, is_array(a) ? CUZHAVELI_PLAN_BYTES(a.width) : below(r, 100), c->at_end);
+    struct cuzhaveli_plan ours = second_plan_disk(a.width, a.disks, a.lost);
+    if (!plan->bytes || ours.answer.refusal != 0 || plan->length != CUZHAVELI_PLAN_BYTES(a.width))
+        return;
+    for (size_t n = 0; n < a.width; n++) {
+        plan->same[3 * n] = ours.steps.rows[n];
+        plan->same[3 * n + 1] = ours.steps.kinds[n];
+        plan->same[3 * n + 2] = ours.steps.numbers[n];
+    }
+    for (size_t changes = below(r, 4); changes > 0; changes--) {
+        uint8_t step[3], *one = plan->same + 3 * below(r, a.width), *other = plan->same + 3 * below(r, a.width);
+        memcpy(step, one, 3);
+        memmove(one, other, 3);
+        if (!once_in(r, 8))
+            memcpy(other, step, 3);
+        if (once_in(r, 4))
+            one[below(r, 3)] = (uint8_t)(once_in(r, 4) ? next_number(r) : below(r, a.width + 1));
+    }
+    set_content(plan);
+}
+
+static bool judge_plan(struct caller *c)
+{
+    struct array a = any_array(&c->random);
+    struct lent *plan = &c->first;
+    lend_plan(c, a);
+    SAY(c, "cuzhaveli_judge_plan(%zu, %zu, %zu, %p, %zu)", a.width, a.disks, a.lost, (void *)plan->bytes, plan->length);
+    struct cuzhaveli_judged got = cuzhaveli_judge_plan(a.width, a.disks, a.lost, plan->bytes, plan->length);
+    struct cuzhaveli_judged wanted = second_judge_plan(a.width, a.disks, a.lost, plan->same, plan->same_length);
+    return same(c, JUDGE, got.answer, wanted.answer) && got.reads == wanted.reads && lent_agrees(plan);
+}
+
+static bool package_space(struct caller *c)
+{
+    struct random *r = &c->random;
+    struct cuzhaveli_shape shape = any_shape(r);
+    uint64_t bytes = once_in(r, 2) ? next_number(r) >> (16 + below(r, 48)) : any_number(r);
+    uint64_t free = any_number(r);
+    if (is_shape(shape) && once_in(r, 2)) /* about as many as it takes */
+        free = bytes / CUZHAVELI_DATA_BYTES(shape) * CUZHAVELI_COLUMN_BYTES(shape) + below(r, 3) * CUZHAVELI_COLUMN_BYTES(shape) - below(r, 2);
+    SAY(c, "cuzhaveli_package_space(" SHAPE ", %ju, %ju)", OF(shape), (uintmax_t)bytes, (uintmax_t)free);
+    struct cuzhaveli_space got = cuzhaveli_package_space(shape, bytes, free);
+    struct cuzhaveli_space wanted = second_package_space(shape, bytes, free);
+    return same(c, SPACE, got.answer, wanted.answer) && got.stripes == wanted.stripes && got.bytes == wanted.bytes &&
+           got.fits == wanted.fits;
+}
+
+static bool encode_stripe(struct caller *c)
+{
+    struct cuzhaveli_shape shape = any_shape(&c->random);
+    struct lent *stripe = &c->first;
+    lend_stripe(c, shape);
+    SAY(c, "cuzhaveli_encode_stripe(" SHAPE ", %p, %zu)", OF(shape), (void *)stripe->bytes, stripe->length);
+    struct cuzhaveli_answer got = cuzhaveli_encode_stripe(shape, stripe->bytes, stripe->length);
+    struct cuzhaveli_answer wanted = second_encode_stripe(shape, stripe->same, stripe->same_length);
+    return same(c, ENCODE, got, wanted) && lent_agrees(stripe);
+}
+
+static bool check_stripe(struct caller *c)
+{
+    struct cuzhaveli_shape shape = any_shape(&c->random);
+    struct lent *stripe = &c->first;
+    lend_stripe(c, shape);
+    SAY(c, "cuzhaveli_check_stripe(" SHAPE ", %p, %zu)", OF(shape), (void *)stripe->bytes, stripe->length);
+    struct cuzhaveli_checked got = cuzhaveli_check_stripe(shape, stripe->bytes, stripe->length);
+    struct cuzhaveli_checked wanted = second_check_stripe(shape, stripe->same, stripe->same_length);
+    return same(c, CHECK, got.answer, wanted.answer) && got.clean == wanted.clean && lent_agrees(stripe);
+}
+
+static bool rebuild_one(struct caller *c)
+{
+    struct cuzhaveli_shape shape = any_shape(&c->random);
+    size_t lost = any_disk(&c->random, shape.disks);
+    struct lent *stripe = &c->first, *column = &c->second;
+    lend_stripe(c, shape);
+    lend_column(c, shape);
+    SAY(c, "cuzhaveli_rebuild_one(" SHAPE ", %zu, %p, %zu, %p, %zu)", OF(shape), lost, (void *)stripe->bytes,
+        stripe->length, (void *)column->bytes, column->length);
+    struct cuzhaveli_answer got =
+        cuzhaveli_rebuild_one(shape, lost, stripe->bytes, stripe->length, column->bytes, column->length);
+    struct cuzhaveli_answer wanted =
+        second_rebuild_one(shape, lost, stripe->same, stripe->same_length, column->same, column->same_length);
+    return same(c, ONE, got, wanted) && lent_agrees(stripe) && lent_agrees(column);
+}
+
+static bool rebuild_two(struct caller *c)
+{
+    struct cuzhaveli_shape shape = any_shape(&c->random);
+    size_t first = any_disk(&c->random, shape.disks), second = any_disk(&c->random, shape.disks);
+    struct lent *stripe = &c->first;
+    lend_stripe(c, shape);
+    SAY(c, "cuzhaveli_rebuild_two(" SHAPE ", %zu, %zu, %p, %zu)", OF(shape), first, second, (void *)stripe->bytes,
+        stripe->length);
+    struct cuzhaveli_answer got = cuzhaveli_rebuild_two(shape, first, second, stripe->bytes, stripe->length);
+    struct cuzhaveli_answer wanted = second_refuse_two(shape, first, second, stripe->same_length);
+    if (!same(c, TWO, got, wanted))
+        return false;
+    if (got.refusal == 0) {
+        size_t column = CUZHAVELI_COLUMN_BYTES(shape);
+        memcpy(stripe->same + first * column, stripe->bytes + first * column, column);
+        memcpy(stripe->same + second * column, stripe->bytes + second * column, column);
+        if (!second_check_stripe(shape, stripe->same, stripe->same_length).clean)
+            return false;
+    }
+    return lent_agrees(stripe);
+}
+
+static bool open_run(struct caller *c)
+{
+    struct cuzhaveli_shape shape = any_shape(&c->random);
+    size_t lost = any_disk(&c->random, shape.disks);
+    uint32_t stripes = (uint32_t)any_number(&c->random);
+    SAY(c, "cuzhaveli_open_run(" SHAPE ", %zu, %u)", OF(shape), lost, stripes);
+    struct cuzhaveli_run_answer got = cuzhaveli_open_run(shape, lost, stripes);
+    struct cuzhaveli_run_answer wanted = second_open_run(shape, lost, stripes);
+    return same(c, OPEN, got.answer, wanted.answer) && same_run(got.run, wanted.run);
+}
+
+/* A record that steps and skips can lead to, mostly. */
+static struct cuzhaveli_run any_run(struct random *r)
+{
+    struct cuzhaveli_run run;
+    run.shape = any_shape(r);
+    run.lost = any_disk(r, run.shape.disks);
+    run.stripes = once_in(r, 4) ? (uint32_t)any_number(r) : (uint32_t)below(r, 6);
+    run.next = once_in(r, 8) ? (uint32_t)any_number(r) : run.stripes - (uint32_t)below(r, 3);
+    run.skipped = once_in(r, 8) ? (uint32_t)any_number(r) : (uint32_t)below(r, (size_t)run.next + 1 + once_in(r, 8));
+    return run;
+}
+
+/* The run's next stripe, mostly. */
+static uint64_t any_stripe(struct random *r, struct cuzhaveli_run run)
+{
+    if (!once_in(r, 6))
+        return run.next;
+    return once_in(r, 2) ? run.next + ((uint64_t)1 << 32) : any_number(r);
+}
+
+static bool step_run(struct caller *c)
+{
+    struct cuzhaveli_run run = any_run(&c->random), same_as = run;
+    uint64_t which = any_stripe(&c->random, run);
+    struct lent *stripe = &c->first, *column = &c->second;
+    lend_stripe(c, run.shape);
+    lend_column(c, run.shape);
+    SAY(c, "cuzhaveli_step_run(" RUN ", %ju, %p, %zu, %p, %zu)", OF_RUN(run), (uintmax_t)which, (void *)stripe->bytes,
+        stripe->length, (void *)column->bytes, column->length);
+    struct cuzhaveli_answer got =
+        cuzhaveli_step_run(&run, which, stripe->bytes, stripe->length, column->bytes, column->length);
+    struct cuzhaveli_answer wanted =
+        second_step_run(&same_as, which, stripe->same, stripe->same_length, column->same, column->same_length);
+    return same(c, STEP, got, wanted) && same_run(run, same_as) && lent_agrees(stripe) && lent_agrees(column);
+}
+
+static bool skip_stripe(struct caller *c)
+{
+    struct cuzhaveli_run run = any_run(&c->random), same_as = run;
+    uint64_t which = any_stripe(&c->random, run);
+    SAY(c, "cuzhaveli_skip_stripe(" RUN ", %ju)", OF_RUN(run), (uintmax_t)which);
+    struct cuzhaveli_answer got = cuzhaveli_skip_stripe(&run, which);
+    struct cuzhaveli_answer wanted = second_skip_stripe(&same_as, which);
+    return same(c, SKIP, got, wanted) && same_run(run, same_as);
+}
+
+static bool run_progress(struct caller *c)
+{
+    struct cuzhaveli_run run = any_run(&c->random), before = run;
+    SAY(c, "cuzhaveli_run_progress(" RUN ")", OF_RUN(run));
+    struct cuzhaveli_progress got = cuzhaveli_run_progress(&run);
+    struct cuzhaveli_progress wanted = second_run_progress(&before);
+    return same(c, PROGRESS, got.answer, wanted.answer) && got.over == wanted.over && got.cells == wanted.cells &&
+           same_run(run, before);
+}
+
+static bool resume_full_run(struct caller *c)
+{
+    struct cuzhaveli_run run = any_run(&c->random);
+    struct cuzhaveli_full_run old = {run.shape.width, run.shape.cell_size, run.lost, run.stripes, run.next};
+    struct cuzhaveli_answer none = {0, 0};
+    SAY(c, "cuzhaveli_resume_full_run of " RUN, OF_RUN(run));
+    return same(c, FULL, none, none) && same_run(cuzhaveli_resume_full_run(old), second_resume_full_run(old));
+}
+
+static bool resume_disks_run(struct caller *c)
+{
+    struct cuzhaveli_run run = any_run(&c->random);
+    struct cuzhaveli_disks_run old = {run.shape, run.lost, run.stripes, run.next};
+    struct cuzhaveli_answer none = {0, 0};
+    SAY(c, "cuzhaveli_resume_disks_run of " RUN, OF_RUN(run));
+    return same(c, DISKS, none, none) && same_run(cuzhaveli_resume_disks_run(old), second_resume_disks_run(old));
+}
+
+static bool same_bill(struct cuzhaveli_bill a, struct cuzhaveli_bill b)
+{
+    return a.first == b.first && a.second == b.second && a.third == b.third && a.cents == b.cents;
+}
+
+static uint64_t any_rate(struct random *r)
+{
+    return once_in(r, 16) ? any_number(r) : below(r, 1002);
+}
+
+static bool bill_bytes(struct caller *c)
+{
+    struct random *r = &c->random;
+    uint64_t bytes = once_in(r, 2) ? next_number(r) >> (9 + below(r, 55)) : any_number(r);
+    uint64_t first = any_rate(r), second = any_rate(r), third = any_rate(r);
+    SAY(c, "cuzhaveli_bill_bytes(%ju, %ju, %ju, %ju)", (uintmax_t)bytes, (uintmax_t)first, (uintmax_t)second,
+        (uintmax_t)third);
+    struct cuzhaveli_bill got = cuzhaveli_bill_bytes(bytes, first, second, third);
+    struct cuzhaveli_bill wanted = second_bill_bytes(bytes, first, second, third);
+    return same(c, BYTES, got.answer, wanted.answer) && same_bill(got, wanted);
+}
+
+static bool bill_run(struct caller *c)
+{
+    struct random *r = &c->random;
+    struct cuzhaveli_run run = any_run(r);
+    uint64_t first = any_rate(r), second = any_rate(r), third = any_rate(r);
+    SAY(c, "cuzhaveli_bill_run(" RUN ", %ju, %ju, %ju)", OF_RUN(run), (uintmax_t)first, (uintmax_t)second,
+        (uintmax_t)third);
+    struct cuzhaveli_bill got = cuzhaveli_bill_run(run, first, second, third);
+    struct cuzhaveli_bill wanted = second_bill_run(run, first, second, third);
+    return same(c, BILL, got.answer, wanted.answer) && same_bill(got, wanted);
+}
+
+const struct call CALL[CALLS] = {
+    [PLAN] = {"cuzhaveli_plan_disk", plan_disk},
+    [LIST] = {"cuzhaveli_read_list", read_list},
+    [JUDGE] = {"cuzhaveli_judge_plan", judge_plan},
+    [SPACE] = {"cuzhaveli_package_space", package_space},
+    [ENCODE] = {"cuzhaveli_encode_stripe", encode_stripe},
+    [CHECK] = {"cuzhaveli_check_stripe", check_stripe},
+    [ONE] = {"cuzhaveli_rebuild_one", rebuild_one},
+    [TWO] = {"cuzhaveli_rebuild_two", rebuild_two},
+    [OPEN] = {"cuzhaveli_open_run", open_run},
+    [STEP] = {"cuzhaveli_step_run", step_run},
+    [SKIP] = {"cuzhaveli_skip_stripe", skip_stripe},
+    [PROGRESS] = {"cuzhaveli_run_progress", run_progress},
+    [FULL] = {"cuzhaveli_resume_full_run", resume_full_run},
+    [DISKS] = {"cuzhaveli_resume_disks_run", resume_disks_run},
+    [BYTES] = {"cuzhaveli_bill_bytes", bill_bytes},
+    [BILL] = {"cuzhaveli_bill_run", bill_run},
+};

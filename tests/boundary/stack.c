@@ -1,0 +1,115 @@
+/* The stack that calls take: each runs on painted memory, and what is no longer painted was used. */
+
+#include "boundary.h"
+
+#include <stdio.h>
+#include <stdlib.h>
+#include <string.h>
+#include <ucontext.h>
+
+#define STACK (256 * 1024)
+#define PAINT 0xC7
+#define LONGEST (33 * 31 * 4096)
+
+static uint8_t *painted, *stripe, *column;
+static struct cuzhaveli_shape shape;
+static size_t lost, other;
+static ucontext_t here, there;
+static volatile uint8_t sink;
+
+static void nothing(void) { }
+static void plan_disk(void) { sink = cuzhaveli_plan_disk(shape.width, shape.disks, lost).answer.refusal; }
+static void read_list(void) { sink = cuzhaveli_read_list(shape.width, shape.disks, lost, column, CUZHAVELI_LIST_BYTES(shape.width, shape.disks)).refusal; }
+static void judge_plan(void) { sink = cuzhaveli_judge_plan(shape.width, shape.disks, lost, stripe, CUZHAVELI_PLAN_BYTES(shape.width)).answer.refusal; }
+static void package_space(void) { sink = cuzhaveli_package_space(shape, 1 << 30, 1 << 30).answer.refusal; }
+static void encode_stripe(void) { sink = cuzhaveli_encode_stripe(shape, stripe, CUZHAVELI_STRIPE_BYTES(shape)).refusal; }
+static void check_stripe(void) { sink = cuzhaveli_check_stripe(shape, stripe, CUZHAVELI_STRIPE_BYTES(shape)).answer.refusal; }
+static void rebuild_one(void) { sink = cuzhaveli_rebuild_one(shape, lost, stripe, CUZHAVELI_STRIPE_BYTES(shape), column, CUZHAVELI_COLUMN_BYTES(shape)).refusal; }
+static void rebuild_two(void) { sink = cuzhaveli_rebuild_two(shape, lost, other, stripe, CUZHAVELI_STRIPE_BYTES(shape)).refusal; }
+
+static void run_calls(void)
+{
+    struct cuzhaveli_run run = cuzhaveli_open_run(shape, lost, 2).run;
+    cuzhaveli_step_run(&run, 0, stripe, CUZHAVELI_STRIPE_BYTES(shape), column, CUZHAVELI_COLUMN_BYTES(shape));
+    cuzhaveli_skip_stripe(&run, 1);
+    cuzhaveli_run_progress(&run);
+    sink = cuzhaveli_bill_run(run, 1, 2, 3).answer.refusal;
+}
+
+static void records(void)
+{
+    struct cuzhaveli_full_run full = {5, 1, 1, 4, 2};
+    struct cuzhaveli_disks_run disks = {shape, 1, 4, 2};
+    sink = (uint8_t)(cuzhaveli_resume_full_run(full).next + cuzhaveli_resume_disks_run(disks).next);
+    sink = cuzhaveli_bill_bytes((uint64_t)1 << 50, 1, 2, 3).answer.refusal;
+}
+
+/* What the header promises of each call, in bytes, and the most that was measured. */
+static struct { const char *name; void (*make)(void); size_t promised, most; } MADE[] = {
+    {"cuzhaveli_plan_disk", plan_disk, 8192, 0},
+    {"cuzhaveli_read_list", read_list, 8192, 0},
+    {"cuzhaveli_judge_plan", judge_plan, 8192, 0},
+    {"cuzhaveli_package_space", package_space, 8192, 0},
+    {"cuzhaveli_encode_stripe", encode_stripe, 8192, 0},
+    {"cuzhaveli_check_stripe", check_stripe, 8192, 0},
+    {"cuzhaveli_rebuild_one", rebuild_one, 8192, 0},
+    {"cuzhaveli_rebuild_two", rebuild_two, 16384, 0}, /* its walk is recursive, two steps for each row */
+    {"calls on runs", run_calls, 8192, 0},
+    {"records and bills", records, 8192, 0},
+};
+#define KINDS (sizeof MADE / sizeof *MADE)
+
+/* The painted bytes that a function no longer leaves painted, counted from the top of its stack. */
+static size_t taken(void (*make)(void))
+{
+    memset(painted, PAINT, STACK);
+    getcontext(&there);
+    there.uc_stack.ss_sp = painted;
+    there.uc_stack.ss_size = STACK;
+    there.uc_link = &here;
+    makecontext(&there, make, 0);
+    swapcontext(&here, &there);
+    size_t left = 0;
+    while (left < STACK && painted[left] == PAINT)
+        left++;
+    return STACK - left;
+}
+
+/* Every call on one shape and loss. */
+static void measure(size_t before)
+{
+    for (size_t call = 0; call < KINDS; call++) {
+        size_t stack = taken(MADE[call].make) - before;
+        MADE[call].most = stack > MADE[call].most ? stack : MADE[call].most;
+    }
+}
+
+bool stack_is_small(void)
+{
+    static const size_t WIDTHS[] = {3, 7, 17, 31}, SIZES[] = {1, 64, 700, 4096};
+    bool small = true;
+    painted = malloc(STACK);
+    stripe = calloc(LONGEST, 1);
+    column = calloc(LONGEST, 1);
+    if (!painted || !stripe || !column) {
+        fprintf(stderr, "boundary: no memory for the measurement of the stack; free some\n");
+        exit(2);
+    }
+    size_t before = taken(nothing);
+    for (size_t i = 0; i < 16 * 4; i++) {
+        size_t width = WIDTHS[i % 4];
+        shape = (struct cuzhaveli_shape){width, i % 5 ? width : 2, SIZES[i / 4 % 4]};
+        lost = i / 16 == 0 ? 0 : i / 16 == 1 ? shape.disks - 1 : shape.disks;
+        other = i / 16 == 0 ? 1 : i / 16 == 1 ? 0 : i / 16 == 2 ? shape.disks + 1 : 1;
+        measure(before);
+    }
+    for (size_t call = 0; call < KINDS; call++) {
+        printf("stack %s: %zu bytes\n", MADE[call].name, MADE[call].most);
+        if (MADE[call].most > MADE[call].promised) {
+            printf("boundary: FAILED: %s takes more than the %zu bytes of stack that the header promises\n",
+                   MADE[call].name, MADE[call].promised);
+            small = false;
+        }
+    }
+    return small;
+}
