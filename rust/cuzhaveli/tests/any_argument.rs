@@ -1,0 +1,156 @@
+//! The safe calls on any argument: refused by number, nothing written, no panic.
+
+use cuzhaveli::ffi::{self, DisksRun, FullRun};
+use cuzhaveli::{bill, Refusal, RefusalKind, Run, Set, Shape, Step};
+
+const WIDTHS: [usize; 10] = [3, 5, 7, 11, 13, 17, 19, 23, 29, 31];
+const HUGE: [usize; 6] =
+    [1 << 32, (1 << 32) + 5, 1 << 63, usize::MAX - 4, usize::MAX - 1, usize::MAX];
+
+/// Every width with its fewest and its most data disks.
+fn shapes() -> impl Iterator<Item = Shape> {
+    let of = |(p, k)| Shape::new(p, k, 3).expect("within the limits");
+    WIDTHS.into_iter().flat_map(|p| [(p, 2), (p, p)]).map(of)
+}
+
+fn number<T: std::fmt::Debug>(result: Result<T, Refusal>) -> u8 {
+    result.expect_err("a refusal").number()
+}
+
+/// Lengths that a slice of this length must not have.
+fn other_lengths(right: usize) -> [usize; 5] {
+    [0, 1, right - 1, right + 1, 2 * right]
+}
+
+#[test]
+fn shapes_are_refused_in_the_order_1_13_2() {
+    for bad in HUGE.into_iter().chain([0, 1, 2, 4, 9, 32, 37]) {
+        assert_eq!(number(Shape::new(bad, bad, 0)), 1);
+        for p in WIDTHS.into_iter().filter(|p| bad < 2 || bad > *p) {
+            assert_eq!(number(Shape::new(p, bad, 0)), 13);
+        }
+        for size in HUGE.into_iter().chain([0, 4_097]) {
+            assert_eq!(number(Shape::new(31, 2, size)), 2);
+        }
+    }
+}
+
+#[test]
+fn a_slice_of_another_length_gives_5_and_stands() {
+    for shape in shapes() {
+        let (stripe, column) = (shape.stripe_len(), shape.column_len());
+        let mut run = shape.open_run(0, 1).unwrap();
+        for other in other_lengths(stripe) {
+            let mut bytes = vec![7; other];
+            let mut right = vec![9; column];
+            assert_eq!(number(shape.encode(&mut bytes)), 5);
+            assert_eq!(number(shape.is_clean(&bytes)), 5);
+            assert_eq!(number(shape.rebuild_two([0, 1], &mut bytes)), 5);
+            assert_eq!(number(shape.rebuild_one(0, &bytes, &mut right)), 5);
+            assert_eq!(number(run.step(0, &bytes, &mut right)), 5);
+            assert_eq!((bytes, right), (vec![7; other], vec![9; column]));
+        }
+        for other in other_lengths(column) {
+            let (bytes, mut part) = (vec![7; stripe], vec![9; other]);
+            assert_eq!(number(shape.rebuild_one(0, &bytes, &mut part)), 5);
+            assert_eq!(number(run.step(0, &bytes, &mut part)), 5);
+            assert_eq!(part, vec![9; other]);
+        }
+        for other in other_lengths(shape.width()) {
+            let step = Step { row: 0, set: Set::Row(0) };
+            assert_eq!(number(shape.judge(0, &vec![step; other])), 5);
+        }
+        for other in other_lengths(3 * shape.width()) {
+            assert_eq!(number(shape.judge_bytes(0, &vec![0; other])), 5);
+        }
+        assert_eq!(run, shape.open_run(0, 1).unwrap());
+    }
+}
+
+#[test]
+fn a_disk_that_is_not_there_gives_3() {
+    for shape in shapes() {
+        let (mut stripe, mut column) = (vec![7; shape.stripe_len()], vec![9; shape.column_len()]);
+        for disk in HUGE.into_iter().chain([shape.disks() + 2, 40]) {
+            assert_eq!(number(shape.plan(disk)), 3);
+            assert_eq!(number(shape.read_list(disk)), 3);
+            assert_eq!(number(shape.judge(disk, &[])), 3);
+            assert_eq!(number(shape.rebuild_one(disk, &stripe, &mut column)), 3);
+            assert_eq!(number(shape.rebuild_two([disk, disk], &mut stripe)), 3);
+            assert_eq!(number(shape.open_run(disk, 1)), 3);
+            assert_eq!(number(shape.resume_run(disk, 1, 0, 0)), 3);
+        }
+        assert_eq!(number(shape.rebuild_two([1, 1], &mut stripe)), 4);
+    }
+}
+
+#[test]
+fn records_of_other_software_are_tested() {
+    let shape = ffi::Shape { width: 5, disks: 4, cell_size: 512 };
+    let disks = DisksRun { shape, lost: 1, stripes: 9, next: 9 };
+    assert!(Run::resume_disks(disks).unwrap().is_over());
+    assert_eq!(number(Run::resume_disks(DisksRun { next: 10, ..disks })), 10);
+    assert_eq!(number(Run::resume_disks(DisksRun { lost: 6, ..disks })), 3);
+    let few = ffi::Shape { disks: 1, ..shape };
+    assert_eq!(number(Run::resume_disks(DisksRun { shape: few, ..disks })), 13);
+    let full = FullRun { width: 5, size: 512, disk: 1, stripes: 9, next: 9 };
+    assert!(Run::resume_full(full).unwrap().is_over());
+    assert_eq!(number(Run::resume_full(FullRun { width: 9, ..full })), 1);
+    assert_eq!(number(Run::resume_full(FullRun { size: 0, ..full })), 2);
+    assert_eq!(number(Run::resume_full(FullRun { next: u32::MAX, ..full })), 10);
+}
+
+#[test]
+fn bills_and_space_are_refused_by_number() {
+    let shape = Shape::new(31, 31, 4_096).unwrap();
+    assert_eq!(number(shape.space((1 << 48) + 1, 0)), 11);
+    assert_eq!(number(shape.space(u64::MAX, 0)), 11);
+    assert_eq!(number(bill(u64::MAX, [1_001, 0, 0])), 16);
+    assert_eq!(number(bill((1 << 54) + 1, [1_000, 0, 0])), 17);
+    let run = shape.resume_run(0, u32::MAX, u32::MAX, 0).unwrap();
+    assert_eq!(number(run.bill([0, 0, u64::MAX])), 16);
+    let whole = run.bill([1_000, 1_000, 1_000]).unwrap();
+    assert_eq!(whole.bands.iter().sum::<u64>(), run.cells_read() * 4_096);
+}
+
+#[test]
+fn every_disk_and_pair_comes_back_from_the_cells_read() {
+    for shape in shapes() {
+        let mut stripe: Vec<u8> = (0..shape.stripe_len()).map(|i| (i * 37 % 251) as u8).collect();
+        shape.encode(&mut stripe).unwrap();
+        for lost in 0..shape.disks() + 2 {
+            let list = shape.read_list(lost).unwrap();
+            let mut survivors = vec![0xEE; shape.stripe_len()];
+            for (disk, rows) in list.runs() {
+                for cell in rows.map(|row| shape.cell_range(row, disk)) {
+                    survivors[cell.clone()].copy_from_slice(&stripe[cell]);
+                }
+            }
+            let mut column = vec![0; shape.column_len()];
+            shape.rebuild_one(lost, &survivors, &mut column).unwrap();
+            assert_eq!(column, stripe[shape.disk_range(lost)]);
+            assert_eq!(list.len(), list.runs().map(|(_, rows)| rows.len()).sum::<usize>());
+            let plan = shape.plan(lost).unwrap();
+            let steps: Vec<Step> = plan.steps().collect();
+            assert_eq!(shape.judge(lost, &steps), Ok(plan.reads()));
+            assert_eq!(list.len(), plan.reads() as usize);
+            let other = (lost + 1) % (shape.disks() + 2);
+            let mut two = stripe.clone();
+            two[shape.disk_range(lost)].fill(0xEE);
+            two[shape.disk_range(other)].fill(0xEE);
+            shape.rebuild_two([lost, other], &mut two).unwrap();
+            assert_eq!(two, stripe);
+        }
+    }
+}
+
+#[test]
+fn a_refusal_says_what_was_wrong() {
+    let refusal = Shape::new(5, 5, 1).unwrap().judge(1, &[Step { row: 9, set: Set::Row(0) }; 5]);
+    let refusal = refusal.unwrap_err();
+    assert_eq!(refusal.kind(), RefusalKind::StepRange);
+    assert!(refusal.to_string().starts_with("refused, 6: "));
+    assert!(refusal.to_string().ends_with("(step 0)"));
+    let as_error: &dyn std::error::Error = &refusal;
+    assert_eq!(as_error.to_string(), refusal.to_string());
+}
