@@ -1,6 +1,6 @@
 #include "array.h"
 
-#include "library.h"
+#include "cuzhaveli.h"
 
 #include <jerasure.h>
 #include <liberation.h>
@@ -91,8 +91,8 @@ static double cells_of_plans(const struct Array *array)
 {
     double cells = 0;
     for (int disk = 0; disk < array->k; disk++) {
-        struct Plan plan = cuzhaveli_plan_disk(array->p, array->k, disk);
-        demand(plan.answer.number == 0, "the library refuses to plan");
+        struct cuzhaveli_plan plan = cuzhaveli_plan_disk(array->p, array->k, disk);
+        demand(plan.answer.refusal == 0, "the library refuses to plan");
         cells += plan.reads;
     }
     return cells / array->k;

@@ -1,6 +1,6 @@
 #include "calls.h"
 
-#include "library.h"
+#include "cuzhaveli.h"
 
 #include <isa-l.h>
 #include <jerasure.h>
@@ -8,42 +8,42 @@
 
 /* The library's calls. */
 
-static struct Shape shape_of(const struct Shelf *shelf)
+static struct cuzhaveli_shape shape_of(const struct Shelf *shelf)
 {
-    return (struct Shape){ shelf->array->p, shelf->array->k, shelf->s };
+    return (struct cuzhaveli_shape){ shelf->array->p, shelf->array->k, shelf->s };
 }
 
 static void our_encode(const struct Shelf *shelf, size_t number, const struct Loss *loss)
 {
     (void)loss;
-    struct Answer answer = cuzhaveli_encode_stripe(shape_of(shelf), stripe_at(shelf, number),
-                                                   shelf->stripe);
-    demand(answer.number == 0, "the library refuses to encode");
+    struct cuzhaveli_answer answer =
+        cuzhaveli_encode_stripe(shape_of(shelf), stripe_at(shelf, number), shelf->stripe);
+    demand(answer.refusal == 0, "the library refuses to encode");
 }
 
 static void our_check(const struct Shelf *shelf, size_t number, const struct Loss *loss)
 {
     (void)loss;
-    struct Checked checked = cuzhaveli_check_stripe(shape_of(shelf), stripe_at(shelf, number),
-                                                    shelf->stripe);
-    demand(checked.answer.number == 0, "the library refuses to check");
+    struct cuzhaveli_checked checked =
+        cuzhaveli_check_stripe(shape_of(shelf), stripe_at(shelf, number), shelf->stripe);
+    demand(checked.answer.refusal == 0, "the library refuses to check");
     demand(checked.clean == 1, "the library doesn't say that a clean stripe is clean");
 }
 
 static void our_rebuild_one(const struct Shelf *shelf, size_t number, const struct Loss *loss)
 {
-    struct Answer answer = cuzhaveli_rebuild_one(shape_of(shelf), loss->disks[0],
-                                                 stripe_at(shelf, number), shelf->stripe,
-                                                 column_at(shelf, number), shelf->column);
-    demand(answer.number == 0, "the library refuses to rebuild");
+    struct cuzhaveli_answer answer =
+        cuzhaveli_rebuild_one(shape_of(shelf), loss->disks[0], stripe_at(shelf, number),
+                              shelf->stripe, column_at(shelf, number), shelf->column);
+    demand(answer.refusal == 0, "the library refuses to rebuild");
 }
 
 static void our_rebuild_two(const struct Shelf *shelf, size_t number, const struct Loss *loss)
 {
-    struct Answer answer = cuzhaveli_rebuild_two(shape_of(shelf), loss->disks[0],
-                                                 loss->disks[1], stripe_at(shelf, number),
-                                                 shelf->stripe);
-    demand(answer.number == 0, "the library refuses to rebuild two disks");
+    struct cuzhaveli_answer answer =
+        cuzhaveli_rebuild_two(shape_of(shelf), loss->disks[0], loss->disks[1],
+                              stripe_at(shelf, number), shelf->stripe);
+    demand(answer.refusal == 0, "the library refuses to rebuild two disks");
 }
 
 /* Jerasure: the same code in the same layout, schedules built beforehand. */
@@ -217,8 +217,9 @@ static void compare_dirty(const struct Shelf *shelf, size_t number)
     uint8_t *stripe = stripe_at(shelf, number);
     size_t last = shelf->stripe - 1;
     stripe[last] ^= 1;
-    struct Checked checked = cuzhaveli_check_stripe(shape_of(shelf), stripe, shelf->stripe);
-    demand(checked.answer.number == 0 && checked.clean == 0,
+    struct cuzhaveli_checked checked =
+        cuzhaveli_check_stripe(shape_of(shelf), stripe, shelf->stripe);
+    demand(checked.answer.refusal == 0 && checked.clean == 0,
            "the library doesn't say that a dirty stripe is dirty");
     stripe[last] ^= 1;
 }

@@ -1,13 +1,11 @@
 //! Compares the library and the plan program with a second implementation.
 //!
 //! Arguments: the path of the plan program, then a seed if wanted.
-//! The groups stand in groups/, what they share in harness/.
-
-mod groups;
-mod harness;
 
 use std::path::PathBuf;
 use std::process::ExitCode;
+
+use second::{groups, harness};
 
 const SEED: u64 = 20_000_831;
 

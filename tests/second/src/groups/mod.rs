@@ -1,13 +1,13 @@
 //! The groups of comparisons, in the order in which they run.
 //!
-//! A group is a folder: `calls` declares its calls of the library, `model` is the second
+//! A group is a folder: `calls` makes its calls of the library, `model` is the second
 //! implementation of them, `checks` compares the two. A name in the list below adds the folder.
 
 use crate::harness::runner::Check;
 
 macro_rules! groups {
     ($($folder:ident,)*) => {
-        $(mod $folder;)*
+        $(pub mod $folder;)*
 
         /// Each group's folder and what runs its comparisons.
         pub const GROUPS: &[(&str, Check)] = &[$((stringify!($folder), $folder::checks::run),)*];

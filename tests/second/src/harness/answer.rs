@@ -1,12 +1,6 @@
-//! The parts of an answer that many calls share, as the library lays them out.
+//! The parts of an answer that many calls share.
 
-/// A refusal's number, 0 for none, and its place.
-#[repr(C)]
-#[derive(Clone, Copy, Debug, Default, PartialEq, Eq)]
-pub struct Answer {
-    pub refusal: u8,
-    pub place: u32,
-}
+pub use crate::ffi::{Answer, YesNo as Yes};
 
 pub const ACCEPTED: Answer = Answer { refusal: 0, place: 0 };
 
@@ -17,15 +11,10 @@ impl Answer {
     }
 }
 
-/// A yes or no; kept as the library's byte, so that no value of it can mislead.
-#[repr(transparent)]
-#[derive(Clone, Copy, Debug, Default, PartialEq)]
-pub struct Yes(u8);
-
-pub const NO: Yes = Yes(0);
-pub const YES: Yes = Yes(1);
+pub const NO: Yes = Yes::NO;
+pub const YES: Yes = Yes::YES;
 
 /// The byte that stands for a yes or no.
 pub fn yes(holds: bool) -> Yes {
-    Yes(holds as u8)
+    holds.into()
 }

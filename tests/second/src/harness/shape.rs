@@ -1,13 +1,7 @@
 //! The shape of an array's stripes, as the library takes it.
 
 /// The code's width p, which is the number of rows; the number k of data disks; the cell size s.
-#[repr(C)]
-#[derive(Clone, Copy, Debug, Default, PartialEq)]
-pub struct Shape {
-    pub width: usize,
-    pub disks: usize,
-    pub cell_size: usize,
-}
+pub use crate::ffi::Shape;
 
 impl Shape {
     pub fn new(width: usize, disks: usize, cell_size: usize) -> Shape {

@@ -28,7 +28,7 @@ pub fn bill_bytes(bytes: u64, rates: [u64; 3]) -> Bill {
         bands[band] = taken as u64;
         charge += taken * rates[band] as u128;
     }
-    Bill { answer: ACCEPTED, bands, cents: charge.div_ceil(GIB) as u64 }
+    Bill::of(bands, charge.div_ceil(GIB) as u64)
 }
 
 /// The bill of a run.

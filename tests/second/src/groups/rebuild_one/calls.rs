@@ -1,22 +1,12 @@
 //! The library's call that rebuilds one lost disk.
 
+use crate::ffi;
 use crate::harness::answer::Answer;
 use crate::harness::Shape;
-
-extern "C" {
-    fn cuzhaveli_rebuild_one(
-        shape: Shape,
-        lost: usize,
-        stripe: *const u8,
-        stripe_len: usize,
-        column: *mut u8,
-        column_len: usize,
-    ) -> Answer;
-}
 
 /// Rebuilds a disk of a stripe into a column.
 pub fn rebuild_one(shape: Shape, lost: usize, stripe: &[u8], column: &mut [u8]) -> Answer {
     let (stripe, stripe_len) = (stripe.as_ptr(), stripe.len());
     let (column, column_len) = (column.as_mut_ptr(), column.len());
-    unsafe { cuzhaveli_rebuild_one(shape, lost, stripe, stripe_len, column, column_len) }
+    unsafe { ffi::cuzhaveli_rebuild_one(shape, lost, stripe, stripe_len, column, column_len) }
 }

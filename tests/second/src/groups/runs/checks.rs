@@ -79,10 +79,10 @@ fn examples(group: &mut Group, random: &mut Random) {
     group.same(|| "open_run(5, 5, 1, disk 1), no stripes".to_string(), ACCEPTED, answer);
     let over = Progress { answer: ACCEPTED, over: YES, cells: 0 };
     group.same(|| "no stripes: over when opened".to_string(), over, run_progress(&run));
-    let mut run = Run { shape, lost: 1, stripes: 4, next: 4 };
+    let mut run = Run { shape, lost: 1, stripes: 4, next: 4, skipped: 0 };
     let over = Progress { answer: ACCEPTED, over: YES, cells: 4 * 19 };
     group.same(|| "N = 4, next 4: can be read".to_string(), over, run_progress(&run));
-    let part = Run { shape: Shape::new(7, 5, 1), lost: 5, stripes: 4, next: 3 };
+    let part = Run { shape: Shape::new(7, 5, 1), lost: 5, stripes: 4, next: 3, skipped: 0 };
     let open = Progress { answer: ACCEPTED, over: NO, cells: 3 * 35 };
     group.same(|| "lost P of five disks in seven bays".to_string(), open, run_progress(&part));
     let mut stripe = Lent::noise(35, random);
@@ -107,7 +107,7 @@ fn old_examples(group: &mut Group) {
         let run = resume_full_run(FullRun { width, size, disk, stripes, next });
         let shape = Shape { width, disks: width, cell_size: size };
         let call = || format!("resume_full_run({width}, {size}, {disk}, {stripes}, {next})");
-        group.same(call, Run { shape, lost: disk, stripes, next }, run);
+        group.same(call, Run { shape, lost: disk, stripes, next, skipped: 0 }, run);
         group.same(|| format!("{}, progress", call()), expected, run_progress(&run));
     }
 }
@@ -164,7 +164,7 @@ fn last_stripes(group: &mut Group, random: &mut Random) {
     for next in [u32::MAX - 2, u32::MAX - 1, u32::MAX] {
         for (p, k) in arrays::some() {
             let shape = Shape::new(p, k, 1);
-            let mut run = Run { shape, lost: 1, stripes: u32::MAX, next };
+            let mut run = Run { shape, lost: 1, stripes: u32::MAX, next, skipped: 0 };
             with_lengths(group, random, &mut run, next.into(), (stripe_length(shape), p));
         }
     }
@@ -190,7 +190,7 @@ fn refused_records(group: &mut Group, random: &mut Random) {
         let [cut, _] = numbers::cut_shapes(shape);
         for lost in numbers::few_disks(shape.width, shape.disks) {
             refused_opening(group, shape, lost);
-            let mut run = Run { shape, lost, stripes: 7, next: 7 };
+            let mut run = Run { shape, lost, stripes: 7, next: 7, skipped: 0 };
             with_lengths(group, random, &mut run, 7, (stripe_length(cut), column_length(cut)));
         }
     }
@@ -198,7 +198,7 @@ fn refused_records(group: &mut Group, random: &mut Random) {
 
 fn refused_opening(group: &mut Group, shape: Shape, lost: usize) {
     same_opening(group, shape, lost, 7);
-    same_progress(group, &Run { shape, lost, stripes: 7, next: 7 });
+    same_progress(group, &Run { shape, lost, stripes: 7, next: 7, skipped: 0 });
 }
 
 /// A record that other software filled in, mostly near what is accepted, and a step on it.
@@ -211,7 +211,7 @@ fn any_record(group: &mut Group, random: &mut Random) {
     let size = if odd_size { *random.pick(&numbers::any_sizes()) } else { 1 + random.below(4) };
     let lost = if odd_lost { random.below(70) } else { random.below(k + 2) };
     let (stripes, next) = random_place(random);
-    let mut run = Run { shape: Shape::new(width, disks, size), lost, stripes, next };
+    let mut run = Run { shape: Shape::new(width, disks, size), lost, stripes, next, skipped: 0 };
     any_step(group, random, &mut run, Shape::new(p, k, size.min(4)));
 }
 

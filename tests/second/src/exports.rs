@@ -1,0 +1,150 @@
+//! The second implementation for C: the library's calls under the name `second_..`, for tests/boundary.
+//!
+//! Of the rebuild of two disks it has the refusals alone. The caller of a function with a slice owes
+//! a pointer to as many bytes as it says.
+
+use std::slice::{from_raw_parts, from_raw_parts_mut};
+
+use crate::ffi::{
+    Answer, Bill, Checked, DisksRun, FullRun, Judged, Plan, Progress, Run, RunAnswer, Shape, Space,
+};
+use crate::groups::{
+    billing, judge, plan, read_list, rebuild_one, rebuild_two, runs, space, stripes,
+};
+
+#[no_mangle]
+pub extern "C" fn second_plan_disk(width: usize, disks: usize, lost: usize) -> Plan {
+    plan::model::plan_disk(width, disks, lost)
+}
+
+/// # Safety
+/// `list` is lent: see above.
+#[no_mangle]
+pub unsafe extern "C" fn second_read_list(
+    width: usize,
+    disks: usize,
+    lost: usize,
+    list: *mut u8,
+    list_len: usize,
+) -> Answer {
+    read_list::model::read_list(width, disks, lost, from_raw_parts_mut(list, list_len))
+}
+
+/// # Safety
+/// `plan` is lent: see above.
+#[no_mangle]
+pub unsafe extern "C" fn second_judge_plan(
+    width: usize,
+    disks: usize,
+    lost: usize,
+    plan: *const u8,
+    plan_len: usize,
+) -> Judged {
+    judge::model::judge_plan(width, disks, lost, from_raw_parts(plan, plan_len))
+}
+
+#[no_mangle]
+pub extern "C" fn second_package_space(shape: Shape, bytes: u64, free: u64) -> Space {
+    space::model::package_space(shape, bytes, free)
+}
+
+/// # Safety
+/// `stripe` is lent: see above.
+#[no_mangle]
+pub unsafe extern "C" fn second_encode_stripe(
+    shape: Shape,
+    stripe: *mut u8,
+    stripe_len: usize,
+) -> Answer {
+    stripes::model::encode_stripe(shape, from_raw_parts_mut(stripe, stripe_len))
+}
+
+/// # Safety
+/// `stripe` is lent: see above.
+#[no_mangle]
+pub unsafe extern "C" fn second_check_stripe(
+    shape: Shape,
+    stripe: *const u8,
+    stripe_len: usize,
+) -> Checked {
+    stripes::model::check_stripe(shape, from_raw_parts(stripe, stripe_len))
+}
+
+/// # Safety
+/// `stripe` and `column` are lent: see above.
+#[no_mangle]
+pub unsafe extern "C" fn second_rebuild_one(
+    shape: Shape,
+    lost: usize,
+    stripe: *const u8,
+    stripe_len: usize,
+    column: *mut u8,
+    column_len: usize,
+) -> Answer {
+    let stripe = from_raw_parts(stripe, stripe_len);
+    rebuild_one::model::rebuild_one(shape, lost, stripe, from_raw_parts_mut(column, column_len))
+}
+
+#[no_mangle]
+pub extern "C" fn second_refuse_two(
+    shape: Shape,
+    first: usize,
+    second: usize,
+    stripe_len: usize,
+) -> Answer {
+    rebuild_two::model::rebuild_two(shape, first, second, stripe_len)
+}
+
+#[no_mangle]
+pub extern "C" fn second_open_run(shape: Shape, lost: usize, stripes: u32) -> RunAnswer {
+    runs::model::open_run(shape, lost, stripes)
+}
+
+/// # Safety
+/// `run`, `stripe` and `column` are lent: see above.
+#[no_mangle]
+pub unsafe extern "C" fn second_step_run(
+    run: *mut Run,
+    which: u64,
+    stripe: *const u8,
+    stripe_len: usize,
+    column: *mut u8,
+    column_len: usize,
+) -> Answer {
+    let stripe = from_raw_parts(stripe, stripe_len);
+    runs::model::step_run(&mut *run, which, stripe, from_raw_parts_mut(column, column_len))
+}
+
+/// # Safety
+/// `run` is lent: see above.
+#[no_mangle]
+pub unsafe extern "C" fn second_skip_stripe(run: *mut Run, which: u64) -> Answer {
+    runs::model::skip_stripe(&mut *run, which)
+}
+
+/// # Safety
+/// `run` is lent: see above.
+#[no_mangle]
+pub unsafe extern "C" fn second_run_progress(run: *const Run) -> Progress {
+    runs::model::run_progress(&*run)
+}
+
+#[no_mangle]
+pub extern "C" fn second_resume_full_run(old: FullRun) -> Run {
+    runs::model::resume_full_run(old)
+}
+
+#[no_mangle]
+pub extern "C" fn second_resume_disks_run(old: DisksRun) -> Run {
+    runs::model::resume_disks_run(old)
+}
+
+#[no_mangle]
+pub extern "C" fn second_bill_bytes(bytes: u64, first: u64, second: u64, third: u64) -> Bill {
+    billing::model::bill_bytes(bytes, [first, second, third])
+}
+
+#[no_mangle]
+pub extern "C" fn second_bill_run(run: Run, first: u64, second: u64, third: u64) -> Bill {
+    billing::model::bill_run(&run, [first, second, third])
+}
