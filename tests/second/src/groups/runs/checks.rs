@@ -4,7 +4,7 @@
 use super::calls::{
     open_run, resume_full_run, run_progress, step_run, FullRun, Opened, Progress, Run,
 };
-use super::model;
+use super::{model, skips};
 use crate::harness::answer::{Answer, ACCEPTED, NO, YES};
 use crate::harness::model::{column_length, disk_place, stripe_length, WIDTHS};
 use crate::harness::stripes::clean_stripe;
@@ -39,6 +39,7 @@ pub fn run(setting: &mut Setting, group: &mut Group) {
     for _ in 0..OLD_ROUNDS {
         old_record(group, random);
     }
+    skips::check(group, random);
     little_stack(group, random);
 }
 
