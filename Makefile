@@ -1,0 +1,73 @@
+# Builds the library and hands it to its users. What computes is the proved archive alone; nothing here is proved.
+#
+#   make                         build/libcuzhaveli.a, proved and compiled by the Rattle kit
+#   make LIB=FILE                the same from a ready archive, without the kit
+#   make examples                builds and runs examples/ from a scratch install, and compares their output
+#   make install PREFIX= DESTDIR=   header, archive and cuzhaveli.pc (PREFIX is /usr/local if not given)
+#   make uninstall PREFIX= DESTDIR=
+#   make dist                    build/cuzhaveli-VERSION-x86_64-linux.tar.gz, after .ci/run
+#   make clean                   removes build/
+
+VERSION = 0.1.0
+PREFIX = /usr/local
+DESTDIR =
+LIB =
+CFLAGS = -O2
+PKG_CONFIG = pkg-config
+
+archive = build/libcuzhaveli.a
+scratch = $(CURDIR)/build/scratch
+warnings = -std=c99 -Wall -Wextra -pedantic -Werror
+dist = cuzhaveli-$(VERSION)-x86_64-linux
+
+.PHONY: all examples install uninstall dist clean FORCE
+.DELETE_ON_ERROR:
+
+all: $(archive)
+
+ifeq ($(LIB),)
+$(archive): crates.txt $(shell find crates -name '*.rt' -o -name '*.antt')
+	@command -v rt >/dev/null || { echo "make: the library is built by the Rattle kit, whose command rt is not on PATH; install the kit, or take a ready archive: make LIB=FILE" >&2; exit 1; }
+	@echo "make: proving and compiling the library: 6 to 10 minutes the first time, then only what changed; build/staticlib.log says how far"
+	@mkdir -p build
+	@rt staticlib cuzhaveli >build/staticlib.log 2>&1 || { tail -n 20 build/staticlib.log >&2; echo "make: the library was not built; the lines above are the end of build/staticlib.log" >&2; exit 1; }
+	@cp target/staticlib/libcuzhaveli.a $@
+	@echo "make: wrote $@"
+else
+$(archive): FORCE
+	@[ -f "$(LIB)" ] || { echo "make: LIB is $(LIB), which is no file; give the path of libcuzhaveli.a" >&2; exit 1; }
+	@mkdir -p build
+	@cmp -s "$(LIB)" $@ || cp "$(LIB)" $@
+endif
+
+install: $(archive)
+	@install -d "$(DESTDIR)$(PREFIX)/include" "$(DESTDIR)$(PREFIX)/lib/pkgconfig"
+	@install -m 644 include/cuzhaveli.h "$(DESTDIR)$(PREFIX)/include/"
+	@install -m 644 $(archive) "$(DESTDIR)$(PREFIX)/lib/"
+	@sed 's|@PREFIX@|$(PREFIX)|; s|@VERSION@|$(VERSION)|' cuzhaveli.pc.in >"$(DESTDIR)$(PREFIX)/lib/pkgconfig/cuzhaveli.pc"
+	@echo "make: installed header, archive and cuzhaveli.pc under $(DESTDIR)$(PREFIX)"
+
+uninstall:
+	rm -f "$(DESTDIR)$(PREFIX)/include/cuzhaveli.h" "$(DESTDIR)$(PREFIX)/lib/libcuzhaveli.a" "$(DESTDIR)$(PREFIX)/lib/pkgconfig/cuzhaveli.pc"
+
+examples: $(archive)
+	@rm -rf "$(scratch)" && mkdir -p "$(scratch)"
+	@$(MAKE) -s install PREFIX="$(scratch)/usr" DESTDIR=
+	@CC="$(CC)" CFLAGS="$(CFLAGS) $(warnings)" PKG_CONFIG="$(PKG_CONFIG)" examples/run "$(scratch)"
+
+# The archive and what belongs to it, with the sums, the kit's identity and the gate's log.
+dist: $(archive)
+	@[ -f build/gate.log ] || { echo "make: no build/gate.log, which goes into the archive; run .ci/run first" >&2; exit 1; }
+	@command -v rt >/dev/null || { echo "make: the kit's identity goes into the archive, and its command rt is not on PATH" >&2; exit 1; }
+	@rm -rf build/$(dist) && mkdir -p build/$(dist)
+	@$(MAKE) -s install PREFIX=/usr DESTDIR="$(CURDIR)/build/$(dist)"
+	@mv build/$(dist)/usr/* build/$(dist)/ && rmdir build/$(dist)/usr
+	@sed 's|@PREFIX@|$${pcfiledir}/../..|; s|@VERSION@|$(VERSION)|' cuzhaveli.pc.in >build/$(dist)/lib/pkgconfig/cuzhaveli.pc
+	@cp -r README.md docs examples rust build/$(dist)/ && rm -rf build/$(dist)/rust/*/target
+	@rt version >build/$(dist)/KIT && cp build/gate.log build/$(dist)/
+	@cd build/$(dist) && find . -type f ! -name SHA256SUMS | LC_ALL=C sort | xargs sha256sum >SHA256SUMS
+	@cd build && tar --sort=name --mtime=@0 --owner=0 --group=0 --numeric-owner -cf - $(dist) | gzip -n >$(dist).tar.gz
+	@sha256sum build/$(dist).tar.gz
+
+clean:
+	rm -rf build
