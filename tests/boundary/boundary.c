@@ -2,8 +2,11 @@
  *
  * Usage: boundary [CALLS [SEED]]
  * Four threads make the calls; each lent slice ends at a protected page in one half of the calls, and begins at one in
- * the other. Prints which refusals each call gave, and the stack that it took. Exit status 1 if an answer or a byte
- * differs, if a call touches memory that it was not lent, or if one takes more stack than the header promises. */
+ * the other. Prints which refusals each call gave. Exit status 1 if an answer or a byte differs, or if a call touches
+ * memory that it was not lent.
+ *
+ * Usage: boundary stack
+ * Measures and prints the stack that each call takes. Exit status 1 if one takes more than the header promises. */
 
 #include "boundary.h"
 
@@ -11,6 +14,7 @@
 #include <signal.h>
 #include <stdio.h>
 #include <stdlib.h>
+#include <string.h>
 #include <unistd.h>
 
 #define THREADS 4
@@ -24,7 +28,7 @@ static void outside(int number)
     (void)number;
     char text[600];
     int length = snprintf(text, sizeof text, "boundary: FAILED: memory outside what was lent was touched in %s (seed %ju)\n",
-                          current ? current->what : "the measurement of the stack", (uintmax_t)seed);
+                          current ? current->what : "no call", (uintmax_t)seed);
     if (write(1, text, (size_t)length) < 0)
         _exit(2);
     _exit(1);
@@ -63,8 +67,10 @@ static void print_refusals(void)
 int main(int argc, char **argv)
 {
     pthread_t threads[THREADS];
+    if (argc == 2 && strcmp(argv[1], "stack") == 0)
+        return stack_is_small() ? 0 : 1;
     if (argc > 3 || (argc > 1 && (calls = strtoull(argv[1], NULL, 10)) == 0)) {
-        fprintf(stderr, "usage: boundary [CALLS [SEED]]\n");
+        fprintf(stderr, "usage: boundary [CALLS [SEED]]\n       boundary stack\n");
         return 2;
     }
     if (argc > 2)
@@ -87,5 +93,5 @@ int main(int argc, char **argv)
         pthread_join(threads[t], NULL);
     print_refusals();
     printf("boundary: %ju calls by %d threads agree\n", (uintmax_t)(calls / THREADS * THREADS), THREADS);
-    return stack_is_small() ? 0 : 1;
+    return 0;
 }
