@@ -28,7 +28,7 @@ all: $(archive)
 ifeq ($(LIB),)
 $(archive): crates.txt $(shell find crates -name '*.rt' -o -name '*.antt')
 	@command -v rt >/dev/null || { echo "make: the library is built by the Rattle kit, whose command rt is not on PATH; install the kit, or take a ready archive: make LIB=FILE" >&2; exit 1; }
-	@echo "make: proving and compiling the library: 6 to 10 minutes the first time, then only what changed; build/staticlib.log says how far"
+	@echo "make: proving and compiling the library: 3 to 5 minutes on two cores the first time, then only what changed; build/staticlib.log says how far"
 	@mkdir -p build
 	@rt staticlib cuzhaveli >build/staticlib.log 2>&1 || { tail -n 20 build/staticlib.log >&2; echo "make: the library was not built; the lines above are the end of build/staticlib.log" >&2; exit 1; }
 	@cp target/staticlib/libcuzhaveli.a $@
