@@ -58,6 +58,7 @@ examples: $(archive)
 # The archive and what belongs to it, with the sums, the kit's identity and the gate's log.
 dist: $(archive)
 	@[ -f build/gate.log ] || { echo "make: no build/gate.log, which goes into the archive; run .ci/run first" >&2; exit 1; }
+	@grep -q "$$(sha256sum <$(archive) | cut -d ' ' -f 1)" build/gate.log || { echo "make: $(archive) is not the one that build/gate.log tells of; run .ci/run again" >&2; exit 1; }
 	@command -v rt >/dev/null || { echo "make: the kit's identity goes into the archive, and its command rt is not on PATH" >&2; exit 1; }
 	@rm -rf build/$(dist) && mkdir -p build/$(dist)
 	@$(MAKE) -s install PREFIX=/usr DESTDIR="$(CURDIR)/build/$(dist)"

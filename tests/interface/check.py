@@ -15,6 +15,7 @@ call must be those that it gave in the random calls. Exit status 1 if something 
 
 import pathlib
 import re
+import shutil
 import subprocess
 import sys
 
@@ -223,6 +224,9 @@ def check_header(structs, folder):
     (folder / "header.c").write_text(declarations + "    total +=" + uses)
     (folder / "header.cc").write_text((folder / "header.c").read_text())
     for compiler, standard in STANDARDS:
+        if not shutil.which(compiler):
+            print(f"interface: no {compiler} on this machine, so the header is not tried as {standard}")
+            continue
         source = folder / ("header.c" if compiler == "gcc" else "header.cc")
         strict = [f"-std={standard}", "-Wall", "-Wextra", "-pedantic", "-Werror", "-Wno-uninitialized", "-fsyntax-only"]
         compiles([compiler, *strict, f"-I{HEADER.parent}", source], f"the header does not compile as {standard}", HEADER,
