@@ -1,9 +1,10 @@
 # Builds the library and hands it to its users. What computes is the proved archive alone; nothing here is proved.
 #
-#   make                         build/libcuzhaveli.a, proved and compiled by the Rattle kit
-#   make LIB=FILE                the same from a ready archive, without the kit
+#   make                         build/libcuzhaveli.a, proved and compiled by the Rattle kit, and build/libcuzhaveli_plans.a,
+#                                planner and judge alone, for programs that move no bytes of a stripe
+#   make LIB=FILE                the same from a ready libcuzhaveli.a with the other one beside it, without the kit
 #   make examples                builds and runs examples/ from a scratch install, and compares their output
-#   make install PREFIX= DESTDIR=   header, archive and cuzhaveli.pc (PREFIX is /usr/local if not given)
+#   make install PREFIX= DESTDIR=   header, archives and cuzhaveli.pc (PREFIX is /usr/local if not given)
 #   make uninstall PREFIX= DESTDIR=
 #   make dist                    build/cuzhaveli-VERSION-x86_64-linux.tar.gz, after .ci/run
 #   make clean                   removes build/
@@ -15,7 +16,7 @@ LIB =
 CFLAGS = -O2
 PKG_CONFIG = pkg-config
 
-archive = build/libcuzhaveli.a
+archives = build/libcuzhaveli.a build/libcuzhaveli_plans.a
 scratch = $(CURDIR)/build/scratch
 warnings = -std=c99 -Wall -Wextra -pedantic -Werror
 dist = cuzhaveli-$(VERSION)-x86_64-linux
@@ -23,42 +24,43 @@ dist = cuzhaveli-$(VERSION)-x86_64-linux
 .PHONY: all examples install uninstall dist clean FORCE
 .DELETE_ON_ERROR:
 
-all: $(archive)
+all: $(archives)
 
 ifeq ($(LIB),)
-$(archive): crates.txt $(shell find crates -name '*.rt' -o -name '*.antt')
+build/lib%.a: crates.txt $(shell find crates -name '*.rt' -o -name '*.antt')
 	@command -v rt >/dev/null || { echo "make: the library is built by the Rattle kit, whose command rt is not on PATH; install the kit, or take a ready archive: make LIB=FILE" >&2; exit 1; }
-	@echo "make: proving and compiling the library: 3 to 5 minutes on two cores the first time, then only what changed; build/staticlib.log says how far"
+	@echo "make: proving and compiling $*: 3 to 5 minutes on two cores the first time, then only what changed; build/$*.log says how far"
 	@mkdir -p build
-	@rt staticlib cuzhaveli >build/staticlib.log 2>&1 || { tail -n 20 build/staticlib.log >&2; echo "make: the library was not built; the lines above are the end of build/staticlib.log" >&2; exit 1; }
-	@cp target/staticlib/libcuzhaveli.a $@
+	@rt staticlib $* >build/$*.log 2>&1 || { tail -n 20 build/$*.log >&2; echo "make: $@ was not built; the lines above are the end of build/$*.log" >&2; exit 1; }
+	@cp target/staticlib/lib$*.a $@
 	@echo "make: wrote $@"
+build/libcuzhaveli_plans.a: build/libcuzhaveli.a
 else
-$(archive): FORCE
-	@[ -f "$(LIB)" ] || { echo "make: LIB is $(LIB), which is no file; give the path of libcuzhaveli.a" >&2; exit 1; }
+build/lib%.a: FORCE
+	@[ -f "$(dir $(LIB))lib$*.a" ] || { echo "make: LIB is $(LIB), and there is no $(dir $(LIB))lib$*.a; give the path of libcuzhaveli.a, with libcuzhaveli_plans.a beside it" >&2; exit 1; }
 	@mkdir -p build
-	@cmp -s "$(LIB)" $@ || cp "$(LIB)" $@
+	@cmp -s "$(dir $(LIB))lib$*.a" $@ || cp "$(dir $(LIB))lib$*.a" $@
 endif
 
-install: $(archive)
+install: $(archives)
 	@install -d "$(DESTDIR)$(PREFIX)/include" "$(DESTDIR)$(PREFIX)/lib/pkgconfig"
 	@install -m 644 include/cuzhaveli.h "$(DESTDIR)$(PREFIX)/include/"
-	@install -m 644 $(archive) "$(DESTDIR)$(PREFIX)/lib/"
+	@install -m 644 $(archives) "$(DESTDIR)$(PREFIX)/lib/"
 	@sed 's|@PREFIX@|$(PREFIX)|; s|@VERSION@|$(VERSION)|' cuzhaveli.pc.in >"$(DESTDIR)$(PREFIX)/lib/pkgconfig/cuzhaveli.pc"
-	@echo "make: installed header, archive and cuzhaveli.pc under $(DESTDIR)$(PREFIX)"
+	@echo "make: installed header, archives and cuzhaveli.pc under $(DESTDIR)$(PREFIX)"
 
 uninstall:
-	rm -f "$(DESTDIR)$(PREFIX)/include/cuzhaveli.h" "$(DESTDIR)$(PREFIX)/lib/libcuzhaveli.a" "$(DESTDIR)$(PREFIX)/lib/pkgconfig/cuzhaveli.pc"
+	rm -f "$(DESTDIR)$(PREFIX)/include/cuzhaveli.h" "$(DESTDIR)$(PREFIX)/lib/libcuzhaveli.a" "$(DESTDIR)$(PREFIX)/lib/libcuzhaveli_plans.a" "$(DESTDIR)$(PREFIX)/lib/pkgconfig/cuzhaveli.pc"
 
-examples: $(archive)
+examples: $(archives)
 	@rm -rf "$(scratch)" && mkdir -p "$(scratch)"
 	@$(MAKE) -s install PREFIX="$(scratch)/usr" DESTDIR=
 	@CC="$(CC)" CFLAGS="$(CFLAGS) $(warnings)" PKG_CONFIG="$(PKG_CONFIG)" examples/run "$(scratch)"
 
 # The archive and what belongs to it, with the sums, the kit's identity and the gate's log.
-dist: $(archive)
+dist: $(archives)
 	@[ -f build/gate.log ] || { echo "make: no build/gate.log, which goes into the archive; run .ci/run first" >&2; exit 1; }
-	@grep -q "$$(sha256sum <$(archive) | cut -d ' ' -f 1)" build/gate.log || { echo "make: $(archive) is not the one that build/gate.log tells of; run .ci/run again" >&2; exit 1; }
+	@for one in $(archives); do grep -q "$$(sha256sum <$$one | cut -d ' ' -f 1)" build/gate.log || { echo "make: $$one is not the one that build/gate.log tells of; run .ci/run again" >&2; exit 1; }; done
 	@command -v rt >/dev/null || { echo "make: the kit's identity goes into the archive, and its command rt is not on PATH" >&2; exit 1; }
 	@rm -rf build/$(dist) && mkdir -p build/$(dist)
 	@$(MAKE) -s install PREFIX=/usr DESTDIR="$(CURDIR)/build/$(dist)"

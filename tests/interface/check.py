@@ -1,14 +1,15 @@
 #!/usr/bin/env python3
 """Holds the interface that users see to the proved source, field by field.
 
-Usage: tests/interface/check.py LIBRARY FOLDER BOUNDARY
-  LIBRARY: libcuzhaveli.a; FOLDER: an existing folder for what is compiled;
-  BOUNDARY: what tests/boundary printed.
+Usage: tests/interface/check.py ARCHIVES FOLDER BOUNDARY
+  ARCHIVES: the folder of libcuzhaveli.a and libcuzhaveli_plans.a; FOLDER: an existing folder for
+  what is compiled; BOUNDARY: what tests/boundary printed.
 
 The exports of crates/cuzhaveli/src/lib.rt and the #[repr(C)] structs that they use are the
 reference. include/cuzhaveli.h and rust/cuzhaveli/src/ffi.rs must declare the same calls and
-structs, with the same sizes and offsets; LIBRARY must define exactly these calls, hold no
-data, and need nothing but memcpy and memset; the refusals must have one set of names and
+structs, with the same sizes and offsets; libcuzhaveli.a must define exactly these calls, and
+libcuzhaveli_plans.a those of crates/cuzhaveli_plans, which must be among them; an archive must hold
+no data and need nothing but memcpy and memset; the refusals must have one set of names and
 numbers in the header, the crate and the documents; the refusals that the header names for a
 call must be those that it gave in the random calls. Exit status 1 if something differs.
 """
@@ -21,6 +22,7 @@ import sys
 
 TOP = pathlib.Path(__file__).resolve().parents[2]
 EXPORTS = TOP / "crates/cuzhaveli/src/lib.rt"
+PLANS = TOP / "crates/cuzhaveli_plans/src/lib.rt"
 HEADER = TOP / "include/cuzhaveli.h"
 FFI = TOP / "rust/cuzhaveli/src/ffi.rs"
 KINDS = TOP / "rust/cuzhaveli/src/refusal.rs"
@@ -74,13 +76,16 @@ def rattle_parameters(items):
             yield name, pointer + lent[2]
 
 
-def read_rattle():
-    text = without_comments(EXPORTS.read_text())
+def read_exports(path):
     pattern = r'#\[no_mangle\]\s*pub extern "C" fn (\w+)\s*\(([^)]*)\)\s*->\s*(\w+)'
     calls = {}
-    for name, parameters, result in re.findall(pattern, text):
+    for name, parameters, result in re.findall(pattern, without_comments(path.read_text())):
         calls[name] = list(rattle_parameters(split_list(parameters))) + [("", result)]
-    structs = {}
+    return calls
+
+
+def read_rattle():
+    calls, structs = read_exports(EXPORTS), {}
     for path in sorted(TOP.glob("crates/*/src/*.rt")):
         text = without_comments(path.read_text())
         for name, fields in re.findall(r"#\[repr\(C\)\]\s*pub struct (\w+)\s*\{(.*?)\}", text, re.S):
@@ -239,7 +244,7 @@ def check_archive(calls, library):
     kinds = [line.split()[:2] for line in symbols.splitlines() if " " in line]
     defined = {name for name, kind in kinds if kind == "T"}
     for name in calls.keys() - defined:
-        differs(f"the archive does not define {name}", library, "build it anew: `rt staticlib cuzhaveli`")
+        differs(f"the archive does not define {name}", library, "build it anew: make")
     for name in defined - calls.keys():
         differs(f"the archive defines {name}, and no export has it", library, "export it, or take it out of the archive")
     for name, kind in kinds:
@@ -288,17 +293,20 @@ def check_given(boundary):
 def main():
     if len(sys.argv) != 4:
         sys.exit(__doc__.split("\n\n")[1])
-    library, folder, boundary = map(pathlib.Path, sys.argv[1:])
-    for path in (library, folder, boundary):
+    archives, folder, boundary = map(pathlib.Path, sys.argv[1:])
+    library, plans_library = archives / "libcuzhaveli.a", archives / "libcuzhaveli_plans.a"
+    for path in (library, plans_library, folder, boundary):
         if not path.exists():
-            sys.exit(f"interface: no {path}; give the archive, a folder that exists, and the output of tests/boundary")
+            sys.exit(f"interface: no {path}; give the folder of the archives, one that exists, and the output of tests/boundary")
     calls, structs = read_rattle()
     for path, (given_calls, given_structs) in ((HEADER, read_header()), (FFI, read_ffi())):
         compare("call", calls, given_calls, path)
         compare("struct", structs, given_structs, path)
     check_header(structs, folder)
     fields = check_layout(structs, folder)
-    symbols = check_archive(calls, library)
+    plans = read_exports(PLANS)
+    compare("call", {name: call for name, call in calls.items() if name in plans}, plans, PLANS)
+    symbols = check_archive(calls, library) + check_archive(plans, plans_library)
     refusals = check_refusals()
     check_given(boundary)
     if problems:

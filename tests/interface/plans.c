@@ -1,0 +1,33 @@
+/* Prints our plan, its read list and the judge's word on it for every array and lost disk. */
+
+#include <cuzhaveli.h>
+#include <stdio.h>
+
+static void print_plan(size_t width, size_t disks, size_t lost)
+{
+    uint8_t list[CUZHAVELI_LIST_BYTES(31, 31)], plan[CUZHAVELI_PLAN_BYTES(31)];
+    struct cuzhaveli_plan ours = cuzhaveli_plan_disk(width, disks, lost);
+    struct cuzhaveli_answer listed = cuzhaveli_read_list(width, disks, lost, list, CUZHAVELI_LIST_BYTES(width, disks));
+    for (size_t n = 0; n < width; n++) {
+        plan[3 * n] = ours.steps.rows[n];
+        plan[3 * n + 1] = ours.steps.kinds[n];
+        plan[3 * n + 2] = ours.steps.numbers[n];
+    }
+    struct cuzhaveli_judged judged = cuzhaveli_judge_plan(width, disks, lost, plan, CUZHAVELI_PLAN_BYTES(width));
+    printf("%zu %zu %zu: %u %u %u reads %u %u routes %u list ", width, disks, lost, ours.answer.refusal, listed.refusal,
+           judged.answer.refusal, ours.reads, judged.reads, ours.routes);
+    for (size_t cell = 0; listed.refusal == CUZHAVELI_OK && cell < CUZHAVELI_LIST_BYTES(width, disks); cell++)
+        putchar(list[cell] ? '1' : '0');
+    for (size_t n = 0; n < width; n++)
+        printf(" %u,%u,%u", plan[3 * n], plan[3 * n + 1], plan[3 * n + 2]);
+    putchar('\n');
+}
+
+int main(void)
+{
+    for (size_t width = 2; width <= 31; width++)
+        for (size_t disks = 1; disks <= width; disks++)
+            for (size_t lost = 0; lost <= disks + 2; lost++)
+                print_plan(width, disks, lost);
+    return ferror(stdout) != 0;
+}
