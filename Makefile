@@ -27,6 +27,7 @@ dist = cuzhaveli-$(VERSION)-x86_64-linux
 all: $(archives)
 
 ifeq ($(LIB),)
+$(shell [ ! -e build/from-lib ] || rm -f $(archives) build/from-lib) # archives that LIB= brought are not built ones
 build/lib%.a: crates.txt $(shell find crates -name '*.rt' -o -name '*.antt')
 	@command -v rt >/dev/null || { echo "make: the library is built by the Rattle kit, whose command rt is not on PATH; install the kit, or take a ready archive: make LIB=FILE" >&2; exit 1; }
 	@echo "make: proving and compiling $*: 3 to 5 minutes on two cores the first time, then only what changed; build/$*.log says how far"
@@ -40,6 +41,7 @@ build/lib%.a: FORCE
 	@[ -f "$(dir $(LIB))lib$*.a" ] || { echo "make: LIB is $(LIB), and there is no $(dir $(LIB))lib$*.a; give the path of libcuzhaveli.a, with libcuzhaveli_plans.a beside it" >&2; exit 1; }
 	@mkdir -p build
 	@cmp -s "$(dir $(LIB))lib$*.a" $@ || cp "$(dir $(LIB))lib$*.a" $@
+	@touch build/from-lib
 endif
 
 install: $(archives)
