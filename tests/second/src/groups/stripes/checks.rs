@@ -20,6 +20,11 @@ pub fn run(setting: &mut Setting, group: &mut Group) {
         beside_full(group, random, shape);
         wrong_lengths(group, random, shape);
     }
+    for (p, k) in arrays::every() {
+        encoded(group, random, Shape::new(p, k, 2));
+        beside_full(group, random, Shape::new(p, k, 2));
+        clean_and_dirty(group, random, Shape::new(p, k, 2));
+    }
     for (p, k) in arrays::some() {
         flips(group, random, p, k);
         if k == p || p <= 7 {
