@@ -35,7 +35,7 @@ pub fn all_zero(cell: &[u8]) -> bool
 }
 
 // dst ^= the bytes of t from a.
-fn add_one(dst: &mut [u8], t: &[u8], a: usize)
+pub fn add_one(dst: &mut [u8], t: &[u8], a: usize)
     requires { ⌜ a + length (now dst) ≤ length (now t) ⌝ }
     ensures { λ _. ⌜ now (dst .exit) ≡ xorL (now (dst .entry)) (part (length (now (dst .entry))) a (now (t .entry))) ⌝ }
 {

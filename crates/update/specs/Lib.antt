@@ -1,0 +1,2 @@
+-- What the update of a cell promises.
+pub mod Says

@@ -1,0 +1,46 @@
+-- The promise of `update_cell` (document 02, ask 4), for accepted and refused calls alike, and what the functions below it ask: p rows, k data disks, cells of s bytes.
+use mathlib.Core.Path.{_≡_}
+use mathlib.Core.Bool.{true, not}
+use mathlib.Core.List.{List}
+use Prim.Native.Nat.{ℕ, _%_, _≤_, _<_}
+use lib.Dec.{eqb, leb}
+use lib.ListN.{length}
+use Rattle.laws.specs.Choice.{pick, when, firstOf}
+use Rattle.laws.specs.Xor.{allBytes}
+use Rattle.liberation.specs.Sets.{shapeFault}
+use Rattle.liberation_stripes.specs.Stripes.{stripeLong}
+use Rattle.liberation_updates.specs.Updates.{updated}
+use Rattle.refusals.specs.declared.Answer.{Answer}
+use Rattle.refusals.specs.Answers.{Answers}
+
+-- row r of data disk c is a cell of the stripe t, within the widest array
+pub record DataCell (p k s r c : ℕ) (t : List ℕ) : Type 0 where
+  pub odd : p % 2 ≡ 1
+  pub widest : p ≤ 31
+  pub disks : k ≤ p
+  pub row : r < p
+  pub disk : c < k
+  pub long : length t ≡ stripeLong p k s
+
+-- "P and Q as the disk give refusal 3"; "15: row p or more"
+abbrev pub dataFault : ℕ → ℕ → ℕ
+dataFault k c = when (leb k c) 3
+
+abbrev pub rowFault : ℕ → ℕ → ℕ
+rowFault p r = when (leb p r) 15
+
+-- an update refuses by 1, 13, 2, 3, 5 and 15: n and m are the bytes of the stripe and of the new cell
+abbrev pub lengthsFault : ℕ → ℕ → ℕ → ℕ → ℕ → ℕ → ℕ → ℕ
+lengthsFault p k s r c n m = firstOf (shapeFault p k s) (firstOf (dataFault k c) (firstOf (when (not (eqb n (stripeLong p k s))) 5) (firstOf (when (not (eqb m s)) 5) (rowFault p r))))
+
+-- t is the stripe, new the new cell
+abbrev pub updateFault : ℕ → ℕ → ℕ → ℕ → ℕ → List ℕ → List ℕ → ℕ
+updateFault p k s r c t new = lengthsFault p k s r c (length t) (length new)
+
+-- the stripe t becomes t′: updated, or as it was on a refusal
+pub record UpdateSays (p k s r c : ℕ) (t new t′ : List ℕ) (a : Answer) : Type 0 where
+  pub answer : Answers (updateFault p k s r c t new) a
+  pub stripe : t′ ≡ pick (eqb (updateFault p k s r c t new) 0) (updated p k s r c new t) t
+  -- what was lent are bytes
+  pub bytes : allBytes t ≡ true
+  pub cell-bytes : allBytes new ≡ true
