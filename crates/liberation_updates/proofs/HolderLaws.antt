@@ -14,9 +14,9 @@ use Rattle.laws.specs.Lists.{isIn, distinct, allBelow}
 use Rattle.laws.proofs.Flags.{and-l, and-r, and-i, same-flag}
 use Rattle.laws.proofs.Modulo.{add-small}
 use Rattle.laws.proofs.TestLaws.{eqb-same}
-use Rattle.liberation.specs.Sets.{place, extraRow, extraDisk, diagonalSet}
+use Rattle.liberation.specs.Sets.{place, rowAt, diskAt, extraRow, extraDisk, extraOf, diagonalSet}
 use Rattle.liberation.specs.Plans.{diagonalOf}
-use Rattle.liberation.proofs.SetLaws.{diagonal-of, extra-range, extra-diagonal}
+use Rattle.liberation.proofs.SetLaws.{disk-place, row-place, diagonal-of, extra-range, extra-diagonal}
 use Rattle.liberation.proofs.LostLaws.{extraOn, on-data, extra-none}
 use Rattle.liberation_updates.specs.Updates.{isExtra, holders}
 
@@ -28,6 +28,20 @@ in-pick false i z = refl
 -- rows and diagonals of extra cells
 row-of-extra : (p r : ℕ) → r < p → extraRow p (extraRow p r) ≡ r
 row-of-extra p r h = omega arith
+
+-- an extra cell is the extra cell of some diagonal, and that of every diagonal is one
+pub extra-some : (p r c : ℕ) → r < p → isExtra p r c ≡ true → (i : ℕ) × (1 ≤ i) × (i < p) × (extraOf p i ≡ place p r c)
+extra-some p r c h t =
+    let z = extraRow p r in
+    let low : 1 ≤ z = leb-true 1 z (and-l (leb 1 z) (eqb (extraDisk p z) c) t) in
+    (z, low, omega arith, ap₂ (place p) (row-of-extra p r h) (eqb-true (extraDisk p z) c (and-r (leb 1 z) (eqb (extraDisk p z) c) t)))
+
+pub extra-any : (p r c i : ℕ) → r < p → 1 ≤ i → i < p → extraOf p i ≡ place p r c → isExtra p r c ≡ true
+extra-any p r c i h low high e =
+    let row : extraRow p i ≡ r = sym (row-place p (extraRow p i) (extraDisk p i) (omega arith)) ∙ ap (rowAt p) e ∙ row-place p r c h in
+    let disk : extraDisk p i ≡ c = sym (disk-place p (extraRow p i) (extraDisk p i) (omega arith)) ∙ ap (diskAt p) e ∙ disk-place p r c h in
+    let z : i ≡ extraRow p r = omega arith in
+    ap (λ (n : ℕ). extraOn p n c) (sym z) ∙ and-i (leb 1 i) (eqb (extraDisk p i) c) (le-leb 1 i low) (eq-eqb (extraDisk p i) c disk)
 
 -- D i holds (r, c) as its extra cell exactly if i = p - 1 - r and (r, c) is an extra cell
 extra-held : (p r c i : ℕ) → r < p → i < p → (isExtra p r c && eqb i (extraRow p r)) ≡ (extraOn p i c && eqb r (extraRow p i))

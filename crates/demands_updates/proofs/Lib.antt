@@ -1,0 +1,2 @@
+-- Theorems about the update of a cell, from its promise alone.
+pub mod Updates
