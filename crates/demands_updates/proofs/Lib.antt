@@ -1,2 +1,3 @@
 -- Theorems about the update of a cell, from its promise alone.
 pub mod Updates
+pub mod UpdateOrders
