@@ -3,7 +3,6 @@ use mathlib.Core.Path.{_≡_, sym, ap, ap₂, _∙_}
 use mathlib.Core.Bool.{Bool, true, false, _&&_, not}
 use mathlib.Core.List.{List}
 use Prim.Native.Nat.{ℕ, suc, _+_, _*_, _≤_, _<_}
-use native.Mathlib.Nat.{mul-le-mul}
 use native.Mathlib.Omega.{arith}
 use Rattle.laws.specs.Sums.{allTo}
 use Rattle.laws.specs.Xor.{allBytes}
@@ -11,7 +10,7 @@ use Rattle.laws.proofs.ChoiceLaws.{first-none, pick-refused, pick-done, and-ref
 use Rattle.liberation.specs.Sets.{longFault, diskFault, shapeFault, numbersFault}
 use Rattle.liberation.specs.Plans.{Step, allOf}
 use Rattle.liberation.proofs.Widths.{width-least, width-most}
-use Rattle.liberation.proofs.FaultLaws.{long-of, shape-of}
+use Rattle.liberation.proofs.FaultLaws.{long-of, shape-of, shape-most}
 use Rattle.liberation.proofs.ParityPlans.{plan-row-parity, plan-diagonal-parity}
 use Rattle.refusals.specs.declared.Answer.{Answer}
 use Rattle.refusals.specs.Answers.{Answers}
@@ -20,15 +19,7 @@ use Rattle.liberation_stripes.specs.Stripes.{stripeLong, encoded, followed, cle
 use Rattle.stripes.specs.Cells.{Sized}
 use Rattle.stripes.specs.Says.{stripeFault, EncodeSays, CheckSays}
 
--- a stripe within the limits has few enough bytes to count
-pub shape-most : (p k s : ℕ) → shapeFault p k s ≡ 0 → (p ≤ 31) × (k ≤ p) × (p * s ≤ 126976) × ((k + 2) * (p * s) ≤ 4190208)
-shape-most p k s e =
-    let q = shape-of p k s e in
-    let w = width-most p (q .0) in
-    let m : p * s ≤ 31 * 4096 = mul-le-mul w (q .2) in
-    let n : k + 2 ≤ 33 = omega (arith, q .4) in
-    (w, q .4, omega arith, omega (arith, mul-le-mul n m))
-
+-- a stripe within the limits, with a disk of it, has few enough bytes to count
 pub numbers-most : (p k s f : ℕ) → numbersFault p k s f ≡ 0 → (p ≤ 31) × (k ≤ p) × (p * s ≤ 126976) × ((k + 2) * (p * s) ≤ 4190208)
 numbers-most p k s f e = shape-most p k s (first-none (shapeFault p k s) (diskFault k f) e .0)
 

@@ -5,7 +5,7 @@ use native.Mathlib.Omega.{arith}
 use borrow.Author.Needs.{needs}
 use Rattle.laws.proofs.ChoiceLaws.{first-kept, first-next}
 use Rattle.liberation.specs.Sets.{shapeFault}
-use Rattle.stripes.proofs.StripeRefusals.{shape-most}
+use Rattle.liberation.proofs.FaultLaws.{shape-most}
 use Rattle.stripes.proofs.stripe_fault.Statement.{statement}
 use Rattle.stripes.proofs.stripe_fault.Tie as tie
 

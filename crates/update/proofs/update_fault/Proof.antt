@@ -8,7 +8,7 @@ use borrow.Author.Needs.{needs}
 use Rattle.laws.specs.Choice.{when, firstOf}
 use Rattle.laws.proofs.ChoiceLaws.{first-kept, first-next}
 use Rattle.liberation.specs.Sets.{shapeFault}
-use Rattle.liberation.proofs.FaultLaws.{shape-of, shape-most}
+use Rattle.liberation.proofs.FaultLaws.{shape-most}
 use Rattle.update.specs.Says.{rowFault, lengthsFault}
 use Rattle.update.proofs.UpdateRefusals.{lastFaults, row-refused, row-accepted, fault-shape, fault-disk, fault-last}
 use Rattle.update.proofs.update_fault.Statement.{statement}
@@ -19,7 +19,7 @@ fine : (c : tie.Else1) → let a = c .before .before .args in shapeFault (a .wid
 fine c = sym (c .before .shape-fault .ensures) ∙ c .if1 .left
 
 -- so the stripe's bytes can be counted
-most : (c : tie.Else1) → let a = c .before .before .args in (a .width ≤ 31) × (a .width * a .size ≤ 126976) × ((a .disks + 2) * (a .width * a .size) ≤ 4190208)
+most : (c : tie.Else1) → let a = c .before .before .args in (a .width ≤ 31) × (a .disks ≤ a .width) × (a .width * a .size ≤ 126976) × ((a .disks + 2) * (a .width * a .size) ≤ 4190208)
 most c = let a = c .before .before .args in shape-most (a .width) (a .disks) (a .size) (fine c)
 
 returns : tie.Need-returns
@@ -38,7 +38,7 @@ last : (c : tie.Else2) (n : ℕ) → let a = c .before .before .before .args in 
 last c n e = let a = c .before .before .before .args in fault-last (a .width) (a .disks) (a .size) (a .row) (a .disk) (a .stripe) (a .cell) n (fine (c .before)) (c .if2 .left) e
 
 add-length-fault : tie.Need-add-length-fault
-add-length-fault c = let a = c .before .before .before .args in omega (arith, most (c .before), shape-of (a .width) (a .disks) (a .size) (fine (c .before)) .4)
+add-length-fault c = omega (arith, most (c .before))
 
 mul-length-fault : tie.Need-mul-length-fault
 mul-length-fault c = omega (arith, most (c .before))
