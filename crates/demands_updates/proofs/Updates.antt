@@ -1,6 +1,6 @@
 -- Ask 4 of document 02, said of the call that updates a cell: whatever it returns, as long as it keeps its promise.
 -- t is the stripe as it was lent, t′ as it is given back, new the lent cell, for row r of data disk c. That the lengths are those required and that all are bytes comes with the answer.
-use mathlib.Core.Path.{_≡_, ap, _∙_}
+use mathlib.Core.Path.{_≡_, sym, ap, ap₂, _∙_}
 use mathlib.Core.Bool.{true, false}
 use mathlib.Core.Logic.{_⊎_}
 use mathlib.Core.List.{List}
@@ -8,11 +8,14 @@ use Prim.Native.Nat.{ℕ, suc, _+_, _/_, _≤_, _<_}
 use native.Mathlib.Omega.{arith}
 use lib.Dec.{eqb}
 use lib.ListN.{length, getD}
-use Rattle.laws.specs.Choice.{pick, when}
+use Rattle.laws.specs.Choice.{pick, when, firstOf}
 use Rattle.laws.specs.Lists.{isIn, distinct}
 use Rattle.laws.specs.Xor.{xorL}
-use Rattle.liberation.specs.Sets.{place, extraOf, diagonalSet, setOf}
-use Rattle.liberation_stripes.specs.Stripes.{cellAt, withCell, xorOver, isStripe, clean, encoded}
+use Rattle.laws.proofs.ChoiceLaws.{first-none}
+use Rattle.liberation.specs.Sets.{place, extraOf, diagonalSet, setOf, shapeFault}
+use Rattle.liberation.proofs.FaultLaws.{long-accepted}
+use Rattle.liberation_stripes.specs.Stripes.{cellAt, withCell, xorOver, stripeLong, isStripe, clean, encoded}
+use Rattle.liberation_stripes.proofs.CellLaws.{length-with}
 use Rattle.liberation_stripes.proofs.Solving.{stripe-of}
 use Rattle.liberation_updates.specs.Updates.{isExtra, holders, parityOf, updated}
 use Rattle.liberation_updates.proofs.HolderLaws.{in-holders, holders-distinct, holders-count, extra-some, extra-any}
@@ -20,8 +23,10 @@ use Rattle.liberation_updates.proofs.ParityCells.{parity-row, parity-diagonal, 
 use Rattle.liberation_updates.proofs.Updating.{updated-stripe, updated-new, updated-parity, updated-byte, updated-set, updated-clean, updated-encoded}
 use Rattle.refusals.specs.declared.Answer.{Answer}
 use Rattle.refusals.proofs.AnswerLaws.{answers-none}
-use Rattle.update.specs.Says.{DataCell, updateFault, UpdateSays}
-use Rattle.update.proofs.UpdateRefusals.{fault-none}
+use Rattle.stripes.specs.Says.{stripeFault, EncodeSays}
+use Rattle.update.specs.Says.{DataCell, dataFault, updateFault, UpdateSays}
+use Rattle.update.proofs.CellPlaces.{own-fits}
+use Rattle.update.proofs.UpdateRefusals.{lastFaults, fault-none}
 
 -- The parity cells of data cell (r, c): "its P cell and the Q cells of the diagonals holding it".
 pub record Parity (p k r c : ℕ) : Type 0 where
@@ -96,3 +101,14 @@ module _ (p k s r c : ℕ) (t new t′ : List ℕ) (a : Answer) (q : UpdateSays 
         cleanness = ap (clean p k s) done ∙ updated-clean p k s r c (d .odd) (d .row) (d .disk) new n t lent (d .disks) (q .cell-bytes);
         as-encoded = λ e. done ∙ updated-encoded p k s r c (d .odd) (d .row) (d .disk) new n t lent (d .disks) (q .cell-bytes) e;
       }
+
+  -- the same said of the call that encodes: it need not be supposed that it accepts
+  pub ends-as-encoded : clean p k s t ≡ true → (u : List ℕ) (b : Answer) → EncodeSays p k s (withCell s (place p r c) new t) u b → t′ ≡ u
+  ends-as-encoded e u b m =
+      let d = shown .0 in
+      let w : List ℕ = withCell s (place p r c) new t in
+      let fine : stripeFault p k s w ≡ 0 = ap₂ firstOf shape (long-accepted (stripeLong p k s) w (length-with s (place p r c) new t (shown .1) (own-fits p k s r c t d) ∙ d .long)) in
+      updates .as-encoded e ∙ sym (m .stripe ∙ ap (λ (n : ℕ). pick (eqb n 0) (encoded p k s w) w) fine)
+    where
+      shape : shapeFault p k s ≡ 0
+      shape = first-none (shapeFault p k s) (firstOf (dataFault k c) (lastFaults p k s r c (length t) (length new))) none .0
