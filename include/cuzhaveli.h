@@ -53,7 +53,7 @@ enum cuzhaveli_refusal {
     CUZHAVELI_OK = 0,
     CUZHAVELI_BAD_WIDTH = 1,         /* p is not one of the ten */
     CUZHAVELI_BAD_CELL_SIZE = 2,     /* s is 0 or over 4096 */
-    CUZHAVELI_NO_SUCH_DISK = 3,      /* a disk number over k + 1 */
+    CUZHAVELI_NO_SUCH_DISK = 3,      /* a disk number over k + 1; of a cell to be updated, k or more */
     CUZHAVELI_SAME_DISK = 4,         /* the two lost disks are one */
     CUZHAVELI_BAD_LENGTH = 5,        /* a length is another than the one required */
     CUZHAVELI_STEP_RANGE = 6,        /* a step's row or set number is p or more, or its kind over 1 */
@@ -64,6 +64,7 @@ enum cuzhaveli_refusal {
     CUZHAVELI_PACKAGE_TOO_LONG = 11, /* a package of more than 2^48 bytes */
     CUZHAVELI_BAD_TEXT = 12,         /* input of the plan program; no call here gives it */
     CUZHAVELI_BAD_DISKS = 13,        /* k is under 2 or over p; tested right after 1 */
+    CUZHAVELI_NO_SUCH_ROW = 15,      /* a row number of p or more */
     CUZHAVELI_BAD_RATE = 16,         /* a rate of more than 1000 cents a GiB */
     CUZHAVELI_TOO_MANY_BYTES = 17    /* a bill of more than 2^54 bytes */
 };
@@ -207,6 +208,13 @@ struct cuzhaveli_answer cuzhaveli_rebuild_one(struct cuzhaveli_shape shape, size
  * Refuses 1, 13, 2, 3, 4, 5. */
 struct cuzhaveli_answer cuzhaveli_rebuild_two(struct cuzhaveli_shape shape, size_t first, size_t second,
                                               uint8_t *stripe, size_t stripe_len);
+
+/* Puts `cell`, shape.cell_size bytes, into row `row` of data disk `disk`. Beside that cell only the P cell of its row
+ * and the Q cells of the diagonals that hold it change (one, or two for an extra cell), so that the XOR of every set is
+ * what it was, and a clean stripe is left as encoding it anew would leave it. No other byte of the stripe matters: a
+ * caller may read just these cells and write just these back. Refuses 1, 13, 2, 3 (P and Q too), 5, 15. */
+struct cuzhaveli_answer cuzhaveli_update_cell(struct cuzhaveli_shape shape, size_t row, size_t disk, uint8_t *stripe,
+                                              size_t stripe_len, const uint8_t *cell, size_t cell_len);
 
 /* Runs: the rebuild of one disk over many stripes, in their order, each rebuilt or skipped. */
 

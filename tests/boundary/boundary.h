@@ -14,6 +14,7 @@ extern __typeof__(cuzhaveli_package_space) second_package_space;
 extern __typeof__(cuzhaveli_encode_stripe) second_encode_stripe;
 extern __typeof__(cuzhaveli_check_stripe) second_check_stripe;
 extern __typeof__(cuzhaveli_rebuild_one) second_rebuild_one;
+extern __typeof__(cuzhaveli_update_cell) second_update_cell;
 extern __typeof__(cuzhaveli_open_run) second_open_run;
 extern __typeof__(cuzhaveli_step_run) second_step_run;
 extern __typeof__(cuzhaveli_skip_stripe) second_skip_stripe;
@@ -34,6 +35,7 @@ size_t any_number(struct random *r);
 size_t any_width(struct random *r);
 size_t any_disks(struct random *r, size_t width);
 size_t any_disk(struct random *r, size_t disks);
+size_t any_row(struct random *r, size_t width);
 size_t any_length(struct random *r, size_t right);
 struct cuzhaveli_shape any_shape(struct random *r);
 bool is_shape(struct cuzhaveli_shape shape);
@@ -53,7 +55,7 @@ void set_content(struct lent *lent);
 bool lent_agrees(const struct lent *lent);
 
 /* calls.c: one random call each; false if the library and the second implementation differ. */
-#define CALLS 16
+#define CALLS 17
 struct caller {
     struct random random;
     struct lent first, second;

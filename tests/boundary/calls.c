@@ -5,7 +5,7 @@
 #include <stdio.h>
 #include <string.h>
 
-enum { PLAN, LIST, JUDGE, SPACE, ENCODE, CHECK, ONE, TWO, OPEN, STEP, SKIP, PROGRESS, FULL, DISKS, BYTES, BILL };
+enum { PLAN, LIST, JUDGE, SPACE, ENCODE, CHECK, ONE, TWO, UPDATE, OPEN, STEP, SKIP, PROGRESS, FULL, DISKS, BYTES, BILL };
 
 #define SAY(caller, ...) snprintf((caller)->what, sizeof (caller)->what, __VA_ARGS__)
 #define SHAPE "{%zu, %zu, %zu}"
@@ -209,6 +209,22 @@ static bool rebuild_two(struct caller *c)
     return lent_agrees(stripe);
 }
 
+static bool update_cell(struct caller *c)
+{
+    struct cuzhaveli_shape shape = any_shape(&c->random);
+    size_t row = any_row(&c->random, shape.width), disk = any_disk(&c->random, shape.disks);
+    struct lent *stripe = &c->first, *cell = &c->second;
+    lend_stripe(c, shape);
+    lend(cell, &c->random, is_shape(shape) ? shape.cell_size : below(&c->random, 400), c->at_end);
+    SAY(c, "cuzhaveli_update_cell(" SHAPE ", %zu, %zu, %p, %zu, %p, %zu)", OF(shape), row, disk, (void *)stripe->bytes,
+        stripe->length, (void *)cell->bytes, cell->length);
+    struct cuzhaveli_answer got =
+        cuzhaveli_update_cell(shape, row, disk, stripe->bytes, stripe->length, cell->bytes, cell->length);
+    struct cuzhaveli_answer wanted =
+        second_update_cell(shape, row, disk, stripe->same, stripe->same_length, cell->same, cell->same_length);
+    return same(c, UPDATE, got, wanted) && lent_agrees(stripe) && lent_agrees(cell);
+}
+
 static bool open_run(struct caller *c)
 {
     struct cuzhaveli_shape shape = any_shape(&c->random);
@@ -337,6 +353,7 @@ const struct call CALL[CALLS] = {
     [CHECK] = {"cuzhaveli_check_stripe", check_stripe},
     [ONE] = {"cuzhaveli_rebuild_one", rebuild_one},
     [TWO] = {"cuzhaveli_rebuild_two", rebuild_two},
+    [UPDATE] = {"cuzhaveli_update_cell", update_cell},
     [OPEN] = {"cuzhaveli_open_run", open_run},
     [STEP] = {"cuzhaveli_step_run", step_run},
     [SKIP] = {"cuzhaveli_skip_stripe", skip_stripe},

@@ -66,6 +66,13 @@ size_t any_disk(struct random *r, size_t disks)
     return below(r, disks + 2);
 }
 
+size_t any_row(struct random *r, size_t width)
+{
+    if (width == 0 || once_in(r, 16))
+        return once_in(r, 2) ? any_number(r) : width;
+    return below(r, width);
+}
+
 static size_t any_cell_size(struct random *r, size_t width)
 {
     if (once_in(r, 16))

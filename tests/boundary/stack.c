@@ -26,6 +26,7 @@ static void encode_stripe(void) { sink = cuzhaveli_encode_stripe(shape, stripe, 
 static void check_stripe(void) { sink = cuzhaveli_check_stripe(shape, stripe, CUZHAVELI_STRIPE_BYTES(shape)).answer.refusal; }
 static void rebuild_one(void) { sink = cuzhaveli_rebuild_one(shape, lost, stripe, CUZHAVELI_STRIPE_BYTES(shape), column, CUZHAVELI_COLUMN_BYTES(shape)).refusal; }
 static void rebuild_two(void) { sink = cuzhaveli_rebuild_two(shape, lost, other, stripe, CUZHAVELI_STRIPE_BYTES(shape)).refusal; }
+static void update_cell(void) { sink = cuzhaveli_update_cell(shape, shape.width - 1 - other % 2, lost % shape.disks, stripe, CUZHAVELI_STRIPE_BYTES(shape), column, shape.cell_size).refusal; }
 
 static void run_calls(void)
 {
@@ -54,6 +55,7 @@ static struct { const char *name; void (*make)(void); size_t promised, most; } M
     {"cuzhaveli_check_stripe", check_stripe, 8192, 0},
     {"cuzhaveli_rebuild_one", rebuild_one, 8192, 0},
     {"cuzhaveli_rebuild_two", rebuild_two, 16384, 0}, /* its walk is recursive, two steps for each row */
+    {"cuzhaveli_update_cell", update_cell, 8192, 0},
     {"calls on runs", run_calls, 8192, 0},
     {"records and bills", records, 8192, 0},
 };

@@ -7,6 +7,7 @@ ghost use Rattle.space.specs.Says.{SpaceSays};
 ghost use Rattle.stripes.specs.Says.{EncodeSays, CheckSays};
 ghost use Rattle.rebuild_one.specs.Says.{OneSays};
 ghost use Rattle.rebuild_two.specs.Says.{TwoSays};
+ghost use Rattle.update.specs.Says.{UpdateSays};
 ghost use Rattle.runs.specs.Runs.{OpenSays, StepSays, SkipSays, ProgressSays, resumed, resumedDisks};
 ghost use Rattle.billing.specs.Bills.{BillSays, RunBillSays};
 use billing::Bill;
@@ -104,6 +105,20 @@ pub extern "C" fn cuzhaveli_rebuild_two(
     ensures { λ r. ⌜ TwoSays (shape .width) (shape .disks) (shape .«cell_size») first second (now (stripe .entry)) (now (stripe .exit)) r ⌝ }
 {
     rebuild_two::rebuild_two(shape, first, second, stripe)
+}
+
+// Puts a lent cell of s bytes into row `row` of data disk `disk` of a lent stripe, and keeps the XOR of every set.
+#[no_mangle]
+pub extern "C" fn cuzhaveli_update_cell(
+    shape: Shape,
+    row: usize,
+    disk: usize,
+    stripe: &mut [u8],
+    cell: &[u8],
+) -> Answer
+    ensures { λ r. ⌜ UpdateSays (shape .width) (shape .disks) (shape .«cell_size») row disk (now (stripe .entry)) (now (cell .entry)) (now (stripe .exit)) r ⌝ }
+{
+    update::update_cell(shape, row, disk, stripe, cell)
 }
 
 // Opens a rebuild run over `stripes` stripes.

@@ -178,6 +178,16 @@ extern "C" {
         stripe_len: usize,
     ) -> Answer;
 
+    pub fn cuzhaveli_update_cell(
+        shape: Shape,
+        row: usize,
+        disk: usize,
+        stripe: *mut u8,
+        stripe_len: usize,
+        cell: *const u8,
+        cell_len: usize,
+    ) -> Answer;
+
     pub fn cuzhaveli_open_run(shape: Shape, lost: usize, stripes: u32) -> RunAnswer;
 
     pub fn cuzhaveli_step_run(

@@ -40,7 +40,7 @@ macro_rules! kinds {
 kinds! {
     BadWidth = 1, "the width is not one of 3, 5, 7, 11, 13, 17, 19, 23, 29, 31";
     BadCellSize = 2, "the cell size is 0 or over 4096";
-    NoSuchDisk = 3, "the array has no disk of that number";
+    NoSuchDisk = 3, "the array has no disk of that number, or no data disk";
     SameDisk = 4, "the two lost disks are one";
     BadLength = 5, "a slice has another length than the one required";
     StepRange = 6, "the row or set number of a step is the width or more, or its kind over 1";
@@ -51,6 +51,7 @@ kinds! {
     PackageTooLong = 11, "the package has more than 2^48 bytes";
     BadText = 12, "the input is not of the plan program's form";
     BadDisks = 13, "the data disks are fewer than 2 or more than the width";
+    NoSuchRow = 15, "the array has no row of that number";
     BadRate = 16, "a rate is over 1000 cents a GiB";
     TooManyBytes = 17, "the bill has more than 2^54 bytes";
     Unknown = 255, "a refusal that this version of the crate does not know";

@@ -255,6 +255,35 @@ impl Shape {
         unsafe { ffi::cuzhaveli_rebuild_two(self.0, first, second, stripe, stripe_len) }.accepted()
     }
 
+    /// Puts new bytes into the cell of that row and data disk, and keeps the XOR of every set: beside that cell only its
+    /// P cell and the Q cells of the one or two diagonals that hold it change, so a clean stripe is as if it had been
+    /// encoded anew. Refuses 3, for P and Q too, then 5, then 15 for a row that is not there.
+    ///
+    /// ```
+    /// let shape = cuzhaveli::Shape::new(3, 3, 1)?;
+    /// let mut stripe = [1, 8, 0x40, 2, 0x10, 0x80, 4, 0x20, 0, 7, 0x38, 0xC0, 0x11, 0x9C, 0x66];
+    /// shape.update_cell(2, 0, &mut stripe, &[0x41])?; // only D 2 holds the cell
+    /// assert_eq!(stripe, [1, 8, 0x41, 2, 0x10, 0x80, 4, 0x20, 0, 7, 0x38, 0xC1, 0x11, 0x9C, 0x67]);
+    /// assert!(shape.is_clean(&stripe)?);
+    /// assert_eq!(shape.update_cell(3, 0, &mut stripe, &[0x41]).unwrap_err().number(), 15);
+    /// assert_eq!(shape.update_cell(2, 3, &mut stripe, &[0x41]).unwrap_err().number(), 3); // P
+    /// # Ok::<(), cuzhaveli::Refusal>(())
+    /// ```
+    pub fn update_cell(
+        self,
+        row: usize,
+        disk: usize,
+        stripe: &mut [u8],
+        cell: &[u8],
+    ) -> Result<(), Refusal> {
+        let (stripe, stripe_len) = (stripe.as_mut_ptr(), stripe.len());
+        let (cell, cell_len) = (cell.as_ptr(), cell.len());
+        let answer = unsafe {
+            ffi::cuzhaveli_update_cell(self.0, row, disk, stripe, stripe_len, cell, cell_len)
+        };
+        answer.accepted()
+    }
+
     /// Opens a run: the rebuild of one disk over so many stripes. Refuses 3.
     ///
     /// ```

@@ -46,6 +46,7 @@ fn a_slice_of_another_length_gives_5_and_stands() {
             assert_eq!(number(shape.encode(&mut bytes)), 5);
             assert_eq!(number(shape.is_clean(&bytes)), 5);
             assert_eq!(number(shape.rebuild_two([0, 1], &mut bytes)), 5);
+            assert_eq!(number(shape.update_cell(0, 0, &mut bytes, &[7; 3])), 5);
             assert_eq!(number(shape.rebuild_one(0, &bytes, &mut right)), 5);
             assert_eq!(number(run.step(0, &bytes, &mut right)), 5);
             assert_eq!((bytes, right), (vec![7; other], vec![9; column]));
@@ -55,6 +56,12 @@ fn a_slice_of_another_length_gives_5_and_stands() {
             assert_eq!(number(shape.rebuild_one(0, &bytes, &mut part)), 5);
             assert_eq!(number(run.step(0, &bytes, &mut part)), 5);
             assert_eq!(part, vec![9; other]);
+        }
+        for other in other_lengths(shape.cell_size()) {
+            let mut bytes = vec![7; stripe];
+            assert_eq!(number(shape.update_cell(0, 0, &mut bytes, &vec![9; other])), 5);
+            assert_eq!(number(shape.update_cell(31, 0, &mut bytes, &vec![9; other])), 5);
+            assert_eq!(bytes, vec![7; stripe]);
         }
         for other in other_lengths(shape.width()) {
             let step = Step { row: 0, set: Set::Row(0) };
@@ -77,10 +84,42 @@ fn a_disk_that_is_not_there_gives_3() {
             assert_eq!(number(shape.judge(disk, &[])), 3);
             assert_eq!(number(shape.rebuild_one(disk, &stripe, &mut column)), 3);
             assert_eq!(number(shape.rebuild_two([disk, disk], &mut stripe)), 3);
+            assert_eq!(number(shape.update_cell(0, disk, &mut stripe, &[])), 3);
             assert_eq!(number(shape.open_run(disk, 1)), 3);
             assert_eq!(number(shape.resume_run(disk, 1, 0, 0)), 3);
         }
         assert_eq!(number(shape.rebuild_two([1, 1], &mut stripe)), 4);
+    }
+}
+
+#[test]
+fn a_cell_that_holds_no_film_gives_3_and_a_row_that_is_not_there_15() {
+    for shape in shapes() {
+        let mut stripe = vec![7; shape.stripe_len()];
+        for disk in [shape.disks(), shape.disks() + 1] {
+            assert_eq!(number(shape.update_cell(shape.width(), disk, &mut stripe, &[9; 3])), 3);
+        }
+        for row in HUGE.into_iter().chain([shape.width(), 31]) {
+            assert_eq!(number(shape.update_cell(row, 1, &mut stripe, &[9; 3])), 15);
+        }
+        assert_eq!(stripe, vec![7; shape.stripe_len()]);
+    }
+}
+
+#[test]
+fn every_updated_cell_ends_as_encoded() {
+    for shape in shapes() {
+        let mut stripe: Vec<u8> = (0..shape.stripe_len()).map(|i| (i * 37 % 251) as u8).collect();
+        shape.encode(&mut stripe).unwrap();
+        for (row, disk) in (0..shape.disks()).flat_map(|c| (0..shape.width()).map(move |r| (r, c)))
+        {
+            let cell = [row as u8, disk as u8, 0xA5];
+            let mut anew = stripe.clone();
+            anew[shape.cell_range(row, disk)].copy_from_slice(&cell);
+            shape.encode(&mut anew).unwrap();
+            shape.update_cell(row, disk, &mut stripe, &cell).unwrap();
+            assert_eq!(stripe, anew);
+        }
     }
 }
 

@@ -9,7 +9,7 @@ use crate::ffi::{
     Answer, Bill, Checked, DisksRun, FullRun, Judged, Plan, Progress, Run, RunAnswer, Shape, Space,
 };
 use crate::groups::{
-    billing, judge, plan, read_list, rebuild_one, rebuild_two, runs, space, stripes,
+    billing, judge, plan, read_list, rebuild_one, rebuild_two, runs, space, stripes, update,
 };
 
 #[no_mangle]
@@ -93,6 +93,22 @@ pub extern "C" fn second_refuse_two(
     stripe_len: usize,
 ) -> Answer {
     rebuild_two::model::rebuild_two(shape, first, second, stripe_len)
+}
+
+/// # Safety
+/// `stripe` and `cell` are lent: see above.
+#[no_mangle]
+pub unsafe extern "C" fn second_update_cell(
+    shape: Shape,
+    row: usize,
+    disk: usize,
+    stripe: *mut u8,
+    stripe_len: usize,
+    cell: *const u8,
+    cell_len: usize,
+) -> Answer {
+    let stripe = from_raw_parts_mut(stripe, stripe_len);
+    update::model::update_cell(shape, (row, disk), stripe, from_raw_parts(cell, cell_len))
 }
 
 #[no_mangle]

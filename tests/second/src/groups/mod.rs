@@ -26,6 +26,7 @@ groups! {
     stripes,
     rebuild_one,
     rebuild_two,
+    update,
     runs,
     billing,
     vectors,

@@ -1,0 +1,5 @@
+//! The update of one cell.
+
+pub mod calls;
+pub mod checks;
+pub mod model;
