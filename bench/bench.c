@@ -1,15 +1,16 @@
-/* Times encode, check and the rebuild of one and of two data disks, and prints
-   the results as Markdown.
+/* Times encode, check, the rebuild of one and of two data disks and the update
+   of a cell, and prints the results as Markdown.
 
    Time is processor time of the thread. In a round each contestant is timed
    once, in an order that turns from round to round. A run has rounds for every
    array, cell size and operation; runs follow each other. */
 
+#include "clock.h"
 #include "results.h"
+#include "update.h"
 
 #include <stdio.h>
 #include <stdlib.h>
-#include <time.h>
 #include <unistd.h>
 
 static int runs = 4, rounds = 41;
@@ -28,13 +29,6 @@ static int runs_of(enum Mode mode)
 static int rounds_of(enum Mode mode)
 {
     return mode == WARM ? rounds : (rounds + 4) / 5;
-}
-
-static double now(void)
-{
-    struct timespec time;
-    clock_gettime(CLOCK_THREAD_CPUTIME_ID, &time);
-    return (double)time.tv_sec + 1e-9 * (double)time.tv_nsec;
 }
 
 /* Seconds a call. Each loss comes once, for so many calls on end, as a rebuild
@@ -199,6 +193,7 @@ int main(int argc, char **argv)
     printf("Warm: %d runs of %d rounds; streaming: %d of %d.\n\n", runs_of(WARM),
            rounds_of(WARM), runs_of(STREAMING), rounds_of(STREAMING));
     print_results();
+    print_updates(rounds);
     for (int array = 0; array < ARRAYS; array++) {
         close_array(&arrays[array]);
     }
