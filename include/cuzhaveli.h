@@ -212,7 +212,8 @@ struct cuzhaveli_answer cuzhaveli_rebuild_two(struct cuzhaveli_shape shape, size
 /* Puts `cell`, shape.cell_size bytes, into row `row` of data disk `disk`. Beside that cell only the P cell of its row
  * and the Q cells of the diagonals that hold it change (one, or two for an extra cell), so that the XOR of every set is
  * what it was, and a clean stripe is left as encoding it anew would leave it. No other byte of the stripe matters: a
- * caller may read just these cells and write just these back. Refuses 1, 13, 2, 3 (P and Q too), 5, 15. */
+ * caller may read just these cells and write just these back. Updates of different cells may come in any order; of the
+ * same cell, the last one stands. Refuses 1, 13, 2, 3 (P and Q too), 5, 15. */
 struct cuzhaveli_answer cuzhaveli_update_cell(struct cuzhaveli_shape shape, size_t row, size_t disk, uint8_t *stripe,
                                               size_t stripe_len, const uint8_t *cell, size_t cell_len);
 

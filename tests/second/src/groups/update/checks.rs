@@ -1,7 +1,7 @@
 //! The update of one cell: what changes and what stands, the XOR of every set, encoding anew, and refused calls.
 
 use super::calls::update_cell;
-use super::model;
+use super::{model, orders};
 use crate::groups::stripes::calls::encode_stripe;
 use crate::harness::answer::Answer;
 use crate::harness::model::{
@@ -18,6 +18,7 @@ pub fn run(setting: &mut Setting, group: &mut Group) {
     example(group, random);
     for (p, k) in arrays::some() {
         every_cell(group, random, Shape::new(p, k, 1));
+        orders::run(group, random, Shape::new(p, k, 1));
         every_fault(group, random, p, k);
         for s in SOME_SIZES.into_iter().filter(|s| *s <= 64 || p <= 7 || k == p) {
             some_cells(group, random, Shape::new(p, k, s));
@@ -25,6 +26,7 @@ pub fn run(setting: &mut Setting, group: &mut Group) {
         }
         if p <= 7 {
             every_cell(group, random, Shape::new(p, k, 3));
+            orders::run(group, random, Shape::new(p, k, 3));
         }
     }
     refused_numbers(group, random);

@@ -3,3 +3,4 @@
 pub mod calls;
 pub mod checks;
 pub mod model;
+mod orders;
