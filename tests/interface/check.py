@@ -11,7 +11,8 @@ structs, with the same sizes and offsets; libcuzhaveli.a must define exactly the
 libcuzhaveli_plans.a those of crates/cuzhaveli_plans, which must be among them; an archive must hold
 no data and need nothing but memcpy and memset; the refusals must have one set of names and
 numbers in the header, the crate and the documents; the refusals that the header names for a
-call must be those that it gave in the random calls. Exit status 1 if something differs.
+call must be those that it gave in the random calls; theorems that documents name must be there.
+Exit status 1 if something differs.
 """
 
 import pathlib
@@ -27,6 +28,7 @@ HEADER = TOP / "include/cuzhaveli.h"
 FFI = TOP / "rust/cuzhaveli/src/ffi.rs"
 KINDS = TOP / "rust/cuzhaveli/src/refusal.rs"
 TABLES = [TOP / "README.md", TOP / "docs/C.md"]
+GUIDES = [TOP / "docs/TRUST.md", TOP / "docs/PROOFS.md"]
 NEEDED = {"memcpy", "memset"}
 SIZES = {"u8": 1, "bool": 1, "u32": 4, "u64": 8, "usize": 8}
 STANDARDS = [("gcc", "c99"), ("gcc", "c11"), ("g++", "c++98"), ("g++", "c++17")]
@@ -276,6 +278,19 @@ def check_refusals():
     return len(wanted) - 1
 
 
+def check_guides():
+    """The files and the theorems that the pages on trust and proofs name are there."""
+    proofs = "\n".join(path.read_text() for path in TOP.glob("crates/*/proofs/*.antt"))
+    for page in GUIDES:
+        text = page.read_text()
+        for path in set(re.findall(r"crates/[\w/]+\.antt", text)):
+            if not (TOP / path).exists():
+                differs(f"there is no {path}", page, "name the file where the theorem stands now")
+        for name in set(re.findall(r"`([a-z]+(?:-[a-z]+)+)`", text)):
+            if not re.search(rf"^\s*(?:pub )?{name} :", proofs, re.M):
+                differs(f"no proof file has a theorem {name}", page, "name the theorem as it is called now")
+
+
 def check_given(boundary):
     """The refusals that the header names for each call, and those that the random calls gave."""
     seen = {name: set(map(int, numbers.split())) for name, numbers in re.findall(r"^refused (\w+):(.*)$", boundary.read_text(), re.M)}
@@ -308,6 +323,7 @@ def main():
     compare("call", {name: call for name, call in calls.items() if name in plans}, plans, PLANS)
     symbols = check_archive(calls, library) + check_archive(plans, plans_library)
     refusals = check_refusals()
+    check_guides()
     check_given(boundary)
     if problems:
         sys.exit(f"interface: {problems} differences")
