@@ -1,5 +1,5 @@
 //! Finds libcuzhaveli.a: in the folder that CUZHAVELI_LIB_DIR names, else in build/ of the
-//! repository, else where the program pkg-config says.
+//! repository or lib/ of a release, else where the program pkg-config says.
 
 use std::env;
 use std::path::{Path, PathBuf};
@@ -12,7 +12,7 @@ fn main() {
     println!("cargo:rerun-if-env-changed=PKG_CONFIG_PATH");
     let folder = named().or_else(built).or_else(installed).unwrap_or_else(|| {
         panic!(
-            "no {ARCHIVE}: CUZHAVELI_LIB_DIR is not set, the repository's build/ has none, and pkg-config \
+            "no {ARCHIVE}: CUZHAVELI_LIB_DIR is not set, neither build/ nor lib/ beside rust/ has it, and pkg-config \
              knows no cuzhaveli. Run `make` in the repository, or set CUZHAVELI_LIB_DIR to the folder \
              that holds {ARCHIVE}"
         )
@@ -36,9 +36,8 @@ fn named() -> Option<PathBuf> {
 
 fn built() -> Option<PathBuf> {
     let root = env::var_os("CARGO_MANIFEST_DIR").expect("cargo sets CARGO_MANIFEST_DIR");
-    let folder = Path::new(&root).join("../../build");
-    println!("cargo:rerun-if-changed={}", folder.join(ARCHIVE).display());
-    folder.join(ARCHIVE).is_file().then_some(folder)
+    let folders = ["../../build", "../../lib"].map(|folder| Path::new(&root).join(folder));
+    folders.into_iter().find(|folder| folder.join(ARCHIVE).is_file())
 }
 
 fn installed() -> Option<PathBuf> {
