@@ -1,0 +1,122 @@
+-- A disk fits exactly if some clean stripe is t off that disk, and that stripe is then t with the disk rebuilt. A dirty stripe has at most one such disk:
+-- two stripes that explain it by different disks are clean and alike off both, so they are the same, and t is that stripe.
+use mathlib.Core.Path.{_≡_, sym, ap, _∙_}
+use mathlib.Core.Bool.{true, false}
+use mathlib.Core.Logic.{⊎-elim}
+use mathlib.Core.List.{List}
+use Prim.Native.Nat.{ℕ, _+_, _*_, _≤_, _<_}
+use native.Mathlib.Nat.{mod-lt}
+use native.Mathlib.Omega.{arith}
+use lib.Dec.{eqb}
+use lib.ListN.{length}
+use borrow.Author.Tests.{eqb-true, eqb-false}
+use Rattle.laws.specs.Xor.{allBytes}
+use Rattle.laws.proofs.Flags.{flag, clash}
+use Rattle.liberation.specs.Sets.{isWidth, place, rowAt, diskAt}
+use Rattle.liberation.specs.Plans.{planOf}
+use Rattle.liberation.specs.Judging.{accepted}
+use Rattle.liberation.proofs.SetLaws.{place-of}
+use Rattle.liberation.proofs.PlaceLaws.{some-row}
+use Rattle.liberation_stripes.specs.Stripes.{cellAt, isStripe, clean, columnOf, withColumn, rebuilt}
+use Rattle.liberation_stripes.proofs.CellLaws.{cell-fits, cells-equal, column-cell, length-column, cell-on, cell-off}
+use Rattle.liberation_stripes.proofs.Solving.{stripe-long, stripe-bytes, stripe-of, bytes-with}
+use Rattle.liberation_stripes.proofs.Rebuilding.{rebuilt-long, rebuilt-bytes, one-back}
+use Rattle.liberation_pairs.proofs.PairLaws.{pair-only}
+use Rattle.liberation_survivors.specs.Survivors.{withRebuilt, fits}
+use Rattle.liberation_survivors.specs.Explained.{Explains}
+use Rattle.liberation.proofs.PartPlans.{plan-accepted}
+
+-- disk d of a stripe t
+module _ (p k s d : ℕ) (disk : d < k + 2) (t : List ℕ) (stripe : isStripe p k s t ≡ true) where
+  column-room : d * (p * s) + p * s ≤ length t
+  column-room = omega (arith, cell-fits (k + 2) (p * s) d disk, stripe-long p k s t stripe)
+
+  -- a column of bytes put in for it
+  module _ (col : List ℕ) (long : length col ≡ p * s) (bytes : allBytes col ≡ true) where
+    pub column-stripe : isStripe p k s (withColumn p s d col t) ≡ true
+    column-stripe = stripe-of p k s (withColumn p s d col t) (length-column p s d col t long column-room ∙ stripe-long p k s t stripe) (bytes-with (p * s) d col t bytes (stripe-bytes p k s t stripe))
+
+    pub column-explains : clean p k s (withColumn p s d col t) ≡ true → Explains p k s d t (withColumn p s d col t)
+    column-explains h = record { stripe = column-stripe; cleans = h; alike = λ x l n. sym (cell-off p s d col t long column-room x (some-row p (k + 2) x l) n) }
+
+  -- our plan for it is accepted
+  module _ (ok : accepted p k d (planOf p k d) ≡ true) where
+    fits-then : fits p k s d t ≡ true → Explains p k s d t (withRebuilt p k s d t)
+    unfolding fits
+    fits-then h = column-explains (rebuilt p k s d t) (rebuilt-long p k s d ok disk t stripe) (rebuilt-bytes p k s d ok disk t stripe) h
+
+    module _ (u : List ℕ) (e : Explains p k s d t u) where
+      column-is : columnOf p s d u ≡ rebuilt p k s d t
+      column-is = sym (one-back p k s d ok disk t u stripe (e .stripe) (e .cleans) (e .alike))
+
+      stripe-is : u ≡ withRebuilt p k s d t
+      stripe-is = cells-equal (p * (k + 2)) s u v (stripe-long p k s u (e .stripe)) (stripe-long p k s v (column-stripe (rebuilt p k s d t) long (rebuilt-bytes p k s d ok disk t stripe))) (λ x l. ⊎-elim (λ q. on x l (eqb-true (diskAt p x) d q)) (λ q. off x l (eqb-false (diskAt p x) d q)) (flag (eqb (diskAt p x) d)))
+        where
+          v : List ℕ
+          v = withRebuilt p k s d t
+
+          long : length (rebuilt p k s d t) ≡ p * s
+          long = rebuilt-long p k s d ok disk t stripe
+
+          off : (x : ℕ) → x < p * (k + 2) → (diskAt p x ≡ d → ⊥) → cellAt s u x ≡ cellAt s v x
+          off x l n = sym (e .alike x l n) ∙ sym (cell-off p s d (rebuilt p k s d t) t long column-room x (some-row p (k + 2) x l) n)
+
+          on : (x : ℕ) → x < p * (k + 2) → diskAt p x ≡ d → cellAt s u x ≡ cellAt s v x
+          on x l q =
+              ap (cellAt s u) (sym (place-of p x) ∙ ap (place p (rowAt p x)) q)
+              ∙ sym (column-cell p s d (rowAt p x) u (mod-lt x (some-row p (k + 2) x l)))
+              ∙ ap (λ (c : List ℕ). cellAt s c (rowAt p x)) column-is
+              ∙ sym (cell-on p s d (rebuilt p k s d t) t long column-room x (some-row p (k + 2) x l) q)
+
+      fits-if : fits p k s d t ≡ true
+      unfolding fits
+      fits-if = ap (clean p k s) (sym stripe-is) ∙ e .cleans
+
+-- one disk of a width
+module _ (p k s d : ℕ) (width : isWidth p ≡ true) (most : k ≤ p) (disk : d < k + 2) (t : List ℕ) (stripe : isStripe p k s t ≡ true) where
+  -- it fits: the stripe with the disk rebuilt explains t
+  pub fits-explains : fits p k s d t ≡ true → Explains p k s d t (withRebuilt p k s d t)
+  fits-explains = fits-then p k s d disk t stripe (plan-accepted p k d width most (omega arith))
+
+  -- and wherever some stripe does, it fits
+  pub explains-fits : (u : List ℕ) → Explains p k s d t u → fits p k s d t ≡ true
+  explains-fits = fits-if p k s d disk t stripe (plan-accepted p k d width most (omega arith))
+
+  -- that stripe's column is the rebuilt one, and the stripe is t with it
+  pub explains-column : (u : List ℕ) → Explains p k s d t u → columnOf p s d u ≡ rebuilt p k s d t
+  explains-column = column-is p k s d disk t stripe (plan-accepted p k d width most (omega arith))
+
+  pub explains-only : (u : List ℕ) → Explains p k s d t u → u ≡ withRebuilt p k s d t
+  explains-only = stripe-is p k s d disk t stripe (plan-accepted p k d width most (omega arith))
+
+  -- it does not fit: no stripe does
+  pub unfit-none : fits p k s d t ≡ false → (u : List ℕ) → Explains p k s d t u → ⊥
+  unfit-none h u e = clash (fits p k s d t) (explains-fits u e) h
+
+  pub none-unfit : ((u : List ℕ) → Explains p k s d t u → ⊥) → fits p k s d t ≡ false
+  none-unfit n = ⊎-elim (λ h. absurd (n (withRebuilt p k s d t) (fits-explains h))) (λ h. h) (flag (fits p k s d t))
+
+  -- the same by columns: some column of p × s bytes put in makes t clean
+  pub column-fits : (col : List ℕ) → length col ≡ p * s → allBytes col ≡ true → clean p k s (withColumn p s d col t) ≡ true → fits p k s d t ≡ true
+  column-fits col long bytes h = explains-fits (withColumn p s d col t) (column-explains p k s d disk t stripe col long bytes h)
+
+-- a stripe explained by two different disks is clean
+module _ (p k s a b : ℕ) (width : isWidth p ≡ true) (most : k ≤ p) (ha : a < k + 2) (hb : b < k + 2) (t : List ℕ) (stripe : isStripe p k s t ≡ true) where
+  two-clean : (a ≡ b → ⊥) → (u v : List ℕ) → Explains p k s a t u → Explains p k s b t v → clean p k s t ≡ true
+  two-clean apart u v eu ev = ap (clean p k s) t-is-u ∙ eu .cleans
+    where
+      u-is-v : u ≡ v
+      u-is-v = pair-only p k s a b width most ha hb apart u v (eu .stripe) (ev .stripe) (eu .cleans) (ev .cleans) (λ x l m n. sym (eu .alike x l m) ∙ ev .alike x l n)
+
+      on-a : (x : ℕ) → x < p * (k + 2) → diskAt p x ≡ a → cellAt s t x ≡ cellAt s u x
+      on-a x l q = ev .alike x l (λ e. apart (sym q ∙ e)) ∙ ap (λ (w : List ℕ). cellAt s w x) (sym u-is-v)
+
+      t-is-u : t ≡ u
+      t-is-u = cells-equal (p * (k + 2)) s t u (stripe-long p k s t stripe) (stripe-long p k s u (eu .stripe)) (λ x l. ⊎-elim (λ q. on-a x l (eqb-true (diskAt p x) a q)) (λ q. eu .alike x l (eqb-false (diskAt p x) a q)) (flag (eqb (diskAt p x) a)))
+
+  pub explains-once : clean p k s t ≡ false → (u v : List ℕ) → Explains p k s a t u → Explains p k s b t v → a ≡ b
+  explains-once dirty u v eu ev = ⊎-elim (λ q. eqb-true a b q) (λ q. clash (clean p k s t) (two-clean (eqb-false a b q) u v eu ev) dirty) (flag (eqb a b))
+
+  -- at most one disk fits a dirty stripe
+  pub fits-once : clean p k s t ≡ false → fits p k s a t ≡ true → fits p k s b t ≡ true → a ≡ b
+  fits-once dirty fa fb = explains-once dirty (withRebuilt p k s a t) (withRebuilt p k s b t) (fits-explains p k s a width most ha t stripe fa) (fits-explains p k s b width most hb t stripe fb)
