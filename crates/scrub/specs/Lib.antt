@@ -1,0 +1,2 @@
+-- What the scrub of a stripe promises.
+pub mod Says

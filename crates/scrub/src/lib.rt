@@ -1,0 +1,98 @@
+// The scrub of a stripe: is it clean, is one disk inconsistent with the others, or more than one? The stripe is only read.
+ghost use mathlib.Core.Path.{_≡_};
+ghost use mathlib.Core.Bool.{true};
+ghost use Prim.Native.Nat.{_+_, _*_, _≤_, _<_};
+ghost use Rattle.liberation.specs.Sets.{isWidth};
+ghost use Rattle.liberation_survivors.specs.Survivors.{suspect};
+ghost use Rattle.refusals.specs.Answers.{Answers};
+ghost use Rattle.stripes.specs.Cells.{Sized};
+ghost use Rattle.scrub.specs.Says.{ScrubSays};
+use refusals::Answer;
+use refusals::Shape;
+
+// The answer, the verdict, 0 for a clean stripe, 1 for one inconsistent disk and 2 for more than one, and that disk's number where the verdict is 1, else 0.
+#[repr(C)]
+pub struct Scrubbed {
+    pub answer: Answer,
+    pub verdict: u8,
+    pub disk: usize,
+}
+
+// The same of these three.
+fn found(refusal: u8, verdict: u8, disk: usize) -> Scrubbed
+    ensures { λ r. ⌜ Answers refusal (r .answer) × (r .verdict ≡ verdict) × (r .disk ≡ disk) ⌝ }
+{
+    Scrubbed {
+        answer: refusals::answered(refusal),
+        verdict,
+        disk,
+    }
+}
+
+// A set of a dirty stripe that is not clean: the number of a row set, or the width and the number of a diagonal set. No answer depends on it, so its bound is all that is promised.
+fn dirty_set(width: usize, disks: usize, size: usize, stripe: &[u8]) -> usize
+    requires { ⌜ Sized width disks size (now stripe) × (0 < width) ⌝ }
+    ensures { λ r. ⌜ r < 2 * width ⌝ }
+{
+    let row = survivors::first_unbalanced(width, disks, size, disks + 1, stripe);
+    if row < width {
+        return row;
+    }
+    let diagonal = survivors::first_unbalanced(width, disks, size, disks, stripe);
+    if diagonal < width {
+        return width + diagonal;
+    }
+    0
+}
+
+// The disk's balance that has this set, or another one. No answer depends on it either.
+fn start(width: usize, disks: usize, disk: usize, dirty: usize) -> usize
+    requires { ⌜ (width ≤ 31) × (disks ≤ width) × (dirty < 2 * width) ⌝ }
+    ensures { λ r. ⌜ r < width ⌝ }
+{
+    if width <= dirty {
+        return dirty - width;
+    }
+    if disks <= disk {
+        return dirty;
+    }
+    (dirty + width - disk) % width
+}
+
+// The first disk that fits, two more than the data disks if none does.
+fn first_fit(width: usize, disks: usize, size: usize, dirty: usize, stripe: &[u8]) -> usize
+    requires { ⌜ Sized width disks size (now stripe) × (isWidth width ≡ true) × (dirty < 2 * width) ⌝ }
+    ensures { λ r. ⌜ r ≡ suspect width disks size (now (stripe .entry)) ⌝ }
+{
+    let mut disk = 0;
+    while disk < disks + 2 {
+        let first = start(width, disks, disk, dirty);
+        if survivors::disk_fits(width, disks, size, disk, first, stripe) {
+            return disk;
+        }
+        disk += 1;
+    }
+    disk
+}
+
+// Is a stripe clean, and if not, is there a disk whose cells alone can make it so? Refusals: 1, 13, 2, 5.
+pub fn scrub_stripe(shape: Shape, stripe: &[u8]) -> Scrubbed
+    ensures { λ r. ⌜ ScrubSays (shape .width) (shape .disks) (shape .«cell_size») (now (stripe .entry)) r ⌝ }
+{
+    let width = shape.width;
+    let disks = shape.disks;
+    let size = shape.cell_size;
+    let checked = stripes::check_stripe(shape, stripe);
+    if checked.answer.refusal != 0 {
+        return found(checked.answer.refusal, 0, 0);
+    }
+    if checked.clean {
+        return found(0, 0, 0);
+    }
+    let dirty = dirty_set(width, disks, size, stripe);
+    let disk = first_fit(width, disks, size, dirty, stripe);
+    if disk < disks + 2 {
+        return found(0, 1, disk);
+    }
+    found(0, 2, 0)
+}

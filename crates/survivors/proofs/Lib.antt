@@ -1,0 +1,2 @@
+-- The balances of a disk as lists of offsets.
+pub mod BalanceLists

@@ -1,0 +1,2 @@
+-- What the test of a disk by its survivors asks.
+pub mod Tests

@@ -1,0 +1,150 @@
+// The test of one disk by the cells of the others: the survivors of each of its balances XOR to zero. The offsets of a balance's survivors, at most three sets, go into one list, so no bytes are kept.
+ghost use mathlib.Core.Path.{_≡_};
+ghost use mathlib.Core.Bool.{true};
+ghost use Prim.Native.Nat.{_+_, _≤_, _<_};
+ghost use lib.Dec.{eqb};
+ghost use lib.ListN.{length};
+ghost use Rattle.liberation.specs.Sets.{isWidth, setOf, diagonalSet, lostIn, survivingIn};
+ghost use Rattle.liberation_survivors.specs.Survivors.{rowSets, balance, balanced, allBalanced, fits};
+ghost use Rattle.offsets.specs.Offsets.{scaled, Pushed};
+ghost use Rattle.stripes.specs.Cells.{Sized};
+ghost use Rattle.survivors.specs.Tests.{Listed};
+
+// A list with room for the cells of any three sets.
+fn no_balance() -> [usize; 99]
+    ensures { λ r. ⌜ length r ≡ 99 ⌝ }
+{
+    [0; 99]
+}
+
+// The offsets of a set's cells but those on one disk, after the first `count` numbers; the new count.
+fn push_set(
+    width: usize,
+    disks: usize,
+    size: usize,
+    disk: usize,
+    kind: usize,
+    number: usize,
+    at: &mut [usize],
+    count: usize,
+) -> usize
+    requires { ⌜ Listed width disks size disk number (length (now at)) × (count ≤ 66) ⌝ }
+    ensures { λ r. ⌜ Pushed (now (at .entry)) (now (at .exit)) count r (scaled size (survivingIn width disk (setOf width disks kind number))) × (r ≤ count + 33) ⌝ }
+{
+    let end = count + 33;
+    let n = set_offsets::surviving(
+        width,
+        disks,
+        size,
+        kind,
+        number,
+        disk,
+        disk,
+        &mut at[count..end],
+    );
+    count + n
+}
+
+// The same of the row sets of the rows that diagonal `number` has on a data disk: one, and a second one where the diagonal's extra cell is on that disk.
+fn push_rows(
+    width: usize,
+    disks: usize,
+    size: usize,
+    disk: usize,
+    number: usize,
+    at: &mut [usize],
+    count: usize,
+) -> usize
+    requires { ⌜ Listed width disks size disk number (length (now at)) × (disk < disks) × (count ≤ 33) ⌝ }
+    ensures { λ r. ⌜ Pushed (now (at .entry)) (now (at .exit)) count r (scaled size (survivingIn width disk (rowSets width disks (lostIn width disk (diagonalSet width disks number))))) ⌝ }
+{
+    let row = offsets::row_on(width, number, disk);
+    let n = push_set(width, disks, size, disk, 0, row, at, count);
+    if number == 0 {
+        return n;
+    }
+    if sets::extra_disk(width, number) != disk {
+        return n;
+    }
+    push_set(width, disks, size, disk, 0, width - 1 - number, at, n)
+}
+
+// The offsets of a balance's survivors in a lent list; their count. A row set for Q; a diagonal set for P; for a data disk a diagonal set and the row sets of its rows there.
+fn push_balance(
+    width: usize,
+    disks: usize,
+    size: usize,
+    disk: usize,
+    number: usize,
+    at: &mut [usize],
+) -> usize
+    requires { ⌜ Listed width disks size disk number (length (now at)) ⌝ }
+    ensures { λ r. ⌜ Pushed (now (at .entry)) (now (at .exit)) 0 r (scaled size (survivingIn width disk (balance width disks disk number))) ⌝ }
+{
+    if disk == disks + 1 {
+        return push_set(width, disks, size, disk, 0, number, at, 0);
+    }
+    let n = push_set(width, disks, size, disk, 1, number, at, 0);
+    if disk == disks {
+        return n;
+    }
+    push_rows(width, disks, size, disk, number, at, n)
+}
+
+// Do the survivors of one balance XOR to zero?
+fn is_balanced(
+    width: usize,
+    disks: usize,
+    size: usize,
+    disk: usize,
+    number: usize,
+    stripe: &[u8],
+    at: &mut [usize],
+) -> bool
+    requires { ⌜ Sized width disks size (now stripe) × (disk < disks + 2) × (number < width) × (length (now at) ≡ 99) ⌝ }
+    ensures { λ r. ⌜ r ≡ balanced width disks size disk (now (stripe .entry)) number ⌝ }
+{
+    let n = push_balance(width, disks, size, disk, number, at);
+    xor::is_zero(stripe, size, &at[..n])
+}
+
+// The first number whose balance is not zero, the width if every one is.
+pub fn first_unbalanced(
+    width: usize,
+    disks: usize,
+    size: usize,
+    disk: usize,
+    stripe: &[u8],
+) -> usize
+    requires { ⌜ Sized width disks size (now stripe) × (disk < disks + 2) ⌝ }
+    ensures { λ r. ⌜ (r ≤ width) × (eqb r width ≡ allBalanced width disks size disk (now (stripe .entry))) ⌝ }
+{
+    let mut at = no_balance();
+    let mut number = 0;
+    while number < width {
+        if !is_balanced(width, disks, size, disk, number, stripe, &mut at) {
+            return number;
+        }
+        number += 1;
+    }
+    number
+}
+
+// Is some clean stripe alike this one off the disk? Balance `first` is tested before the others: no answer depends on it, but a caller that knows a set that is not clean has most disks refused by one balance.
+pub fn disk_fits(
+    width: usize,
+    disks: usize,
+    size: usize,
+    disk: usize,
+    first: usize,
+    stripe: &[u8],
+) -> bool
+    requires { ⌜ Sized width disks size (now stripe) × (isWidth width ≡ true) × (disk < disks + 2) × (first < width) ⌝ }
+    ensures { λ r. ⌜ r ≡ fits width disks size disk (now (stripe .entry)) ⌝ }
+{
+    let mut at = no_balance();
+    if !is_balanced(width, disks, size, disk, first, stripe, &mut at) {
+        return false;
+    }
+    first_unbalanced(width, disks, size, disk, stripe) == width
+}
