@@ -3,3 +3,4 @@ pub mod Plans
 pub mod Stripes
 pub mod Pairs
 pub mod Runs
+pub mod Scrubs
