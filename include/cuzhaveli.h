@@ -109,6 +109,20 @@ struct cuzhaveli_checked {
     bool clean;
 };
 
+/* What a scrub can say of a stripe. */
+enum cuzhaveli_verdict {
+    CUZHAVELI_CLEAN = 0,
+    CUZHAVELI_ONE_DISK = 1,     /* not clean, and the cells of one disk alone can make it so: `disk` */
+    CUZHAVELI_MORE_THAN_ONE = 2 /* not clean, and no disk's cells alone can make it so */
+};
+
+/* An enum cuzhaveli_verdict, and that one disk's number, 0 with the other verdicts. */
+struct cuzhaveli_scrubbed {
+    struct cuzhaveli_answer answer;
+    uint8_t verdict;
+    size_t disk;
+};
+
 /* The stripes that a package takes, the bytes of one disk for them, and whether these are free. */
 struct cuzhaveli_space {
     struct cuzhaveli_answer answer;
@@ -196,6 +210,14 @@ struct cuzhaveli_answer cuzhaveli_encode_stripe(struct cuzhaveli_shape shape, ui
 /* Says whether a stripe is clean. Refuses 1, 13, 2, 5. */
 struct cuzhaveli_checked cuzhaveli_check_stripe(struct cuzhaveli_shape shape, const uint8_t *stripe,
                                                 size_t stripe_len);
+
+/* Says whether a stripe is clean and, if it is not, which disk it is whose cells alone can be replaced to make it so:
+ * at most one disk is such. If bytes of one disk of a clean stripe have changed, data, P or Q, that disk is named. If
+ * bytes of several disks have, the answer is CUZHAVELI_MORE_THAN_ONE, unless what stands there happens to agree with
+ * a clean stripe, or with one but for a single disk. The stripe is only read; cuzhaveli_rebuild_one gives what the
+ * named disk should hold. A refused call has the verdict 0 too, so test `answer.refusal` first. Refuses 1, 13, 2, 5. */
+struct cuzhaveli_scrubbed cuzhaveli_scrub_stripe(struct cuzhaveli_shape shape, const uint8_t *stripe,
+                                                 size_t stripe_len);
 
 /* Writes the lost disk to `column` by our plan. Only the cells marked in the read list matter: the rest of the stripe
  * may hold anything, the lost disk's part too. If the marked cells are those of a clean stripe, the column is that

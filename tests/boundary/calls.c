@@ -5,7 +5,9 @@
 #include <stdio.h>
 #include <string.h>
 
-enum { PLAN, LIST, JUDGE, SPACE, ENCODE, CHECK, ONE, TWO, UPDATE, OPEN, STEP, SKIP, PROGRESS, FULL, DISKS, BYTES, BILL };
+enum {
+    PLAN, LIST, JUDGE, SPACE, ENCODE, CHECK, SCRUB, ONE, TWO, UPDATE, OPEN, STEP, SKIP, PROGRESS, FULL, DISKS, BYTES, BILL
+};
 
 #define SAY(caller, ...) snprintf((caller)->what, sizeof (caller)->what, __VA_ARGS__)
 #define SHAPE "{%zu, %zu, %zu}"
@@ -169,6 +171,29 @@ static bool check_stripe(struct caller *c)
     struct cuzhaveli_checked got = cuzhaveli_check_stripe(shape, stripe->bytes, stripe->length);
     struct cuzhaveli_checked wanted = second_check_stripe(shape, stripe->same, stripe->same_length);
     return same(c, CHECK, got.answer, wanted.answer) && got.clean == wanted.clean && lent_agrees(stripe);
+}
+
+/* A clean stripe, or one with a cell or all cells of one disk changed, mostly, and now and then a byte of another. */
+static bool scrub_stripe(struct caller *c)
+{
+    struct random *r = &c->random;
+    struct cuzhaveli_shape shape = any_shape(r);
+    struct lent *stripe = &c->first;
+    lend_stripe(c, shape);
+    if (stripe->bytes && is_shape(shape) && stripe->length == CUZHAVELI_STRIPE_BYTES(shape) && once_in(r, 2)) {
+        size_t column = CUZHAVELI_COLUMN_BYTES(shape), first = any_disk(r, shape.disks) % (shape.disks + 2) * column;
+        second_encode_stripe(shape, stripe->same, stripe->same_length);
+        for (size_t i = 0; i < column; i++)
+            stripe->same[first + i] ^= (uint8_t)next_number(r);
+        if (once_in(r, 3))
+            stripe->same[below(r, stripe->length)] ^= (uint8_t)next_number(r);
+        set_content(stripe);
+    }
+    SAY(c, "cuzhaveli_scrub_stripe(" SHAPE ", %p, %zu)", OF(shape), (void *)stripe->bytes, stripe->length);
+    struct cuzhaveli_scrubbed got = cuzhaveli_scrub_stripe(shape, stripe->bytes, stripe->length);
+    struct cuzhaveli_scrubbed wanted = second_scrub_stripe(shape, stripe->same, stripe->same_length);
+    return same(c, SCRUB, got.answer, wanted.answer) && got.verdict == wanted.verdict && got.disk == wanted.disk &&
+           lent_agrees(stripe);
 }
 
 static bool rebuild_one(struct caller *c)
@@ -351,6 +376,7 @@ const struct call CALL[CALLS] = {
     [SPACE] = {"cuzhaveli_package_space", package_space},
     [ENCODE] = {"cuzhaveli_encode_stripe", encode_stripe},
     [CHECK] = {"cuzhaveli_check_stripe", check_stripe},
+    [SCRUB] = {"cuzhaveli_scrub_stripe", scrub_stripe},
     [ONE] = {"cuzhaveli_rebuild_one", rebuild_one},
     [TWO] = {"cuzhaveli_rebuild_two", rebuild_two},
     [UPDATE] = {"cuzhaveli_update_cell", update_cell},

@@ -24,6 +24,15 @@ static void judge_plan(void) { sink = cuzhaveli_judge_plan(shape.width, shape.di
 static void package_space(void) { sink = cuzhaveli_package_space(shape, 1 << 30, 1 << 30).answer.refusal; }
 static void encode_stripe(void) { sink = cuzhaveli_encode_stripe(shape, stripe, CUZHAVELI_STRIPE_BYTES(shape)).refusal; }
 static void check_stripe(void) { sink = cuzhaveli_check_stripe(shape, stripe, CUZHAVELI_STRIPE_BYTES(shape)).answer.refusal; }
+
+/* A byte of Q is changed meanwhile, so that every disk is tried. */
+static void scrub_stripe(void)
+{
+    stripe[CUZHAVELI_STRIPE_BYTES(shape) - 1] ^= 1;
+    sink = cuzhaveli_scrub_stripe(shape, stripe, CUZHAVELI_STRIPE_BYTES(shape)).verdict;
+    stripe[CUZHAVELI_STRIPE_BYTES(shape) - 1] ^= 1;
+}
+
 static void rebuild_one(void) { sink = cuzhaveli_rebuild_one(shape, lost, stripe, CUZHAVELI_STRIPE_BYTES(shape), column, CUZHAVELI_COLUMN_BYTES(shape)).refusal; }
 static void rebuild_two(void) { sink = cuzhaveli_rebuild_two(shape, lost, other, stripe, CUZHAVELI_STRIPE_BYTES(shape)).refusal; }
 static void update_cell(void) { sink = cuzhaveli_update_cell(shape, shape.width - 1 - other % 2, lost % shape.disks, stripe, CUZHAVELI_STRIPE_BYTES(shape), column, shape.cell_size).refusal; }
@@ -53,6 +62,7 @@ static struct { const char *name; void (*make)(void); size_t promised, most; } M
     {"cuzhaveli_package_space", package_space, 8192, 0},
     {"cuzhaveli_encode_stripe", encode_stripe, 8192, 0},
     {"cuzhaveli_check_stripe", check_stripe, 8192, 0},
+    {"cuzhaveli_scrub_stripe", scrub_stripe, 8192, 0},
     {"cuzhaveli_rebuild_one", rebuild_one, 8192, 0},
     {"cuzhaveli_rebuild_two", rebuild_two, 16384, 0}, /* its walk is recursive, two steps for each row */
     {"cuzhaveli_update_cell", update_cell, 8192, 0},

@@ -8,6 +8,7 @@ ghost use Rattle.stripes.specs.Says.{EncodeSays, CheckSays};
 ghost use Rattle.rebuild_one.specs.Says.{OneSays};
 ghost use Rattle.rebuild_two.specs.Says.{TwoSays};
 ghost use Rattle.update.specs.Says.{UpdateSays};
+ghost use Rattle.scrub.specs.Says.{ScrubSays};
 ghost use Rattle.runs.specs.Runs.{OpenSays, StepSays, SkipSays, ProgressSays, resumed, resumedDisks};
 ghost use Rattle.billing.specs.Bills.{BillSays, RunBillSays};
 use billing::Bill;
@@ -20,6 +21,7 @@ use runs::FullRun;
 use runs::Progress;
 use runs::Run;
 use runs::RunAnswer;
+use scrub::Scrubbed;
 use space::Space;
 use stripes::Checked;
 
@@ -79,6 +81,14 @@ pub extern "C" fn cuzhaveli_check_stripe(shape: Shape, stripe: &[u8]) -> Checked
     ensures { λ r. ⌜ CheckSays (shape .width) (shape .disks) (shape .«cell_size») (now (stripe .entry)) r ⌝ }
 {
     stripes::check_stripe(shape, stripe)
+}
+
+// Is a lent stripe clean, is one disk inconsistent with the others, or more than one?
+#[no_mangle]
+pub extern "C" fn cuzhaveli_scrub_stripe(shape: Shape, stripe: &[u8]) -> Scrubbed
+    ensures { λ r. ⌜ ScrubSays (shape .width) (shape .disks) (shape .«cell_size») (now (stripe .entry)) r ⌝ }
+{
+    scrub::scrub_stripe(shape, stripe)
 }
 
 // Rebuilds one lost disk of a lent stripe into a lent column of p × s bytes.

@@ -79,6 +79,13 @@ records! {
         pub clean: YesNo,
     }
 
+    /// What a scrub says of a stripe: the verdict (0 clean, 1 one disk, 2 more than one) and that disk.
+    pub struct Scrubbed {
+        pub answer: Answer,
+        pub verdict: u8,
+        pub disk: usize,
+    }
+
     /// The space of a package.
     pub struct Space {
         pub answer: Answer,
@@ -160,6 +167,8 @@ extern "C" {
     pub fn cuzhaveli_encode_stripe(shape: Shape, stripe: *mut u8, stripe_len: usize) -> Answer;
 
     pub fn cuzhaveli_check_stripe(shape: Shape, stripe: *const u8, stripe_len: usize) -> Checked;
+
+    pub fn cuzhaveli_scrub_stripe(shape: Shape, stripe: *const u8, stripe_len: usize) -> Scrubbed;
 
     pub fn cuzhaveli_rebuild_one(
         shape: Shape,

@@ -44,4 +44,4 @@ pub use plan::{Plan, Set, Step};
 pub use read_list::ReadList;
 pub use refusal::{Refusal, RefusalKind};
 pub use run::Run;
-pub use shape::{Shape, Space};
+pub use shape::{Scrub, Shape, Space};

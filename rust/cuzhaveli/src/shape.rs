@@ -19,6 +19,17 @@ pub struct Space {
     pub fits: bool,
 }
 
+/// What a scrub says of a stripe.
+#[derive(Clone, Copy, Debug, PartialEq, Eq)]
+pub enum Scrub {
+    /// The cells of every set XOR to zero.
+    Clean,
+    /// The stripe is not clean, and replacing the cells of this disk alone can make it so.
+    OneDisk(usize),
+    /// The stripe is not clean, and no disk's cells alone can make it so.
+    MoreThanOne,
+}
+
 impl Shape {
     /// A shape of that width p, with that number of data disks k and cell size s. Refuses 1, 13, 2.
     ///
@@ -159,6 +170,37 @@ impl Shape {
         let (stripe, stripe_len) = (stripe.as_ptr(), stripe.len());
         let checked = unsafe { ffi::cuzhaveli_check_stripe(self.0, stripe, stripe_len) };
         checked.answer.accepted().map(|()| checked.clean.get())
+    }
+
+    /// Whether a stripe is clean and, if it is not, which disk it is whose cells alone can be replaced to make it so; at
+    /// most one disk is such. Refuses 5.
+    ///
+    /// ```
+    /// use cuzhaveli::Scrub;
+    ///
+    /// let shape = cuzhaveli::Shape::new(3, 3, 1)?;
+    /// let clean = [1, 8, 0x40, 2, 0x10, 0x80, 4, 0x20, 0, 7, 0x38, 0xC0, 0x11, 0x9C, 0x66];
+    /// assert_eq!(shape.scrub(&clean)?, Scrub::Clean);
+    /// let mut stripe = clean;
+    /// stripe[3..6].copy_from_slice(&[0x55, 0x10, 0x99]); // disk 1 returns other bytes
+    /// assert_eq!(shape.scrub(&stripe)?, Scrub::OneDisk(1));
+    /// let mut column = [0; 3];
+    /// shape.rebuild_one(1, &stripe, &mut column)?; // what it should hold
+    /// assert_eq!(column, clean[3..6]);
+    /// stripe[0] ^= 1; // and disk 0 too
+    /// assert_eq!(shape.scrub(&stripe)?, Scrub::MoreThanOne);
+    /// # Ok::<(), cuzhaveli::Refusal>(())
+    /// ```
+    pub fn scrub(self, stripe: &[u8]) -> Result<Scrub, Refusal> {
+        let (stripe, stripe_len) = (stripe.as_ptr(), stripe.len());
+        let scrubbed = unsafe { ffi::cuzhaveli_scrub_stripe(self.0, stripe, stripe_len) };
+        scrubbed.answer.accepted()?;
+        Ok(match scrubbed.verdict {
+            0 => Scrub::Clean,
+            1 => Scrub::OneDisk(scrubbed.disk),
+            2 => Scrub::MoreThanOne,
+            byte => panic!("libcuzhaveli gave {byte} for a verdict"),
+        })
     }
 
     /// Our plan for a lost disk: where k = p no plan that the judge accepts reads less. Refuses 3.

@@ -1,7 +1,7 @@
 //! The safe calls on any argument: refused by number, nothing written, no panic.
 
 use cuzhaveli::ffi::{self, DisksRun, FullRun};
-use cuzhaveli::{bill, Refusal, RefusalKind, Run, Set, Shape, Step};
+use cuzhaveli::{bill, Refusal, RefusalKind, Run, Scrub, Set, Shape, Step};
 
 const WIDTHS: [usize; 10] = [3, 5, 7, 11, 13, 17, 19, 23, 29, 31];
 const HUGE: [usize; 6] =
@@ -45,6 +45,7 @@ fn a_slice_of_another_length_gives_5_and_stands() {
             let mut right = vec![9; column];
             assert_eq!(number(shape.encode(&mut bytes)), 5);
             assert_eq!(number(shape.is_clean(&bytes)), 5);
+            assert_eq!(number(shape.scrub(&bytes)), 5);
             assert_eq!(number(shape.rebuild_two([0, 1], &mut bytes)), 5);
             assert_eq!(number(shape.update_cell(0, 0, &mut bytes, &[7; 3])), 5);
             assert_eq!(number(shape.rebuild_one(0, &bytes, &mut right)), 5);
@@ -119,6 +120,25 @@ fn every_updated_cell_ends_as_encoded() {
             shape.encode(&mut anew).unwrap();
             shape.update_cell(row, disk, &mut stripe, &cell).unwrap();
             assert_eq!(stripe, anew);
+        }
+    }
+}
+
+#[test]
+fn every_disk_that_lies_is_named_and_mended() {
+    for shape in shapes() {
+        let mut clean: Vec<u8> = (0..shape.stripe_len()).map(|i| (i * 37 % 251) as u8).collect();
+        shape.encode(&mut clean).unwrap();
+        assert_eq!(shape.scrub(&clean), Ok(Scrub::Clean));
+        for disk in 0..shape.disks() + 2 {
+            let mut stripe = clean.clone();
+            stripe[shape.disk_range(disk)].fill(0xEE);
+            assert_eq!(shape.scrub(&stripe), Ok(Scrub::OneDisk(disk)));
+            let mut column = vec![0; shape.column_len()];
+            shape.rebuild_one(disk, &stripe, &mut column).unwrap();
+            assert_eq!(column, clean[shape.disk_range(disk)]);
+            stripe[shape.cell_range(0, (disk + 1) % (shape.disks() + 2))][0] ^= 1;
+            assert_eq!(shape.scrub(&stripe), Ok(Scrub::MoreThanOne));
         }
     }
 }

@@ -6,10 +6,11 @@
 use std::slice::{from_raw_parts, from_raw_parts_mut};
 
 use crate::ffi::{
-    Answer, Bill, Checked, DisksRun, FullRun, Judged, Plan, Progress, Run, RunAnswer, Shape, Space,
+    Answer, Bill, Checked, DisksRun, FullRun, Judged, Plan, Progress, Run, RunAnswer, Scrubbed,
+    Shape, Space,
 };
 use crate::groups::{
-    billing, judge, plan, read_list, rebuild_one, rebuild_two, runs, space, stripes, update,
+    billing, judge, plan, read_list, rebuild_one, rebuild_two, runs, scrub, space, stripes, update,
 };
 
 #[no_mangle]
@@ -68,6 +69,17 @@ pub unsafe extern "C" fn second_check_stripe(
     stripe_len: usize,
 ) -> Checked {
     stripes::model::check_stripe(shape, from_raw_parts(stripe, stripe_len))
+}
+
+/// # Safety
+/// `stripe` is lent: see above.
+#[no_mangle]
+pub unsafe extern "C" fn second_scrub_stripe(
+    shape: Shape,
+    stripe: *const u8,
+    stripe_len: usize,
+) -> Scrubbed {
+    scrub::model::scrub_stripe(shape, from_raw_parts(stripe, stripe_len))
 }
 
 /// # Safety

@@ -24,6 +24,7 @@ groups! {
     printed_plan,
     space,
     stripes,
+    scrub,
     rebuild_one,
     rebuild_two,
     update,

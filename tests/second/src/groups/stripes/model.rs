@@ -22,7 +22,7 @@ pub fn check_stripe(shape: Shape, stripe: &[u8]) -> Checked {
 }
 
 /// Every set of the stripe XORs to zero.
-fn clean(shape: Shape, stripe: &[u8]) -> bool {
+pub fn clean(shape: Shape, stripe: &[u8]) -> bool {
     let zero = |kind: usize, i: usize| {
         let sum = sum_of(shape, stripe, &set_cells(shape.width, shape.disks, kind, i));
         sum.iter().all(|byte| *byte == 0)
