@@ -1,0 +1,2 @@
+-- The promise of the rebuild with tested survivors.
+pub mod TestedRefusals

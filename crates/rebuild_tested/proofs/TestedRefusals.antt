@@ -1,0 +1,43 @@
+-- The promise of `rebuild_tested`: the refusals of `rebuild_one`, then 19, which leave the column as it was, and the accepted call.
+use mathlib.Core.Path.{_≡_, sym, ap, _∙_}
+use mathlib.Core.Bool.{Bool, true, not}
+use mathlib.Core.List.{List}
+use Prim.Native.Nat.{ℕ, _+_, _<_}
+use native.Mathlib.Omega.{arith}
+use lib.ListN.{length}
+use Rattle.laws.specs.Choice.{firstOf, when}
+use Rattle.laws.specs.Xor.{allBytes}
+use Rattle.laws.proofs.ChoiceLaws.{first-next, first-none, pick-refused, pick-done}
+use Rattle.liberation.specs.Sets.{isWidth}
+use Rattle.liberation.proofs.Widths.{width-least, width-most}
+use Rattle.liberation_stripes.specs.Stripes.{rebuilt}
+use Rattle.liberation_survivors.specs.Survivors.{fits}
+use Rattle.refusals.specs.declared.Answer.{Answer}
+use Rattle.refusals.specs.Answers.{Answers}
+use Rattle.refusals.proofs.AnswerLaws.{answers-as}
+use Rattle.stripes.specs.Cells.{Sized}
+use Rattle.rebuild_one.specs.Says.{lengthsFault, oneFault}
+use Rattle.rebuild_one.proofs.OneRefusals.{fault-none}
+use Rattle.rebuild_tested.specs.Says.{testedFault, TestedSays}
+
+-- what the test of the survivors asks
+pub test-asks : (p k s f m : ℕ) (t : List ℕ) → lengthsFault p k s f (length t) m ≡ 0 → Sized p k s t × (isWidth p ≡ true) × (f < k + 2) × (0 < p)
+test-asks p k s f m t e =
+    let q = fault-none p k s f (length t) m e in
+    (record { widest = width-most p (q .width); disks = q .disks; small = q .small; long = q .stripe }, q .width, omega (arith, q .disk), omega (arith, width-least p (q .width)))
+
+-- its answer
+pub test-says : (p k s f m : ℕ) (t : List ℕ) (b : Bool) (n : ℕ) → lengthsFault p k s f (length t) m ≡ 0 → b ≡ fits p k s f t → n ≡ when (not b) 19 → n ≡ firstOf (lengthsFault p k s f (length t) m) (when (not (fits p k s f t)) 19)
+test-says p k s f m t b n z e q = first-next n (lengthsFault p k s f (length t) m) (when (not (fits p k s f t)) 19) z (q ∙ ap (λ (c : Bool). when (not c) 19) e)
+
+-- an accepted call is one that `rebuild_one` accepts
+pub untested : (p k s f : ℕ) (t o : List ℕ) → testedFault p k s f t o ≡ 0 → oneFault p k s f t o ≡ 0
+untested p k s f t o e = first-none (oneFault p k s f t o) (when (not (fits p k s f t)) 19) e .0
+
+pub refused : (p k s f n : ℕ) (t o : List ℕ) (r : Answer) → n ≡ testedFault p k s f t o → (n ≡ 0 → ⊥) → Answers n r → allBytes t ≡ true → TestedSays p k s f t o o r
+refused p k s f n t o r e z a b =
+    record { answer = answers-as n (testedFault p k s f t o) r e a; column = pick-refused n (testedFault p k s f t o) (rebuilt p k s f t) o e z; bytes = b }
+
+pub accepted : (p k s f : ℕ) (t o o′ : List ℕ) (r : Answer) → testedFault p k s f t o ≡ 0 → o′ ≡ rebuilt p k s f t → Answers 0 r → allBytes t ≡ true → TestedSays p k s f t o o′ r
+accepted p k s f t o o′ r z e a b =
+    record { answer = answers-as 0 (testedFault p k s f t o) r (sym z) a; column = e ∙ pick-done (testedFault p k s f t o) (rebuilt p k s f t) o z; bytes = b }

@@ -1,0 +1,53 @@
+-- `rebuild_tested`: a refusal leaves the column as it was; else the disk is rebuilt.
+use mathlib.Core.Path.{_≡_, sym, _∙_}
+use mathlib.Core.Bool.{true}
+use Rattle.laws.specs.Xor.{allBytes}
+use Rattle.xor.proofs.SourceLaws.{bytes-all}
+use Rattle.rebuild_tested.specs.Says.{testedFault}
+use Rattle.rebuild_tested.proofs.TestedRefusals.{untested, refused, accepted}
+use borrow.Author.Needs.{needs}
+use Rattle.rebuild_tested.proofs.rebuild_tested.Statement.{statement}
+use Rattle.rebuild_tested.proofs.rebuild_tested.Tie as tie
+
+-- past the refusals
+passed : (c : tie.Else1) → let a = c .before .before .before .before .args in testedFault (a .shape .width) (a .shape .disks) (a .shape .«cell_size») (a .lost) (a .stripe .now) (a .column .now) ≡ 0
+passed c = sym (c .before .tested-fault .ensures) ∙ c .if1 .left
+
+-- the lent stripe is bytes
+bytes : (c : tie.After-shared-slice-known) → allBytes (c .before .args .stripe .now) ≡ true
+bytes c = bytes-all (c .before .args .stripe .now) (c .shared-slice-known .given)
+
+tested-fault-requires : tie.Need-tested-fault-requires
+tested-fault-requires c κs = search needs
+
+answered-requires : tie.Need-answered-requires
+answered-requires c κs = search needs
+
+returns : tie.Need-returns
+returns c =
+    let i = c .before in
+    let f = i .before .tested-fault in
+    let a = i .before .before .before .before .args in
+    refused (a .shape .width) (a .shape .disks) (a .shape .«cell_size») (a .lost) (f .result) (a .stripe .now) (a .column .now) (c .answered .result) (f .ensures) (i .if1 .taken) (c .answered .ensures) (bytes (i .before .before .before))
+
+rebuild-column-requires : tie.Need-rebuild-column-requires
+rebuild-column-requires c κs =
+    let i = c .before in
+    let a = i .before .before .before .before .args in
+    untested (a .shape .width) (a .shape .disks) (a .shape .«cell_size») (a .lost) (a .stripe .now) (a .column .now) (passed i)
+
+answered-requires-2 : tie.Need-answered-requires-2
+answered-requires-2 c κs = search needs
+
+same-length : tie.Need-same-length
+same-length c = search needs
+
+returns-2 : tie.Need-returns-2
+returns-2 c =
+    let g = c .before .before .before in
+    let i = g .before .before in
+    let a = i .before .before .before .before .args in
+    accepted (a .shape .width) (a .shape .disks) (a .shape .«cell_size») (a .lost) (a .stripe .now) (a .column .now) (g .rebuild-column .last .1 .1 .1 .1 .1 .0) (c .answered2 .result) (passed i) (g .rebuild-column .ensures) (c .answered2 .ensures) (bytes (i .before .before .before))
+
+pub rebuild-tested-spec : {M : Type 1} → statement M
+rebuild-tested-spec = tie.close (tie.spec tested-fault-requires answered-requires returns rebuild-column-requires answered-requires-2 same-length returns-2)

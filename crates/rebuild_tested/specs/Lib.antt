@@ -1,0 +1,2 @@
+-- What the rebuild with tested survivors promises.
+pub mod Says
