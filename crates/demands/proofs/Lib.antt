@@ -4,3 +4,4 @@ pub mod Stripes
 pub mod Pairs
 pub mod Runs
 pub mod Scrubs
+pub mod Tested
