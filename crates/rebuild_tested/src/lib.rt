@@ -24,7 +24,7 @@ fn tested_fault(
     if fault != 0 {
         return fault;
     }
-    if survivors::disk_fits(width, disks, size, disk, 0, stripe) {
+    if survivors::disk_fits(width, disks, size, disk, stripe) {
         return 0;
     }
     19

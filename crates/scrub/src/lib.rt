@@ -67,7 +67,7 @@ fn first_fit(width: usize, disks: usize, size: usize, dirty: usize, stripe: &[u8
     let mut disk = 0;
     while disk < disks + 2 {
         let first = start(width, disks, disk, dirty);
-        if survivors::disk_fits(width, disks, size, disk, first, stripe) {
+        if survivors::disk_fits_from(width, disks, size, disk, first, stripe) {
             return disk;
         }
         disk += 1;

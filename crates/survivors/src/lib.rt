@@ -130,8 +130,16 @@ pub fn first_unbalanced(
     number
 }
 
-// Is some clean stripe alike this one off the disk? Balance `first` is tested before the others: no answer depends on it, but a caller that knows a set that is not clean has most disks refused by one balance.
-pub fn disk_fits(
+// Is some clean stripe alike this one off the disk?
+pub fn disk_fits(width: usize, disks: usize, size: usize, disk: usize, stripe: &[u8]) -> bool
+    requires { ⌜ Sized width disks size (now stripe) × (isWidth width ≡ true) × (disk < disks + 2) ⌝ }
+    ensures { λ r. ⌜ r ≡ fits width disks size disk (now (stripe .entry)) ⌝ }
+{
+    first_unbalanced(width, disks, size, disk, stripe) == width
+}
+
+// The same, with balance `first` tested before all of them: no answer depends on it, but a caller that knows a set that is not clean has most disks refused by one balance.
+pub fn disk_fits_from(
     width: usize,
     disks: usize,
     size: usize,
@@ -146,5 +154,5 @@ pub fn disk_fits(
     if !is_balanced(width, disks, size, disk, first, stripe, &mut at) {
         return false;
     }
-    first_unbalanced(width, disks, size, disk, stripe) == width
+    disk_fits(width, disks, size, disk, stripe)
 }
