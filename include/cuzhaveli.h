@@ -51,22 +51,23 @@ extern "C" {
 
 enum cuzhaveli_refusal {
     CUZHAVELI_OK = 0,
-    CUZHAVELI_BAD_WIDTH = 1,         /* p is not one of the ten */
-    CUZHAVELI_BAD_CELL_SIZE = 2,     /* s is 0 or over 4096 */
-    CUZHAVELI_NO_SUCH_DISK = 3,      /* a disk number over k + 1; of a cell to be updated, k or more */
-    CUZHAVELI_SAME_DISK = 4,         /* the two lost disks are one */
-    CUZHAVELI_BAD_LENGTH = 5,        /* a length is another than the one required */
-    CUZHAVELI_STEP_RANGE = 6,        /* a step's row or set number is p or more, or its kind over 1 */
-    CUZHAVELI_STEP_SET = 7,          /* the step's set lacks that row's lost cell */
-    CUZHAVELI_STEP_REPEATED = 8,     /* the row was rebuilt by an earlier step */
-    CUZHAVELI_STEP_EARLY = 9,        /* another lost cell of the set is still missing */
-    CUZHAVELI_NOT_NEXT = 10,         /* the run is over, the stripe is not its next, or more skipped than passed */
-    CUZHAVELI_PACKAGE_TOO_LONG = 11, /* a package of more than 2^48 bytes */
-    CUZHAVELI_BAD_TEXT = 12,         /* input of the plan program; no call here gives it */
-    CUZHAVELI_BAD_DISKS = 13,        /* k is under 2 or over p; tested right after 1 */
-    CUZHAVELI_NO_SUCH_ROW = 15,      /* a row number of p or more */
-    CUZHAVELI_BAD_RATE = 16,         /* a rate of more than 1000 cents a GiB */
-    CUZHAVELI_TOO_MANY_BYTES = 17    /* a bill of more than 2^54 bytes */
+    CUZHAVELI_BAD_WIDTH = 1,          /* p is not one of the ten */
+    CUZHAVELI_BAD_CELL_SIZE = 2,      /* s is 0 or over 4096 */
+    CUZHAVELI_NO_SUCH_DISK = 3,       /* a disk number over k + 1; of a cell to be updated, k or more */
+    CUZHAVELI_SAME_DISK = 4,          /* the two lost disks are one */
+    CUZHAVELI_BAD_LENGTH = 5,         /* a length is another than the one required */
+    CUZHAVELI_STEP_RANGE = 6,         /* a step's row or set number is p or more, or its kind over 1 */
+    CUZHAVELI_STEP_SET = 7,           /* the step's set lacks that row's lost cell */
+    CUZHAVELI_STEP_REPEATED = 8,      /* the row was rebuilt by an earlier step */
+    CUZHAVELI_STEP_EARLY = 9,         /* another lost cell of the set is still missing */
+    CUZHAVELI_NOT_NEXT = 10,          /* the run is over, the stripe is not its next, or more skipped than passed */
+    CUZHAVELI_PACKAGE_TOO_LONG = 11,  /* a package of more than 2^48 bytes */
+    CUZHAVELI_BAD_TEXT = 12,          /* input of the plan program; no call here gives it */
+    CUZHAVELI_BAD_DISKS = 13,         /* k is under 2 or over p; tested right after 1 */
+    CUZHAVELI_NO_SUCH_ROW = 15,       /* a row number of p or more */
+    CUZHAVELI_BAD_RATE = 16,          /* a rate of more than 1000 cents a GiB */
+    CUZHAVELI_TOO_MANY_BYTES = 17,    /* a bill of more than 2^54 bytes */
+    CUZHAVELI_SURVIVORS_DISAGREE = 19 /* the surviving disks are those of no clean stripe; tested last */
 };
 
 /* p, k and s. */
@@ -224,6 +225,14 @@ struct cuzhaveli_scrubbed cuzhaveli_scrub_stripe(struct cuzhaveli_shape shape, c
  * stripe's. The stripe is only read. Refuses 1, 13, 2, 3, 5. */
 struct cuzhaveli_answer cuzhaveli_rebuild_one(struct cuzhaveli_shape shape, size_t lost, const uint8_t *stripe,
                                               size_t stripe_len, uint8_t *column, size_t column_len);
+
+/* Does the same where the surviving disks are those of a clean stripe, and refuses by 19 exactly where no clean stripe
+ * has all surviving cells: the column is then the lost disk of that stripe. Every surviving cell is read, on the read
+ * list or not; what the stripe holds for the lost disk plays no part. A changed byte of one surviving disk is always
+ * noticed; exchanged disks are, unless what stands there is a clean stripe's after all, as it is if Q is lost. On a
+ * refusal the column stands. Refuses 1, 13, 2, 3, 5, 19. */
+struct cuzhaveli_answer cuzhaveli_rebuild_tested(struct cuzhaveli_shape shape, size_t lost, const uint8_t *stripe,
+                                                 size_t stripe_len, uint8_t *column, size_t column_len);
 
 /* Writes the two lost disks, in either order, in their places in the stripe: any contents of the other disks belong to
  * exactly one clean stripe, and that is what stands there after. What the stripe held for the two is never used.

@@ -15,6 +15,7 @@ extern __typeof__(cuzhaveli_encode_stripe) second_encode_stripe;
 extern __typeof__(cuzhaveli_check_stripe) second_check_stripe;
 extern __typeof__(cuzhaveli_scrub_stripe) second_scrub_stripe;
 extern __typeof__(cuzhaveli_rebuild_one) second_rebuild_one;
+extern __typeof__(cuzhaveli_rebuild_tested) second_rebuild_tested;
 extern __typeof__(cuzhaveli_update_cell) second_update_cell;
 extern __typeof__(cuzhaveli_open_run) second_open_run;
 extern __typeof__(cuzhaveli_step_run) second_step_run;
@@ -56,7 +57,7 @@ void set_content(struct lent *lent);
 bool lent_agrees(const struct lent *lent);
 
 /* calls.c: one random call each; false if the library and the second implementation differ. */
-#define CALLS 18
+#define CALLS 19
 struct caller {
     struct random random;
     struct lent first, second;

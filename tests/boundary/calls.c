@@ -6,7 +6,8 @@
 #include <string.h>
 
 enum {
-    PLAN, LIST, JUDGE, SPACE, ENCODE, CHECK, SCRUB, ONE, TWO, UPDATE, OPEN, STEP, SKIP, PROGRESS, FULL, DISKS, BYTES, BILL
+    PLAN, LIST, JUDGE, SPACE, ENCODE, CHECK, SCRUB, ONE, TESTED, TWO, UPDATE, OPEN, STEP, SKIP, PROGRESS, FULL, DISKS,
+    BYTES, BILL
 };
 
 #define SAY(caller, ...) snprintf((caller)->what, sizeof (caller)->what, __VA_ARGS__)
@@ -212,6 +213,33 @@ static bool rebuild_one(struct caller *c)
     return same(c, ONE, got, wanted) && lent_agrees(stripe) && lent_agrees(column);
 }
 
+/* Survivors of a clean stripe, mostly, and anything on the lost disk; now and then a byte of any disk changed. */
+static bool rebuild_tested(struct caller *c)
+{
+    struct random *r = &c->random;
+    struct cuzhaveli_shape shape = any_shape(r);
+    size_t lost = any_disk(r, shape.disks);
+    struct lent *stripe = &c->first, *column = &c->second;
+    lend_stripe(c, shape);
+    lend_column(c, shape);
+    if (stripe->bytes && is_shape(shape) && stripe->length == CUZHAVELI_STRIPE_BYTES(shape) && !once_in(r, 4)) {
+        size_t bytes = CUZHAVELI_COLUMN_BYTES(shape), first = lost % (shape.disks + 2) * bytes;
+        second_encode_stripe(shape, stripe->same, stripe->same_length);
+        for (size_t i = 0; i < bytes; i++)
+            stripe->same[first + i] ^= (uint8_t)next_number(r);
+        if (once_in(r, 3))
+            stripe->same[below(r, stripe->length)] ^= (uint8_t)next_number(r);
+        set_content(stripe);
+    }
+    SAY(c, "cuzhaveli_rebuild_tested(" SHAPE ", %zu, %p, %zu, %p, %zu)", OF(shape), lost, (void *)stripe->bytes,
+        stripe->length, (void *)column->bytes, column->length);
+    struct cuzhaveli_answer got =
+        cuzhaveli_rebuild_tested(shape, lost, stripe->bytes, stripe->length, column->bytes, column->length);
+    struct cuzhaveli_answer wanted =
+        second_rebuild_tested(shape, lost, stripe->same, stripe->same_length, column->same, column->same_length);
+    return same(c, TESTED, got, wanted) && lent_agrees(stripe) && lent_agrees(column);
+}
+
 static bool rebuild_two(struct caller *c)
 {
     struct cuzhaveli_shape shape = any_shape(&c->random);
@@ -378,6 +406,7 @@ const struct call CALL[CALLS] = {
     [CHECK] = {"cuzhaveli_check_stripe", check_stripe},
     [SCRUB] = {"cuzhaveli_scrub_stripe", scrub_stripe},
     [ONE] = {"cuzhaveli_rebuild_one", rebuild_one},
+    [TESTED] = {"cuzhaveli_rebuild_tested", rebuild_tested},
     [TWO] = {"cuzhaveli_rebuild_two", rebuild_two},
     [UPDATE] = {"cuzhaveli_update_cell", update_cell},
     [OPEN] = {"cuzhaveli_open_run", open_run},

@@ -34,6 +34,7 @@ static void scrub_stripe(void)
 }
 
 static void rebuild_one(void) { sink = cuzhaveli_rebuild_one(shape, lost, stripe, CUZHAVELI_STRIPE_BYTES(shape), column, CUZHAVELI_COLUMN_BYTES(shape)).refusal; }
+static void rebuild_tested(void) { sink = cuzhaveli_rebuild_tested(shape, lost, stripe, CUZHAVELI_STRIPE_BYTES(shape), column, CUZHAVELI_COLUMN_BYTES(shape)).refusal; }
 static void rebuild_two(void) { sink = cuzhaveli_rebuild_two(shape, lost, other, stripe, CUZHAVELI_STRIPE_BYTES(shape)).refusal; }
 static void update_cell(void) { sink = cuzhaveli_update_cell(shape, shape.width - 1 - other % 2, lost % shape.disks, stripe, CUZHAVELI_STRIPE_BYTES(shape), column, shape.cell_size).refusal; }
 
@@ -64,6 +65,7 @@ static struct { const char *name; void (*make)(void); size_t promised, most; } M
     {"cuzhaveli_check_stripe", check_stripe, 8192, 0},
     {"cuzhaveli_scrub_stripe", scrub_stripe, 8192, 0},
     {"cuzhaveli_rebuild_one", rebuild_one, 8192, 0},
+    {"cuzhaveli_rebuild_tested", rebuild_tested, 8192, 0},
     {"cuzhaveli_rebuild_two", rebuild_two, 16384, 0}, /* its walk is recursive, two steps for each row */
     {"cuzhaveli_update_cell", update_cell, 8192, 0},
     {"calls on runs", run_calls, 8192, 0},

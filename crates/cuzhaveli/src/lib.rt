@@ -9,6 +9,7 @@ ghost use Rattle.rebuild_one.specs.Says.{OneSays};
 ghost use Rattle.rebuild_two.specs.Says.{TwoSays};
 ghost use Rattle.update.specs.Says.{UpdateSays};
 ghost use Rattle.scrub.specs.Says.{ScrubSays};
+ghost use Rattle.rebuild_tested.specs.Says.{TestedSays};
 ghost use Rattle.runs.specs.Runs.{OpenSays, StepSays, SkipSays, ProgressSays, resumed, resumedDisks};
 ghost use Rattle.billing.specs.Bills.{BillSays, RunBillSays};
 use billing::Bill;
@@ -102,6 +103,19 @@ pub extern "C" fn cuzhaveli_rebuild_one(
     ensures { λ r. ⌜ OneSays (shape .width) (shape .disks) (shape .«cell_size») lost (now (stripe .entry)) (now (column .entry)) (now (column .exit)) r ⌝ }
 {
     rebuild_one::rebuild_one(shape, lost, stripe, column)
+}
+
+// Rebuilds one lost disk likewise, if some clean stripe has all surviving cells.
+#[no_mangle]
+pub extern "C" fn cuzhaveli_rebuild_tested(
+    shape: Shape,
+    lost: usize,
+    stripe: &[u8],
+    column: &mut [u8],
+) -> Answer
+    ensures { λ r. ⌜ TestedSays (shape .width) (shape .disks) (shape .«cell_size») lost (now (stripe .entry)) (now (column .entry)) (now (column .exit)) r ⌝ }
+{
+    rebuild_tested::rebuild_tested(shape, lost, stripe, column)
 }
 
 // Rebuilds two lost disks of a lent stripe in place.

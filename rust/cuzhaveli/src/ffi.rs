@@ -179,6 +179,15 @@ extern "C" {
         column_len: usize,
     ) -> Answer;
 
+    pub fn cuzhaveli_rebuild_tested(
+        shape: Shape,
+        lost: usize,
+        stripe: *const u8,
+        stripe_len: usize,
+        column: *mut u8,
+        column_len: usize,
+    ) -> Answer;
+
     pub fn cuzhaveli_rebuild_two(
         shape: Shape,
         first: usize,

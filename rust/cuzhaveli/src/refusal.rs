@@ -54,6 +54,7 @@ kinds! {
     NoSuchRow = 15, "the array has no row of that number";
     BadRate = 16, "a rate is over 1000 cents a GiB";
     TooManyBytes = 17, "the bill has more than 2^54 bytes";
+    SurvivorsDisagree = 19, "the surviving disks are those of no clean stripe";
     Unknown = 255, "a refusal that this version of the crate does not know";
 }
 

@@ -280,6 +280,39 @@ impl Shape {
         answer.accepted()
     }
 
+    /// Does the same, if the surviving disks are those of a clean stripe: every surviving cell is read, and what the
+    /// stripe holds for the lost disk plays no part. Refuses 3, 5, then 19 where no clean stripe has all surviving
+    /// cells.
+    ///
+    /// ```
+    /// use cuzhaveli::RefusalKind;
+    ///
+    /// let shape = cuzhaveli::Shape::new(3, 3, 1)?;
+    /// let mut stripe = [1, 8, 0x40, 0, 0, 0, 4, 0x20, 0, 7, 0x38, 0xC0, 0x11, 0x9C, 0x66];
+    /// let mut column = [0; 3];
+    /// shape.rebuild_tested(1, &stripe, &mut column)?;
+    /// assert_eq!(column, [0x02, 0x10, 0x80]);
+    /// let (disk_0, others) = stripe.split_at_mut(3);
+    /// disk_0.swap_with_slice(&mut others[3..6]); // disks 0 and 2 in each other's place
+    /// let refusal = shape.rebuild_tested(1, &stripe, &mut column).unwrap_err();
+    /// assert_eq!((refusal.number(), refusal.kind()), (19, RefusalKind::SurvivorsDisagree));
+    /// assert_eq!(column, [0x02, 0x10, 0x80]); // as it was
+    /// # Ok::<(), cuzhaveli::Refusal>(())
+    /// ```
+    pub fn rebuild_tested(
+        self,
+        lost: usize,
+        stripe: &[u8],
+        column: &mut [u8],
+    ) -> Result<(), Refusal> {
+        let (stripe, stripe_len) = (stripe.as_ptr(), stripe.len());
+        let (column, column_len) = (column.as_mut_ptr(), column.len());
+        let answer = unsafe {
+            ffi::cuzhaveli_rebuild_tested(self.0, lost, stripe, stripe_len, column, column_len)
+        };
+        answer.accepted()
+    }
+
     /// Writes the two lost disks in their places in the stripe, which is then the one clean stripe with those contents
     /// of the others. Refuses 3, 4, 5.
     ///

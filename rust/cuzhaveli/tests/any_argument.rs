@@ -49,12 +49,14 @@ fn a_slice_of_another_length_gives_5_and_stands() {
             assert_eq!(number(shape.rebuild_two([0, 1], &mut bytes)), 5);
             assert_eq!(number(shape.update_cell(0, 0, &mut bytes, &[7; 3])), 5);
             assert_eq!(number(shape.rebuild_one(0, &bytes, &mut right)), 5);
+            assert_eq!(number(shape.rebuild_tested(0, &bytes, &mut right)), 5);
             assert_eq!(number(run.step(0, &bytes, &mut right)), 5);
             assert_eq!((bytes, right), (vec![7; other], vec![9; column]));
         }
         for other in other_lengths(column) {
             let (bytes, mut part) = (vec![7; stripe], vec![9; other]);
             assert_eq!(number(shape.rebuild_one(0, &bytes, &mut part)), 5);
+            assert_eq!(number(shape.rebuild_tested(0, &bytes, &mut part)), 5);
             assert_eq!(number(run.step(0, &bytes, &mut part)), 5);
             assert_eq!(part, vec![9; other]);
         }
@@ -84,6 +86,7 @@ fn a_disk_that_is_not_there_gives_3() {
             assert_eq!(number(shape.read_list(disk)), 3);
             assert_eq!(number(shape.judge(disk, &[])), 3);
             assert_eq!(number(shape.rebuild_one(disk, &stripe, &mut column)), 3);
+            assert_eq!(number(shape.rebuild_tested(disk, &stripe, &mut column)), 3);
             assert_eq!(number(shape.rebuild_two([disk, disk], &mut stripe)), 3);
             assert_eq!(number(shape.update_cell(0, disk, &mut stripe, &[])), 3);
             assert_eq!(number(shape.open_run(disk, 1)), 3);
@@ -139,6 +142,25 @@ fn every_disk_that_lies_is_named_and_mended() {
             assert_eq!(column, clean[shape.disk_range(disk)]);
             stripe[shape.cell_range(0, (disk + 1) % (shape.disks() + 2))][0] ^= 1;
             assert_eq!(shape.scrub(&stripe), Ok(Scrub::MoreThanOne));
+        }
+    }
+}
+
+#[test]
+fn survivors_of_no_clean_stripe_give_19_and_the_column_stands() {
+    for shape in shapes() {
+        let mut clean: Vec<u8> = (0..shape.stripe_len()).map(|i| (i * 37 % 251) as u8).collect();
+        shape.encode(&mut clean).unwrap();
+        for lost in 0..shape.disks() + 2 {
+            let mut stripe = clean.clone();
+            stripe[shape.disk_range(lost)].fill(0xEE);
+            let mut column = vec![9; shape.column_len()];
+            shape.rebuild_tested(lost, &stripe, &mut column).unwrap();
+            assert_eq!(column, clean[shape.disk_range(lost)]);
+            stripe[shape.cell_range(0, (lost + 1) % (shape.disks() + 2))][0] ^= 1;
+            let refusal = shape.rebuild_tested(lost, &stripe, &mut column).unwrap_err();
+            assert_eq!(refusal.kind(), RefusalKind::SurvivorsDisagree);
+            assert_eq!(column, clean[shape.disk_range(lost)]);
         }
     }
 }

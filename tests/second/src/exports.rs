@@ -10,7 +10,8 @@ use crate::ffi::{
     Shape, Space,
 };
 use crate::groups::{
-    billing, judge, plan, read_list, rebuild_one, rebuild_two, runs, scrub, space, stripes, update,
+    billing, judge, plan, read_list, rebuild_one, rebuild_tested, rebuild_two, runs, scrub, space,
+    stripes, update,
 };
 
 #[no_mangle]
@@ -95,6 +96,22 @@ pub unsafe extern "C" fn second_rebuild_one(
 ) -> Answer {
     let stripe = from_raw_parts(stripe, stripe_len);
     rebuild_one::model::rebuild_one(shape, lost, stripe, from_raw_parts_mut(column, column_len))
+}
+
+/// # Safety
+/// `stripe` and `column` are lent: see above.
+#[no_mangle]
+pub unsafe extern "C" fn second_rebuild_tested(
+    shape: Shape,
+    lost: usize,
+    stripe: *const u8,
+    stripe_len: usize,
+    column: *mut u8,
+    column_len: usize,
+) -> Answer {
+    let (stripe, column) =
+        (from_raw_parts(stripe, stripe_len), from_raw_parts_mut(column, column_len));
+    rebuild_tested::model::rebuild_tested(shape, lost, stripe, column)
 }
 
 #[no_mangle]

@@ -26,6 +26,7 @@ groups! {
     stripes,
     scrub,
     rebuild_one,
+    rebuild_tested,
     rebuild_two,
     update,
     runs,

@@ -97,7 +97,7 @@ fn dirty_losses(group: &mut Group, random: &mut Random, shape: Shape) {
 }
 
 /// The cells that the read list of a disk does not mark; the lost ones are among them.
-fn cells_off_list(shape: Shape, lost: usize) -> Vec<Cell> {
+pub fn cells_off_list(shape: Shape, lost: usize) -> Vec<Cell> {
     let Shape { width: p, disks: k, .. } = shape;
     let mut list = vec![0; p * (k + 2)];
     read_list::model::read_list(p, k, lost, &mut list);
