@@ -55,21 +55,24 @@ static void records(void)
     sink = cuzhaveli_bill_bytes((uint64_t)1 << 50, 1, 2, 3).answer.refusal;
 }
 
-/* What the header promises of each call, in bytes, and the most that was measured. */
-static struct { const char *name; void (*make)(void); size_t promised, most; } MADE[] = {
-    {"cuzhaveli_plan_disk", plan_disk, 8192, 0},
-    {"cuzhaveli_read_list", read_list, 8192, 0},
-    {"cuzhaveli_judge_plan", judge_plan, 8192, 0},
-    {"cuzhaveli_package_space", package_space, 8192, 0},
-    {"cuzhaveli_encode_stripe", encode_stripe, 8192, 0},
-    {"cuzhaveli_check_stripe", check_stripe, 8192, 0},
-    {"cuzhaveli_scrub_stripe", scrub_stripe, 8192, 0},
-    {"cuzhaveli_rebuild_one", rebuild_one, 8192, 0},
-    {"cuzhaveli_rebuild_tested", rebuild_tested, 8192, 0},
-    {"cuzhaveli_rebuild_two", rebuild_two, 16384, 0}, /* its walk is recursive, two steps for each row */
-    {"cuzhaveli_update_cell", update_cell, 8192, 0},
-    {"calls on runs", run_calls, 8192, 0},
-    {"records and bills", records, 8192, 0},
+/* What the header promises of each call, in bytes. */
+#define PROMISED 8192
+
+/* The calls, and the most that was measured of each. */
+static struct { const char *name; void (*make)(void); size_t most; } MADE[] = {
+    {"cuzhaveli_plan_disk", plan_disk, 0},
+    {"cuzhaveli_read_list", read_list, 0},
+    {"cuzhaveli_judge_plan", judge_plan, 0},
+    {"cuzhaveli_package_space", package_space, 0},
+    {"cuzhaveli_encode_stripe", encode_stripe, 0},
+    {"cuzhaveli_check_stripe", check_stripe, 0},
+    {"cuzhaveli_scrub_stripe", scrub_stripe, 0},
+    {"cuzhaveli_rebuild_one", rebuild_one, 0},
+    {"cuzhaveli_rebuild_tested", rebuild_tested, 0},
+    {"cuzhaveli_rebuild_two", rebuild_two, 0},
+    {"cuzhaveli_update_cell", update_cell, 0},
+    {"calls on runs", run_calls, 0},
+    {"records and bills", records, 0},
 };
 #define KINDS (sizeof MADE / sizeof *MADE)
 
@@ -119,9 +122,8 @@ bool stack_is_small(void)
     }
     for (size_t call = 0; call < KINDS; call++) {
         printf("stack %s: %zu bytes\n", MADE[call].name, MADE[call].most);
-        if (MADE[call].most > MADE[call].promised) {
-            printf("boundary: FAILED: %s takes more than the %zu bytes of stack that the header promises\n",
-                   MADE[call].name, MADE[call].promised);
+        if (MADE[call].most >= PROMISED) {
+            printf("boundary: FAILED: %s takes %zu bytes of stack; the header promises under %d\n", MADE[call].name, MADE[call].most, PROMISED);
             small = false;
         }
     }

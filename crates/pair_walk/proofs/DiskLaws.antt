@@ -15,13 +15,20 @@ use Rattle.liberation_stripes.specs.Stripes.{solved, followed}
 use Rattle.liberation_pairs.specs.Pairs.{otherDisk, started, diagonalWalk, walked, comesToOne, forward, dataSolved, upDiagonals, withRowParity, withDiagonalParity, orderedSolved, pairSolved}
 use Rattle.pair_start.specs.Disks.{Walked}
 
--- the first cell, its row's other cell, the walk
-pub walk-done : (p k s x y r o : ℕ) (t u v w : List ℕ) → r ≡ extraRowOn p x → o ≡ otherDisk x y → u ≡ started p k s x y t → v ≡ solved s (o * p + r) (rowSet p k r) u → w ≡ diagonalWalk (2 * (p - 1)) p k s x y r v → w ≡ walked p k s x y t
-unfolding walked
-walk-done p k s x y r o t u v w er eo eu ev ew =
+-- the other cell of the first cell's row, then the walk over the other rows
+abbrev pub walkedOn : ℕ → ℕ → ℕ → ℕ → ℕ → List ℕ → List ℕ
+walkedOn p k s x y u = diagonalWalk (2 * (p - 1)) p k s x y (extraRowOn p x) (solved s (place p (extraRowOn p x) (otherDisk x y)) (rowSet p k (extraRowOn p x)) u)
+
+pub walk-done : (p k s x y r o : ℕ) (u v w : List ℕ) → r ≡ extraRowOn p x → o ≡ otherDisk x y → v ≡ solved s (o * p + r) (rowSet p k r) u → w ≡ diagonalWalk (2 * (p - 1)) p k s x y r v → w ≡ walkedOn p k s x y u
+walk-done p k s x y r o u v w er eo ev ew =
     ew
     ∙ ap₂ (λ (i : ℕ) (l : List ℕ). diagonalWalk (2 * (p - 1)) p k s x y i l) er
-    (ev ∙ ap₂ (λ (a i : ℕ). solved s (a * p + i) (rowSet p k i) u) eo er ∙ ap (solved s (place p (extraRowOn p x) (otherDisk x y)) (rowSet p k (extraRowOn p x))) eu)
+    (ev ∙ ap₂ (λ (a i : ℕ). solved s (a * p + i) (rowSet p k i) u) eo er)
+
+-- the first cell before them
+pub walk-started : (p k s x y : ℕ) (t u w : List ℕ) → u ≡ started p k s x y t → w ≡ walkedOn p k s x y u → w ≡ walked p k s x y t
+unfolding walked
+walk-started p k s x y t u w eu ew = ew ∙ ap (walkedOn p k s x y) eu
 
 -- a disk and a parity disk, one after the other
 pub row-done : (p k s f : ℕ) (t u v : List ℕ) → u ≡ followed p k s f (upDiagonals p p f 0) t → v ≡ followed p k s k (allOf p 0 0) u → v ≡ withRowParity p k s f t

@@ -1,8 +1,11 @@
 // Two lost disks of a stripe within its limits, rebuilt in place: document 01, "Two lost disks". The walk as two functions that call each other; its first cell is found below.
 ghost use mathlib.Core.Path.{_≡_};
 ghost use Prim.Native.Nat.{_+_, _-_, _*_, _/_, _%_, _≤_, _<_};
-ghost use Rattle.liberation_stripes.specs.Stripes.{followed};
-ghost use Rattle.liberation_pairs.specs.Pairs.{diagonalWalk, rowWalk, walked, comesToOne, forward, dataSolved, upDiagonals, withRowParity, withDiagonalParity, orderedSolved, pairSolved};
+ghost use lib.ListN.{length};
+ghost use Rattle.liberation.specs.Sets.{place, rowSet};
+ghost use Rattle.liberation.specs.Plans.{extraRowOn};
+ghost use Rattle.liberation_stripes.specs.Stripes.{solved, followed};
+ghost use Rattle.liberation_pairs.specs.Pairs.{otherDisk, diagonalWalk, rowWalk, comesToOne, forward, dataSolved, upDiagonals, withRowParity, withDiagonalParity, orderedSolved, pairSolved};
 ghost use Rattle.stripes.specs.Cells.{Sized};
 ghost use Rattle.pair_start.specs.Disks.{Walked};
 
@@ -30,9 +33,11 @@ fn diagonal_step(
     y: usize,
     row: usize,
     stripe: &mut [u8],
+    at: &mut [usize],
 )
     requires { ⌜ Sized width disks size (now stripe) ⌝ }
     requires { ⌜ (x < disks) × (y < disks) × (row < width) ⌝ }
+    requires { ⌜ length (now at) ≡ 33 ⌝ }
     ensures { λ _. ⌜ now (stripe .exit) ≡ diagonalWalk left width disks size x y row (now (stripe .entry)) ⌝ }
 {
     if left == 0 {
@@ -40,8 +45,8 @@ fn diagonal_step(
     }
     let number = (row + width - x) % width;
     let next = (number + y) % width;
-    stripes::solve(width, disks, size, 1, number, y, next, stripe);
-    row_step(left - 1, width, disks, size, x, y, next, stripe);
+    stripes::solve_by(width, disks, size, 1, number, y, next, stripe, at);
+    row_step(left - 1, width, disks, size, x, y, next, stripe, at);
 }
 
 // While cells are missing: the row set gives the row's cell of disk x.
@@ -54,16 +59,18 @@ fn row_step(
     y: usize,
     row: usize,
     stripe: &mut [u8],
+    at: &mut [usize],
 )
     requires { ⌜ Sized width disks size (now stripe) ⌝ }
     requires { ⌜ (x < disks) × (y < disks) × (row < width) ⌝ }
+    requires { ⌜ length (now at) ≡ 33 ⌝ }
     ensures { λ _. ⌜ now (stripe .exit) ≡ rowWalk left width disks size x y row (now (stripe .entry)) ⌝ }
 {
     if left == 0 {
         return;
     }
-    stripes::solve(width, disks, size, 0, row, x, row, stripe);
-    diagonal_step(left - 1, width, disks, size, x, y, row, stripe);
+    stripes::solve_by(width, disks, size, 0, row, x, row, stripe, at);
+    diagonal_step(left - 1, width, disks, size, x, y, row, stripe, at);
 }
 
 // Is 1 among the first (width - 1) / 2 multiples of `gap`?
@@ -114,29 +121,32 @@ fn with_diagonal_parity(width: usize, disks: usize, size: usize, disk: usize, st
     stripes::solve_diagonals(width, disks, size, stripe);
 }
 
-// Two data disks: the first cell, its row's other cell, then the walk over the other rows.
+// Two data disks after the first cell: its row's other cell, then the walk over the other rows.
 fn walk_disks(width: usize, disks: usize, size: usize, x: usize, y: usize, stripe: &mut [u8])
     requires { ⌜ Sized width disks size (now stripe) ⌝ }
     requires { ⌜ Walked width disks x y ⌝ }
-    ensures { λ _. ⌜ now (stripe .exit) ≡ walked width disks size x y (now (stripe .entry)) ⌝ }
+    ensures { λ _. ⌜ now (stripe .exit) ≡ diagonalWalk (2 * (width - 1)) width disks size x y (extraRowOn width x) (solved size (place width (extraRowOn width x) (otherDisk x y)) (rowSet width disks (extraRowOn width x)) (now (stripe .entry))) ⌝ }
 {
-    pair_start::start(width, disks, size, x, y, stripe);
     let row = pair_start::extra_row(width, x);
     let other = pair_start::other_disk(x, y);
-    stripes::solve(width, disks, size, 0, row, other, row, stripe);
-    diagonal_step(2 * (width - 1), width, disks, size, x, y, row, stripe);
+    let mut at = offsets::no_offsets();
+    stripes::solve_by(width, disks, size, 0, row, other, row, stripe, &mut at);
+    let missing = 2 * (width - 1);
+    diagonal_step(missing, width, disks, size, x, y, row, stripe, &mut at);
 }
 
-// Two data disks a < b, walked in the order in which the walk goes through.
+// Two data disks a < b, walked in the order in which the walk goes through. The first cell is found here, so that its table is off the stack when the walk begins.
 fn solve_data(width: usize, disks: usize, size: usize, a: usize, b: usize, stripe: &mut [u8])
     requires { ⌜ Sized width disks size (now stripe) ⌝ }
     requires { ⌜ (width % 2 ≡ 1) × (a < b) × (b < disks) ⌝ }
     ensures { λ _. ⌜ now (stripe .exit) ≡ dataSolved width disks size a b (now (stripe .entry)) ⌝ }
 {
     if goes_forward(width, a, b) {
+        pair_start::start(width, disks, size, a, b, stripe);
         walk_disks(width, disks, size, a, b, stripe);
         return;
     }
+    pair_start::start(width, disks, size, b, a, stripe);
     walk_disks(width, disks, size, b, a, stripe);
 }
 

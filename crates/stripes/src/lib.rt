@@ -22,7 +22,7 @@ pub struct Checked {
 }
 
 // A set's ordinary cell, of this disk and row, becomes the XOR of the other cells of the set, by a lent list.
-fn solve_by(
+pub fn solve_by(
     width: usize,
     disks: usize,
     size: usize,
