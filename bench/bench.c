@@ -1,5 +1,5 @@
-/* Times encode, check, the rebuild of one and of two data disks and the update
-   of a cell, and prints the results as Markdown.
+/* Times encode, check, the rebuild of one and of two data disks, the update of
+   a cell, the scrub and the tested rebuild, and prints the results as Markdown.
 
    Time is processor time of the thread. In a round each contestant is timed
    once, in an order that turns from round to round. A run has rounds for every
@@ -7,6 +7,7 @@
 
 #include "clock.h"
 #include "results.h"
+#include "scrub.h"
 #include "update.h"
 
 #include <stdio.h>
@@ -194,6 +195,7 @@ int main(int argc, char **argv)
            rounds_of(WARM), runs_of(STREAMING), rounds_of(STREAMING));
     print_results();
     print_updates(rounds);
+    print_scrubs(rounds);
     for (int array = 0; array < ARRAYS; array++) {
         close_array(&arrays[array]);
     }

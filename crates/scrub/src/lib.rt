@@ -59,6 +59,18 @@ fn start(width: usize, disks: usize, disk: usize, dirty: usize) -> usize
     (dirty + width - disk) % width
 }
 
+// The number of the diagonal whose extra cell is on a data disk. Where every cell of one disk has changed by the same bytes, the two sets of most balances cancel, but the three of this one do not. No answer depends on it either.
+fn extra_diagonal(width: usize, disk: usize) -> usize
+    requires { ⌜ (0 < width) × (width ≤ 31) × (disk ≤ width + 1) ⌝ }
+    ensures { λ r. ⌜ r < width ⌝ }
+{
+    let twice = 2 * width - disk;
+    if twice % 2 == 0 {
+        return twice / 2 % width;
+    }
+    (twice + width) / 2 % width
+}
+
 // The first disk that fits, two more than the data disks if none does.
 fn first_fit(width: usize, disks: usize, size: usize, dirty: usize, stripe: &[u8]) -> usize
     requires { ⌜ Sized width disks size (now stripe) × (isWidth width ≡ true) × (dirty < 2 * width) ⌝ }
@@ -67,7 +79,8 @@ fn first_fit(width: usize, disks: usize, size: usize, dirty: usize, stripe: &[u8
     let mut disk = 0;
     while disk < disks + 2 {
         let first = start(width, disks, disk, dirty);
-        if survivors::disk_fits_from(width, disks, size, disk, first, stripe) {
+        let second = extra_diagonal(width, disk);
+        if survivors::disk_fits_from(width, disks, size, disk, first, second, stripe) {
             return disk;
         }
         disk += 1;

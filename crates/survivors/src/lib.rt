@@ -138,20 +138,24 @@ pub fn disk_fits(width: usize, disks: usize, size: usize, disk: usize, stripe: &
     first_unbalanced(width, disks, size, disk, stripe) == width
 }
 
-// The same, with balance `first` tested before all of them: no answer depends on it, but a caller that knows a set that is not clean has most disks refused by one balance.
+// The same, with two balances tested before all of them: no answer depends on these, but a caller that knows a set that is not clean has most disks refused by one balance or two.
 pub fn disk_fits_from(
     width: usize,
     disks: usize,
     size: usize,
     disk: usize,
     first: usize,
+    second: usize,
     stripe: &[u8],
 ) -> bool
-    requires { ⌜ Sized width disks size (now stripe) × (isWidth width ≡ true) × (disk < disks + 2) × (first < width) ⌝ }
+    requires { ⌜ Sized width disks size (now stripe) × (isWidth width ≡ true) × (disk < disks + 2) × (first < width) × (second < width) ⌝ }
     ensures { λ r. ⌜ r ≡ fits width disks size disk (now (stripe .entry)) ⌝ }
 {
     let mut at = no_balance();
     if !is_balanced(width, disks, size, disk, first, stripe, &mut at) {
+        return false;
+    }
+    if !is_balanced(width, disks, size, disk, second, stripe, &mut at) {
         return false;
     }
     disk_fits(width, disks, size, disk, stripe)

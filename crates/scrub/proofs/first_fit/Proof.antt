@@ -20,15 +20,15 @@ loop-holds c = let a = c .before .args in (omega arith, first-all (a .width) (a 
 returns : tie.Need-returns Inv-loop μ-loop
 returns c =
     let v = c .before .disk-fits-from in
-    let l = c .before .before .before .before .loop in
-    let a = c .before .before .before .before .before .before .args in
+    let l = c .before .before .before .before .before .loop in
+    let a = c .before .before .before .before .before .before .before .args in
     first-here (a .width) (a .disks) (a .size) (a .stripe .now) (l .disk) (v .result) (omega arith) (v .ensures) (c .if1 .taken) (l .inv .1)
 
 loop-again : tie.Need-loop-again Inv-loop μ-loop
 loop-again c =
     let v = c .before .disk-fits-from in
-    let l = c .before .before .before .before .loop in
-    let a = c .before .before .before .before .before .before .args in
+    let l = c .before .before .before .before .before .loop in
+    let a = c .before .before .before .before .before .before .before .args in
     (omega arith, first-after (a .width) (a .disks) (a .size) (a .stripe .now) (l .disk) (v .result) (omega arith) (v .ensures) (c .if1 .left) (l .inv .1))
 
 returns-2 : tie.Need-returns-2 Inv-loop μ-loop
@@ -45,6 +45,7 @@ first-fit-spec =
     μ-loop
     loop-holds
     (λ c. search needs)
+    (λ c κs. search needs)
     (λ c κs. search needs)
     (λ c κs. search needs)
     returns
