@@ -1,8 +1,8 @@
--- The bands add up to the bytes, and no product or sum of a bill wraps, since the rates are at most 1,000 and the bytes at most 2^54: 1,000 × 2^54 + 2^30 is below 2^64. The cents are the least number that covers the charge.
+-- The bands add up to the bytes, and no product or sum of a bill wraps, since the rates are at most 1,000 and the bytes at most 2^54: 1,000 × 2^54 is below 2^64.
 use mathlib.Core.Path.{_≡_, refl, sym, ap, ap₂, subst₂, _∙_}
 use mathlib.Core.Bool.{Bool, true, false, _||_}
-use Prim.Native.Nat.{ℕ, _+_, _-_, _*_, _/_, _^_, _≤_, _<_}
-use native.Mathlib.Nat.{mul-le-mul-left, mod-lt, div-add-mod'}
+use Prim.Native.Nat.{ℕ, _+_, _-_, _*_, _^_, _≤_}
+use native.Mathlib.Nat.{mul-le-mul-left}
 use native.Mathlib.Omega.{arith}
 use lib.Dec.{leb, ltb}
 use borrow.Author.Tests.{leb-true, leb-false, ltb-false}
@@ -13,7 +13,7 @@ use Rattle.refusals.specs.declared.Answer.{Answer}
 use Rattle.refusals.specs.Answers.{Answers}
 use Rattle.refusals.proofs.AnswerLaws.{answers-as}
 use Rattle.billing.specs.declared.Bill.{Bill}
-use Rattle.billing.specs.Bills.{least, gib, inFirst, inSecond, inThird, charge, centsOf, rateFault, bytesFault, billFault, Refused, Says, BillSays}
+use Rattle.billing.specs.Bills.{least, inFirst, inSecond, inThird, nearest, centsOf, rateFault, bytesFault, billFault, Refused, Says, BillSays}
 
 -- the smaller of two numbers is at most each of them
 pub least-most : (a b : ℕ) → (least a b ≤ a) × (least a b ≤ b)
@@ -75,25 +75,18 @@ bill-refused m b r s t n x e z k =
       cents = k .cents ∙ pick-refused n m (centsOf b r s t) 0 e z;
     }
 
-pub bill-done : (b r s t low most : ℕ) (a : Answer) → billFault b r s t ≡ 0 → Answers 0 a → low ≡ least b (2 ^ 36) → most ≡ least b (2 ^ 40)
-    → BillSays b r s t (record { answer = a; first = low; second = most - low; third = b - most; cents = (low * r + (most - low) * s + (b - most) * t + (gib - 1)) / gib })
-bill-done b r s t low most a z k l m =
+pub bill-done : (b r s t low most n : ℕ) (a : Answer) → billFault b r s t ≡ 0 → Answers 0 a → low ≡ least b (2 ^ 36) → most ≡ least b (2 ^ 40) → n ≡ nearest (low * r + (most - low) * s + (b - most) * t)
+    → BillSays b r s t (record { answer = a; first = low; second = most - low; third = b - most; cents = n })
+bill-done b r s t low most c a z k l m e =
     let n : ℕ = billFault b r s t in
     record {
       answer = answers-as 0 n a (sym z) k;
       first = l ∙ pick-done n (inFirst b) 0 z;
       second = ap₂ (λ (x y : ℕ). y - x) l m ∙ pick-done n (inSecond b) 0 z;
       third = ap (λ (y : ℕ). b - y) m ∙ pick-done n (inThird b) 0 z;
-      cents = ap₂ (λ (x y : ℕ). (x * r + (y - x) * s + (b - y) * t + (gib - 1)) / gib) l m ∙ pick-done n (centsOf b r s t) 0 z;
+      cents = e ∙ ap₂ (λ (x y : ℕ). nearest (x * r + (y - x) * s + (b - y) * t)) l m ∙ pick-done n (centsOf b r s t) 0 z;
     }
 
 -- "bytes in each band, adding up to the whole"
 pub bands-add : (b : ℕ) → inFirst b + inSecond b + inThird b ≡ b
 bands-add b = omega (arith, least-up b (2 ^ 36) (2 ^ 40) (omega arith), least-most b (2 ^ 40))
-
--- the cents cover the charge, and a cent less does not
-pub cents-enough : (b r s t : ℕ) → charge b r s t ≤ centsOf b r s t * gib
-cents-enough b r s t = omega (arith, div-add-mod' (charge b r s t + (gib - 1)) gib, mod-lt (charge b r s t + (gib - 1)) {m = gib} (omega arith))
-
-pub cents-fewest : (b r s t : ℕ) → centsOf b r s t * gib < charge b r s t + gib
-cents-fewest b r s t = omega (arith, div-add-mod' (charge b r s t + (gib - 1)) gib)

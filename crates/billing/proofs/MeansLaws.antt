@@ -1,7 +1,6 @@
--- What an accepted bill means, of bytes or of a run: its bands add up to the bytes, and its cents are the fewest that cover what the bands cost.
+-- What an accepted bill means, of bytes or of a run: its bands add up to the bytes, and its cents are the nearest to what the bands cost together, at an exact half the even ones, and only they.
 use mathlib.Core.Path.{_≡_, sym, ap, ap₂, subst, _∙_}
-use Prim.Native.Nat.{ℕ, _+_, _*_, _≤_, _<_}
-use native.Mathlib.Omega.{arith}
+use Prim.Native.Nat.{ℕ, _+_, _*_}
 use lib.Dec.{eqb}
 use Rattle.laws.specs.Choice.{pick}
 use Rattle.laws.proofs.ChoiceLaws.{first-none}
@@ -9,8 +8,9 @@ use Rattle.runs.specs.declared.Run.{Run}
 use Rattle.runs.specs.declared.Progress.{Progress}
 use Rattle.runs.specs.Runs.{cellsSoFar, readFault, ProgressSays}
 use Rattle.billing.specs.declared.Bill.{Bill}
-use Rattle.billing.specs.Bills.{gib, inFirst, inSecond, inThird, charge, centsOf, billFault, Says, BillSays, runBytes, runBillFault, RunBillSays}
-use Rattle.billing.proofs.BillLaws.{bands-add, cents-enough, cents-fewest}
+use Rattle.billing.specs.Bills.{inFirst, inSecond, inThird, charge, centsOf, Nearest, billFault, Says, BillSays, runBytes, runBillFault, RunBillSays}
+use Rattle.billing.proofs.BillLaws.{bands-add}
+use Rattle.billing.proofs.CentsLaws.{nearest-right, nearest-only}
 
 -- what the bands of a bill cost at the rates r, s and t, in cents times bytes of a GiB
 abbrev pub costs : Bill → ℕ → ℕ → ℕ → ℕ
@@ -20,10 +20,10 @@ costs x r s t = x .first * r + x .second * s + x .third * t
 pub record BillMeans (b r s t : ℕ) (x : Bill) : Type 0 where
   -- "bytes in each band, adding up to the whole"
   pub whole : x .first + x .second + x .third ≡ b
-  -- "rounded up to a whole cent": the cents are enough
-  pub enough : costs x r s t ≤ x .cents * gib
-  -- and no fewer are
-  pub fewest : (n : ℕ) → costs x r s t ≤ n * gib → x .cents ≤ n
+  -- "sums go to the nearest cent, and an exact half goes to the even cent"
+  pub nearest : Nearest (costs x r s t) (x .cents)
+  -- and no other number of cents is such
+  pub only : (n : ℕ) → Nearest (costs x r s t) n → n ≡ x .cents
 
 means : (m b r s t : ℕ) (x : Bill) → Says m b r s t x → x .answer .refusal ≡ 0 → BillMeans b r s t x
 means m b r s t x k z =
@@ -34,14 +34,12 @@ means m b r s t x k z =
     let l : x .third ≡ inThird b = k .third ∙ got (inThird b) in
     let c : x .cents ≡ centsOf b r s t = k .cents ∙ got (centsOf b r s t) in
     let cost : costs x r s t ≡ charge b r s t = ap₂ (λ (u v : ℕ). u * r + v * s + x .third * t) i j ∙ ap (λ (u : ℕ). inFirst b * r + inSecond b * s + u * t) l in
+    let near : Nearest (costs x r s t) (x .cents) = rw (cost, c) (nearest-right (charge b r s t)) in
     record {
       whole = ap₂ (λ (u v : ℕ). u + v + x .third) i j ∙ ap (λ (u : ℕ). inFirst b + inSecond b + u) l ∙ bands-add b;
-      enough = rw (cost, c) (cents-enough b r s t);
-      fewest = λ n h. rw c (least-cents (charge b r s t) (centsOf b r s t) n (cents-fewest b r s t) (rw cost at h));
+      nearest = near;
+      only = λ n h. nearest-only (costs x r s t) n (x .cents) h near;
     }
-  where
-    least-cents : (a c n : ℕ) → c * gib < a + gib → a ≤ n * gib → c ≤ n
-    least-cents a c n h l = omega arith
 
 pub bill-means : (b r s t : ℕ) (x : Bill) → BillSays b r s t x → x .answer .refusal ≡ 0 → BillMeans b r s t x
 bill-means b r s t x k z = means (billFault b r s t) b r s t x k z

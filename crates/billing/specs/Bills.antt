@@ -1,7 +1,7 @@
--- Bills of hosted rebuilds (document 02, ask 6), and the promises of the calls, for accepted and refused calls alike.
+-- Bills of hosted rebuilds (document 02, asks 6 and 10), and the promises of the calls, for accepted and refused calls alike.
 use mathlib.Core.Path.{_≡_}
 use mathlib.Core.Bool.{_||_}
-use Prim.Native.Nat.{ℕ, _+_, _-_, _*_, _/_, _^_}
+use Prim.Native.Nat.{ℕ, _+_, _-_, _*_, _/_, _%_, _^_, _≤_}
 use lib.Dec.{eqb, leb, ltb}
 use Rattle.laws.specs.Choice.{pick, when, firstOf}
 use Rattle.refusals.specs.Answers.{Answers}
@@ -30,9 +30,29 @@ inThird b = b - least b (2 ^ 40)
 abbrev pub charge : ℕ → ℕ → ℕ → ℕ → ℕ
 charge b r s t = inFirst b * r + inSecond b * s + inThird b * t
 
--- "and the sum is then rounded up to a whole cent"
+-- the even one of q and q + 1
+abbrev pub evenOf : ℕ → ℕ
+evenOf q = pick (eqb (q % 2) 0) q (q + 1)
+
+-- q whole cents and a rest of e, in bytes of a GiB: "sums go to the nearest cent, and an exact half goes to the even cent"
+abbrev pub rounded : ℕ → ℕ → ℕ
+rounded q e = pick (ltb (2 ^ 29) e) (q + 1) (pick (ltb e (2 ^ 29)) q (evenOf q))
+
+abbrev pub nearest : ℕ → ℕ
+nearest c = rounded (c / gib) (c % gib)
+
+-- "The three bands are still added before the rounding"
 abbrev pub centsOf : ℕ → ℕ → ℕ → ℕ → ℕ
-centsOf b r s t = (charge b r s t + (gib - 1)) / gib
+centsOf b r s t = nearest (charge b r s t)
+
+-- how far two numbers are apart
+abbrev pub apart : ℕ → ℕ → ℕ
+apart a b = (a - b) + (b - a)
+
+-- n cents for a charge of c: no number of cents is nearer, and where c is some cents and an exact half, n is even
+pub record Nearest (c n : ℕ) : Type 0 where
+  pub near : (m : ℕ) → apart c (n * gib) ≤ apart c (m * gib)
+  pub even : (m : ℕ) → 2 * c ≡ (2 * m + 1) * gib → n % 2 ≡ 0
 
 -- refusal 16: "a rate over 1,000"; 17: "more than 2^54 bytes"
 abbrev pub rateFault : ℕ → ℕ → ℕ → ℕ

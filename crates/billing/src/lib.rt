@@ -1,6 +1,6 @@
-// Bills of hosted rebuilds (document 02, ask 6): bytes read in three bands, each with its rate in cents per GiB.
+// Bills of hosted rebuilds (document 02, asks 6 and 10): bytes read in three bands, each with its rate in cents per GiB.
 ghost use mathlib.Core.Path.{_≡_};
-ghost use Rattle.billing.specs.Bills.{least, billFault, Refused, BillSays, RunBillSays};
+ghost use Rattle.billing.specs.Bills.{least, nearest, billFault, Refused, BillSays, RunBillSays};
 use refusals::Answer;
 use runs::Run;
 
@@ -53,6 +53,21 @@ fn bill_fault(bytes: u64, first: u64, second: u64, third: u64) -> u8
     0
 }
 
+// The nearest number of whole cents to a charge, at an exact half the even one.
+fn nearest_cents(charge: u64) -> u64
+    ensures { λ r. ⌜ r ≡ nearest charge ⌝ }
+{
+    let cents = charge / 1073741824;
+    let rest = charge % 1073741824;
+    if 536870912 < rest {
+        return cents + 1;
+    }
+    if rest < 536870912 {
+        return cents;
+    }
+    if cents % 2 == 0 { cents } else { cents + 1 }
+}
+
 // The bill of `bytes` bytes read, with the rates of the three bands. Refusals: 16, 17.
 pub fn bill_bytes(bytes: u64, first: u64, second: u64, third: u64) -> Bill
     ensures { λ r. ⌜ BillSays bytes first second third r ⌝ }
@@ -71,7 +86,7 @@ pub fn bill_bytes(bytes: u64, first: u64, second: u64, third: u64) -> Bill
         first: low,
         second: middle,
         third: rest,
-        cents: (charge + 1073741823) / 1073741824,
+        cents: nearest_cents(charge),
     }
 }
 

@@ -1,4 +1,4 @@
--- `bill_bytes`: a refusal, else the bands by the smaller of the bytes and each bound, and the charge, which does not wrap, rounded up.
+-- `bill_bytes`: a refusal, else the bands by the smaller of the bytes and each bound, and the charge, which does not wrap, to the nearest cent.
 use mathlib.Core.Path.{_≡_, sym, _∙_}
 use native.Mathlib.Omega.{arith}
 use borrow.Author.Needs.{needs}
@@ -61,16 +61,30 @@ add-charge-2 c = omega (arith, small c)
 answered-requires : tie.Need-answered-requires
 answered-requires c κs = search needs
 
-add-t12 : tie.Need-add-t12
-add-t12 c = omega (arith, small (c .before))
+nearest-cents-requires : tie.Need-nearest-cents-requires
+nearest-cents-requires c κs = search needs
 
 returns-2 : tie.Need-returns-2
 returns-2 c =
-    let m = c .before in
+    let d = c .before in
+    let m = d .before in
     let l = m .before in
     let i = l .before in
     let a = i .before .before .args in
-    bill-done (a .bytes) (a .first) (a .second) (a .third) (l .least-of .result) (m .least-of2 .result) (c .answered .result) (passed i) (c .answered .ensures) (l .least-of .ensures) (m .least-of2 .ensures)
+    bill-done
+    (a .bytes)
+    (a .first)
+    (a .second)
+    (a .third)
+    (l .least-of .result)
+    (m .least-of2 .result)
+    (c .nearest-cents .result)
+    (d .answered .result)
+    (passed i)
+    (d .answered .ensures)
+    (l .least-of .ensures)
+    (m .least-of2 .ensures)
+    (c .nearest-cents .ensures)
 
 pub bill-bytes-spec : {M : Type 1} → statement M
 bill-bytes-spec =
@@ -89,5 +103,5 @@ bill-bytes-spec =
     mul-charge-3
     add-charge-2
     answered-requires
-    add-t12
+    nearest-cents-requires
     returns-2)
