@@ -61,7 +61,8 @@ int main(void)
     }
     printf("over: %" PRIu32 " stripes, %" PRIu32 " skipped, %" PRIu64 " cells read\n", run.next, run.skipped,
            cuzhaveli_run_progress(&run).cells);
-    printf("bill at 1000 cents a GiB, in cents: %" PRIu64 "\n", cuzhaveli_bill_run(run, 1000, 500, 100).cents);
+    struct cuzhaveli_bill bill = cuzhaveli_bill_run(run, 1000, 500, 100);
+    printf("bill at 1000 cents a GiB: %" PRIu64 " bytes, %" PRIu64 " cents\n", bill.first, bill.cents);
     free(stripe);
     free(column);
     return 0;

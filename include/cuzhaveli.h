@@ -273,7 +273,8 @@ struct cuzhaveli_run cuzhaveli_resume_full_run(struct cuzhaveli_full_run old);
 struct cuzhaveli_run cuzhaveli_resume_disks_run(struct cuzhaveli_disks_run old);
 
 /* Bills. A rate is in cents a GiB (2^30 bytes), 0 to 1000: `first` for the first 64 GiB, `second` for the part above
- * up to 1024 GiB, `third` for the rest. The three products are added, then rounded up to a whole cent. */
+ * up to 1024 GiB, `third` for the rest. The three products are added, then rounded to the nearest cent, an exact half
+ * to the even one: 0.5 cents cost 0, 1.5 cents 2, 2.5 cents 2. */
 
 /* The bill of so many bytes. Refuses 16, 17. */
 struct cuzhaveli_bill cuzhaveli_bill_bytes(uint64_t bytes, uint64_t first, uint64_t second, uint64_t third);

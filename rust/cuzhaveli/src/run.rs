@@ -176,7 +176,7 @@ impl Run {
     /// let run = cuzhaveli::Shape::new(5, 5, 4096)?.resume_run(1, 20_000, 20_000, 0)?;
     /// let bill = run.bill([10, 5, 1])?;
     /// assert_eq!(bill.bands, [19 * 4096 * 20_000, 0, 0]);
-    /// assert_eq!(bill.cents, 15);
+    /// assert_eq!(bill.cents, 14); // 14.496
     /// # Ok::<(), cuzhaveli::Refusal>(())
     /// ```
     pub fn bill(&self, rates: [u64; 3]) -> Result<Bill, Refusal> {

@@ -1,4 +1,5 @@
-//! Bills: the bands' boundaries, the largest bills, refusals, bills of runs and of old runs taken over.
+//! Bills: the bands' boundaries, exact halves of a cent, the largest bills, refusals, bills of runs and of old runs taken
+//! over.
 
 use super::calls::{bill_bytes, bill_run, Bill};
 use super::model;
@@ -18,6 +19,7 @@ pub fn run(setting: &mut Setting, group: &mut Group) {
     let random = &mut setting.random;
     examples(group);
     boundaries(group);
+    halves(group);
     for _ in 0..ROUNDS {
         random_bill(group, random);
     }
@@ -48,9 +50,16 @@ fn same_run(group: &mut Group, run: &Run, rates: [u64; 3]) {
 fn examples(group: &mut Group) {
     let given = [
         (0, [7, 7, 7], Bill::of([0, 0, 0], 0)),
-        (1, [1, 0, 0], Bill::of([1, 0, 0], 1)),
+        (1, [1, 0, 0], Bill::of([1, 0, 0], 0)),
+        (GIB / 2, [1, 9, 9], Bill::of([GIB / 2, 0, 0], 0)),
+        (GIB / 2, [3, 9, 9], Bill::of([GIB / 2, 0, 0], 2)),
+        (GIB / 2, [5, 9, 9], Bill::of([GIB / 2, 0, 0], 2)),
+        (GIB / 2 + 1, [1, 9, 9], Bill::of([GIB / 2 + 1, 0, 0], 1)),
+        (GIB / 2 - 1, [3, 9, 9], Bill::of([GIB / 2 - 1, 0, 0], 1)),
         (GIB, [5, 9, 9], Bill::of([GIB, 0, 0], 5)),
-        (64 * GIB + 1, [1, 1, 0], Bill::of([64 * GIB, 1, 0], 65)),
+        (64 * GIB + 1, [1, 1, 0], Bill::of([64 * GIB, 1, 0], 64)),
+        (64 * GIB + GIB / 2, [1, 1, 0], Bill::of([64 * GIB, GIB / 2, 0], 64)),
+        (64 * GIB + GIB / 2, [1, 3, 0], Bill::of([64 * GIB, GIB / 2, 0], 66)),
         (1_025 * GIB, [1, 2, 3], Bill::of([64 * GIB, 960 * GIB, GIB], 64 + 1_920 + 3)),
     ];
     for (bytes, rates, expected) in given {
@@ -81,6 +90,20 @@ fn boundaries(group: &mut Group) {
                         same_bill(group, bytes, [first, second, third]);
                     }
                 }
+            }
+        }
+    }
+}
+
+/// Exact halves of a cent at every rate, from the last of one, two and three bands, and a byte on either side.
+fn halves(group: &mut Group) {
+    for rate in 1..=1_000_u64 {
+        let half = (GIB / 2) >> rate.trailing_zeros();
+        for bytes in [half, 3 * half, 5 * half, 7 * half] {
+            for near in [bytes - 1, bytes, bytes + 1] {
+                same_bill(group, near, [rate, 1_000, 999]);
+                same_bill(group, 64 * GIB + near, [7, rate, 999]);
+                same_bill(group, 1_024 * GIB + near, [7, 13, rate]);
             }
         }
     }
@@ -137,10 +160,10 @@ fn refused_runs(group: &mut Group) {
 
 /// The bill of a run that was open before records had data disks.
 fn old_runs(group: &mut Group, random: &mut Random) {
-    let old = FullRun { width: 5, size: 4_096, disk: 1, stripes: 9, next: 4 };
-    let bytes = 4 * 19 * 4_096;
-    let bill = Bill::of([bytes, 0, 0], 1);
-    let got = bill_run(&resume_full_run(old), [1, 1, 1]);
+    let old = FullRun { width: 5, size: 4_096, disk: 1, stripes: 9_000, next: 4_000 };
+    let bytes = 4_000 * 19 * 4_096;
+    let bill = Bill::of([bytes, 0, 0], 3);
+    let got = bill_run(&resume_full_run(old), [10, 1, 1]);
     group.same(|| format!("bill_run(resume_full_run({old:?}))"), bill, got);
     for _ in 0..ROUNDS / 50 {
         let p = *random.pick(&WIDTHS);

@@ -4,6 +4,7 @@ use super::calls::Bill;
 use crate::groups::runs::calls::Run;
 use crate::groups::runs::model::run_progress;
 use crate::harness::answer::{Answer, ACCEPTED};
+use std::cmp::Ordering;
 
 const GIB: u128 = 1 << 30;
 
@@ -28,7 +29,19 @@ pub fn bill_bytes(bytes: u64, rates: [u64; 3]) -> Bill {
         bands[band] = taken as u64;
         charge += taken * rates[band] as u128;
     }
-    Bill::of(bands, charge.div_ceil(GIB) as u64)
+    Bill::of(bands, nearest_cents(charge))
+}
+
+/// The nearer of the whole cents below and above a charge, the even one where it lies half way.
+fn nearest_cents(charge: u128) -> u64 {
+    let below = charge / GIB;
+    let above = below + 1;
+    let nearest = match (charge - below * GIB).cmp(&(above * GIB - charge)) {
+        Ordering::Less => below,
+        Ordering::Greater => above,
+        Ordering::Equal => [below, above][(below % 2) as usize],
+    };
+    nearest as u64
 }
 
 /// The bill of a run.
