@@ -1,4 +1,4 @@
-//! The rebuild of two lost disks: every pair of every array, and refused calls.
+//! The rebuild of two lost disks: every pair of every array, and calls of which most are refused.
 
 use super::calls::rebuild_two;
 use super::model;
@@ -137,19 +137,19 @@ fn beside_full(group: &mut Group, random: &mut Random, shape: Shape, pair: Pair)
     group.same_bytes(call, &wide, &widened(shape, stripe.part()));
 }
 
-// Refused calls.
+// Calls of which most are refused.
 
-/// A call on random bytes, if it is refused.
-fn refused(group: &mut Group, random: &mut Random, shape: Shape, pair: Pair, length: usize) {
-    refused_on(group, shape, pair, &mut Lent::noise(length, random));
+/// A call on random bytes.
+fn answered(group: &mut Group, random: &mut Random, shape: Shape, pair: Pair, length: usize) {
+    answered_on(group, shape, pair, &mut Lent::noise(length, random));
 }
 
-/// A refused call gives its number and changes nothing.
-fn refused_on(group: &mut Group, shape: Shape, (first, second): Pair, stripe: &mut Lent) {
+/// A refused call gives its number and changes nothing, an accepted one rebuilds.
+fn answered_on(group: &mut Group, shape: Shape, (first, second): Pair, stripe: &mut Lent) {
     let length = stripe.part().len();
     let expected = model::rebuild_two(shape, first, second, length);
     if expected == ACCEPTED {
-        return;
+        return made_clean(group, shape, (first, second), stripe);
     }
     let before = stripe.clone();
     let got = rebuild_two(shape, first, second, stripe.part());
@@ -163,8 +163,8 @@ fn refused_lengths(group: &mut Group, random: &mut Random, shape: Shape) {
     let column = shape.width * shape.cell_size;
     let full = stripe_length(full_shape(shape));
     for length in [0, 1, column, right - column, right - 1, right + 1, 2 * right, full] {
-        refused(group, random, shape, (0, shape.disks), length);
-        refused(group, random, shape, (3, 3), length);
+        answered(group, random, shape, (0, shape.disks), length);
+        answered(group, random, shape, (3, 3), length);
     }
 }
 
@@ -177,7 +177,7 @@ fn refused_disks(group: &mut Group, random: &mut Random, p: usize, k: usize) {
             let mut stripe = Lent::noise(length, random);
             for first in disks {
                 for second in disks {
-                    refused_on(group, shape, (first, second), &mut stripe);
+                    answered_on(group, shape, (first, second), &mut stripe);
                 }
             }
         }
@@ -195,7 +195,7 @@ fn refused_numbers(group: &mut Group, random: &mut Random) {
         let right = stripe_length(numbers::cut_shapes(shape)[0]);
         for pair in [(0, 1), (1, 1), (k, k), (0, k.wrapping_add(1)), (k.wrapping_add(2), 0)] {
             for length in [35, right, numbers::wrapped_length(shape)] {
-                refused(group, random, shape, pair, length);
+                answered(group, random, shape, pair, length);
             }
         }
     }
