@@ -60,12 +60,12 @@ pub extern "C" fn cuzhaveli_judge_plan(
     judge::judge_plan(width, disks, lost, plan)
 }
 
-// The space that a package takes.
+// The space that a package of files takes.
 #[no_mangle]
-pub extern "C" fn cuzhaveli_package_space(shape: Shape, bytes: u64, free: u64) -> Space
-    ensures { λ r. ⌜ SpaceSays (shape .width) (shape .disks) (shape .«cell_size») bytes free r ⌝ }
+pub extern "C" fn cuzhaveli_package_space(shape: Shape, lengths: &[u64], free: u64) -> Space
+    ensures { λ r. ⌜ SpaceSays (shape .width) (shape .disks) (shape .«cell_size») (now (lengths .entry)) free r ⌝ }
 {
-    space::package_space(shape, bytes, free)
+    space::package_space(shape, lengths, free)
 }
 
 // Writes P and Q of a lent stripe.

@@ -2,14 +2,15 @@
 use mathlib.Core.Path.{_≡_, refl}
 use mathlib.Core.Bool.{true}
 use Rattle.laws.specs.Lists.{added}
-use Rattle.laws.specs.Sums.{allTo}
+use Rattle.laws.specs.Sums.{allTo, total}
 use Rattle.laws.specs.Xor.{xorFrom, xorL}
 use Rattle.liberation.specs.Sets.{rowFrom, rowSet, diagonalFrom, ordinary, diagonalSet, lostIn, survivingIn}
 use Rattle.liberation.specs.Plans.{diagonals, firstRoutes, decided, routesFrom, routes, rowSteps, diagonalSteps, dataPlan, allOf, planOf, readFrom}
 use Rattle.liberation.specs.Judging.{othersThere, stepFault, judgeFrom}
 use Rattle.liberation_stripes.specs.Stripes.{xorOver, clean, without, followed, rebuilt, encoded}
+use Rattle.space.specs.Says.{upEach}
 use Rattle.examples.specs.Table.{table, agree}
 
 pub starred : agree table ≡ true
-unfolding added allTo xorFrom xorL xorOver clean without followed rebuilt encoded rowFrom rowSet diagonalFrom ordinary diagonalSet lostIn survivingIn diagonals firstRoutes decided routesFrom routes rowSteps diagonalSteps dataPlan allOf planOf readFrom othersThere stepFault judgeFrom table agree
+unfolding added allTo total upEach xorFrom xorL xorOver clean without followed rebuilt encoded rowFrom rowSet diagonalFrom ordinary diagonalSet lostIn survivingIn diagonals firstRoutes decided routesFrom routes rowSteps diagonalSteps dataPlan allOf planOf readFrom othersThere stepFault judgeFrom table agree
 starred = refl

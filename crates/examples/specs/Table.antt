@@ -33,9 +33,9 @@ written (s ∷ ss) = s .row ∷ (s .kind ∷ (s .number ∷ written ss))
 abbrev pub verdict : ℕ → ℕ → List Step → List ℕ
 verdict p f ss = judge p p f ss .number ∷ (judge p p f ss .place ∷ (readCount p p f ss ∷ []))
 
--- what a package takes with p data disks: number, stripes
-abbrev pub takes : ℕ → ℕ → ℕ → List ℕ
-takes p s l = spaceFault p p s l ∷ (stripesOf p p s l ∷ [])
+-- what a package of files of these lengths takes with p data disks: number, stripes
+abbrev pub takes : ℕ → ℕ → List ℕ → List ℕ
+takes p s ls = spaceFault p p s ls ∷ (stripesOf p p s ls ∷ [])
 
 -- the plans of the examples
 abbrev pub allRows : List Step
@@ -81,10 +81,10 @@ table =
     ∷ ((verdict 5 1 mixed is (0 ∷ (0 ∷ (20 ∷ []))))
     -- p = 5, lost 0: R0, R2, R4, D1, D3, 21
     ∷ ((verdict 5 0 evenRows is (0 ∷ (0 ∷ (21 ∷ []))))
-    -- p = 5, s = 4,096: 102,400 bytes take 1 stripe, 20,480 bytes a disk; 102,401 take 2
-    ∷ ((takes 5 4096 102400 is (0 ∷ (1 ∷ [])))
-    ∷ (((needOf 5 5 4096 102400 ∷ []) is (20480 ∷ []))
-    ∷ ((takes 5 4096 102401 is (0 ∷ (2 ∷ [])))
+    -- p = 5, s = 4,096: 102,400 bytes take 1 stripe, 20,480 bytes a disk; 102,401 take 2; "packages of one file" (document 02, ask 3)
+    ∷ ((takes 5 4096 (102400 ∷ []) is (0 ∷ (1 ∷ [])))
+    ∷ (((needOf 5 5 4096 (102400 ∷ []) ∷ []) is (20480 ∷ []))
+    ∷ ((takes 5 4096 (102401 ∷ []) is (0 ∷ (2 ∷ [])))
     ∷ [])))))))))))))))))
 
 -- every row agrees

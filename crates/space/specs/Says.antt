@@ -1,11 +1,14 @@
--- The space that a package of l bytes takes (document 01, "Run and space"; document 02, ask 1), and the promise of the space call, for accepted and refused calls alike.
--- p is the width, k the number of data disks, s the bytes of a cell.
+-- The space that a package of files takes (document 01, "Run and space"; document 02, asks 1 and 3), and the promise of the space call, for accepted and refused calls alike.
+-- p is the width, k the number of data disks, s the bytes of a cell, ls the lengths of the files.
 use mathlib.Core.Path.{_≡_}
 use mathlib.Core.Bool.{Bool, true, false, _&&_}
+use mathlib.Core.List.{List, [], _∷_}
 use mathlib.Core.Logic.{_↔_}
-use Prim.Native.Nat.{ℕ, _+_, _-_, _*_, _/_, _^_, _≤_, _<_}
+use Prim.Native.Nat.{ℕ, zero, suc, _+_, _-_, _*_, _/_, _^_, _≤_, _<_}
 use lib.Dec.{eqb, ltb, leb}
+use lib.ListN.{length, getD}
 use Rattle.laws.specs.Choice.{pick, firstOf, when}
+use Rattle.laws.specs.Sums.{total}
 use Rattle.liberation.specs.Sets.{shapeFault}
 use Rattle.refusals.specs.Answers.{Answers}
 use Rattle.space.specs.declared.Space.{Space}
@@ -22,31 +25,40 @@ diskGives p s = p * s
 abbrev pub stripeHolds : ℕ → ℕ → ℕ → ℕ
 stripeHolds p k s = k * diskGives p s
 
--- the stripes: those bytes divide the package's, "rounded up"
-abbrev pub stripesOf : ℕ → ℕ → ℕ → ℕ → ℕ
-stripesOf p k s l = upBy l (stripeHolds p k s)
+-- "the stripes of each file rounded up", where a stripe holds d bytes
+unfoldable pub upEach : ℕ → List ℕ → List ℕ
+upEach d [] = []
+upEach d (l ∷ ls) = upBy l d ∷ upEach d ls
+
+-- "then added"
+abbrev pub stripesOf : ℕ → ℕ → ℕ → List ℕ → ℕ
+stripesOf p k s ls = total (upEach (stripeHolds p k s) ls)
 
 -- the need: bytes of each disk
-abbrev pub needOf : ℕ → ℕ → ℕ → ℕ → ℕ
-needOf p k s l = stripesOf p k s l * diskGives p s
+abbrev pub needOf : ℕ → ℕ → ℕ → List ℕ → ℕ
+needOf p k s ls = stripesOf p k s ls * diskGives p s
 
 -- "It fits exactly when that need is at most the free bytes of one disk"
-abbrev pub fitsIn : ℕ → ℕ → ℕ → ℕ → ℕ → Bool
-fitsIn p k s l free = leb (needOf p k s l) free
+abbrev pub fitsIn : ℕ → ℕ → ℕ → List ℕ → ℕ → Bool
+fitsIn p k s ls free = leb (needOf p k s ls) free
 
--- refusal 11: "L over 2^48"
+-- refusal 14: "more than 4,096 files"
+abbrev pub filesFault : List ℕ → ℕ
+filesFault ls = when (ltb 4096 (length ls)) 14
+
+-- refusal 11: "L over 2^48", L being "the sum of lengths"
 abbrev pub packageFault : ℕ → ℕ
 packageFault l = when (ltb (2 ^ 48) l) 11
 
--- the space call refuses by 1, 13, 2 and 11
-abbrev pub spaceFault : ℕ → ℕ → ℕ → ℕ → ℕ
-spaceFault p k s l = firstOf (shapeFault p k s) (packageFault l)
+-- the space call refuses by 1, 13, 2, 14 and 11
+abbrev pub spaceFault : ℕ → ℕ → ℕ → List ℕ → ℕ
+spaceFault p k s ls = firstOf (shapeFault p k s) (firstOf (filesFault ls) (packageFault (total ls)))
 
-pub record SpaceSays (p k s l free : ℕ) (r : Space) : Type 0 where
-  pub answer : Answers (spaceFault p k s l) (r .answer)
-  pub stripes : r .stripes ≡ pick (eqb (spaceFault p k s l) 0) (stripesOf p k s l) 0
-  pub bytes : r .bytes ≡ pick (eqb (spaceFault p k s l) 0) (needOf p k s l) 0
-  pub fits : r .fits ≡ (eqb (spaceFault p k s l) 0 && fitsIn p k s l free)
+pub record SpaceSays (p k s : ℕ) (ls : List ℕ) (free : ℕ) (r : Space) : Type 0 where
+  pub answer : Answers (spaceFault p k s ls) (r .answer)
+  pub stripes : r .stripes ≡ pick (eqb (spaceFault p k s ls) 0) (stripesOf p k s ls) 0
+  pub bytes : r .bytes ≡ pick (eqb (spaceFault p k s ls) 0) (needOf p k s ls) 0
+  pub fits : r .fits ≡ (eqb (spaceFault p k s ls) 0 && fitsIn p k s ls free)
 
 -- a refusal by number n
 pub record Refused (n : ℕ) (r : Space) : Type 0 where
@@ -55,10 +67,41 @@ pub record Refused (n : ℕ) (r : Space) : Type 0 where
   pub bytes : r .bytes ≡ 0
   pub fits : r .fits ≡ false
 
--- what every accepted answer means: enough stripes and none too many, and the need compared with the free bytes
-pub record SpaceMeans (p k s l free : ℕ) (r : Space) : Type 0 where
-  pub enough : l ≤ r .stripes * (k * (p * s))
-  pub fewest : 0 < l → (r .stripes - 1) * (k * (p * s)) < l
-  pub none : l ≡ 0 → r .stripes ≡ 0
+-- files few and short enough for the sum of their stripes, which hold d bytes each
+pub record Few (d : ℕ) (ls : List ℕ) : Type 0 where
+  pub pos : 0 < d
+  pub holds : d ≤ 3936256
+  pub files : length ls ≤ 4096
+  pub bytes : total ls ≤ 2 ^ 48
+
+-- a file of l bytes on n stripes, which hold d bytes each: they hold it, one fewer does not, and an empty file has none
+pub record Placed (d l n : ℕ) : Type 0 where
+  pub enough : l ≤ n * d
+  pub fewest : 0 < l → (n - 1) * d < l
+  pub none : l ≡ 0 → n ≡ 0
+
+-- ns: the stripes of each file of ls
+pub record Each (d : ℕ) (ls ns : List ℕ) : Type 0 where
+  pub files : length ns ≡ length ls
+  pub placed : (i : ℕ) → i < length ls → Placed d (getD ls i 0) (getD ns i 0)
+
+-- how many files are not empty
+unfoldable pub filled : List ℕ → ℕ
+filled [] = 0
+filled (zero ∷ ls) = filled ls
+filled (suc l ∷ ls) = suc (filled ls)
+
+-- What every accepted answer means.
+pub record SpaceMeans (p k s : ℕ) (ls : List ℕ) (free : ℕ) (r : Space) : Type 0 where
+  -- some list has for each file as many stripes as hold it, and none too many
+  pub own : List ℕ
+  pub each : Each (k * (p * s)) ls own
+  -- and the stripes are the sum of every such list
+  pub sum : (ns : List ℕ) → Each (k * (p * s)) ls ns → r .stripes ≡ total ns
+  -- never fewer than one file of the whole length would take
+  pub least : upBy (total ls) (k * (p * s)) ≤ r .stripes
+  -- and at most one stripe less a byte more than the whole length for each file that is not empty
+  pub most : r .stripes * (k * (p * s)) ≤ total ls + filled ls * (k * (p * s) - 1)
+  -- the need, compared with the free bytes
   pub bytes : r .bytes ≡ r .stripes * (p * s)
   pub fits : (r .fits ≡ true) ↔ (r .bytes ≤ free)

@@ -1,6 +1,9 @@
-// The space that a package takes: its stripes, the bytes of each disk, and whether that fits.
+// The space that a package of files takes, each file on stripes of its own: the stripes, the bytes of each disk, and whether that fits.
 ghost use mathlib.Core.Path.{_≡_};
-ghost use Rattle.space.specs.Says.{spaceFault, SpaceSays, Refused};
+ghost use Prim.Native.Nat.{_^_};
+ghost use lib.Dec.{ltb};
+ghost use Rattle.laws.specs.Sums.{total};
+ghost use Rattle.space.specs.Says.{upEach, spaceFault, SpaceSays, Refused, Few};
 use refusals::Answer;
 use refusals::Shape;
 
@@ -25,31 +28,65 @@ fn refused_space(refusal: u8) -> Space
     }
 }
 
-// The refusal of a package of `bytes` bytes, 0 for none: 1, 13, 2, then 11 for more than 2^48 bytes.
-fn space_fault(width: usize, disks: usize, size: usize, bytes: u64) -> u8
-    ensures { λ r. ⌜ r ≡ spaceFault width disks size bytes ⌝ }
+// Do the lengths add up to more than 2^48? Each is compared with what is left of that, so no sum wraps.
+fn too_long(lengths: &[u64]) -> bool
+    ensures { λ r. ⌜ r ≡ ltb (2 ^ 48) (total (now (lengths .entry))) ⌝ }
+{
+    let mut seen: u64 = 0;
+    let mut i = 0;
+    while i < lengths.len() {
+        let bytes = lengths[i];
+        if 281474976710656 - seen < bytes {
+            return true;
+        }
+        seen += bytes;
+        i += 1;
+    }
+    false
+}
+
+// The refusal of a package of files, 0 for none: 1, 13, 2, then 14 for more than 4,096 files, then 11 for more than 2^48 bytes.
+fn space_fault(width: usize, disks: usize, size: usize, lengths: &[u64]) -> u8
+    ensures { λ r. ⌜ r ≡ spaceFault width disks size (now (lengths .entry)) ⌝ }
 {
     let fault = refusals::shape_fault(width, disks, size);
     if fault != 0 {
         return fault;
     }
-    if 281474976710656 < bytes { 11 } else { 0 }
+    if 4096 < lengths.len() {
+        return 14;
+    }
+    if too_long(lengths) { 11 } else { 0 }
 }
 
-// The space that a package of `bytes` bytes takes, where each disk has `free` bytes left. Refusals: 1, 13, 2, 11.
-pub fn package_space(shape: Shape, bytes: u64, free: u64) -> Space
-    ensures { λ r. ⌜ SpaceSays (shape .width) (shape .disks) (shape .«cell_size») bytes free r ⌝ }
+// The stripes of each file, rounded up, then added; a stripe holds `holds` bytes.
+fn sum_stripes(holds: u64, lengths: &[u64]) -> u64
+    requires { ⌜ Few holds (now lengths) ⌝ }
+    ensures { λ r. ⌜ r ≡ total (upEach holds (now (lengths .entry))) ⌝ }
+{
+    let mut stripes: u64 = 0;
+    let mut file = 0;
+    while file < lengths.len() {
+        stripes += (lengths[file] + (holds - 1)) / holds;
+        file += 1;
+    }
+    stripes
+}
+
+// The space that a package of files of these lengths takes, where each disk has `free` bytes left. Refusals: 1, 13, 2, 14, 11.
+pub fn package_space(shape: Shape, lengths: &[u64], free: u64) -> Space
+    ensures { λ r. ⌜ SpaceSays (shape .width) (shape .disks) (shape .«cell_size») (now (lengths .entry)) free r ⌝ }
 {
     let width = shape.width;
     let disks = shape.disks;
     let size = shape.cell_size;
-    let fault = space_fault(width, disks, size, bytes);
+    let fault = space_fault(width, disks, size, lengths);
     if fault != 0 {
         return refused_space(fault);
     }
     let gives = width as u64 * size as u64;
     let holds = disks as u64 * gives;
-    let stripes = (bytes + (holds - 1)) / holds;
+    let stripes = sum_stripes(holds, lengths);
     let need = stripes * gives;
     Space {
         answer: refusals::answered(0),
