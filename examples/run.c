@@ -35,7 +35,8 @@ int main(void)
 {
     struct cuzhaveli_shape shape = {5, 5, 4096};
     uint8_t *stripe = malloc(CUZHAVELI_STRIPE_BYTES(shape)), *column = malloc(CUZHAVELI_COLUMN_BYTES(shape));
-    struct cuzhaveli_space space = cuzhaveli_package_space(shape, 600000, 200000);
+    uint64_t length = 600000; /* one file; examples/space.c has many */
+    struct cuzhaveli_space space = cuzhaveli_package_space(shape, &length, 1, 200000);
     struct cuzhaveli_run_answer opened = cuzhaveli_open_run(shape, 1, STRIPES);
     struct cuzhaveli_run run = opened.run;
     if (!stripe || !column || space.answer.refusal != CUZHAVELI_OK || opened.answer.refusal != CUZHAVELI_OK)

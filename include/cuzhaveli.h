@@ -18,6 +18,8 @@
  * What is proved, for every argument, is in docs/TRUST.md. What a C caller owes, since no proof sees it:
  *  - a pointer with a length n points to n bytes that may be read (and written, if not const), at any
  *    alignment; it may be NULL if n is not the length required (the call is then refused, at the latest by 5);
+ *  - `lengths` points to `lengths_len` numbers that may be read, aligned as uint64_t; it may be NULL if that is 0 or
+ *    more than CUZHAVELI_MAX_FILES;
  *  - `run` is not NULL and is aligned as struct cuzhaveli_run;
  *  - memory that a call writes overlaps nothing else it is lent, and nobody else uses it meanwhile.
  * Padding between fields is unspecified: compare fields, not bytes. */
@@ -38,6 +40,7 @@ extern "C" {
 #define CUZHAVELI_MAX_WIDTH 31
 #define CUZHAVELI_MAX_CELL_SIZE 4096
 #define CUZHAVELI_MAX_STRIPES 4294967295u /* of one run; cuzhaveli_package_space can give more */
+#define CUZHAVELI_MAX_FILES 4096          /* of a package */
 
 /* Sizes in bytes, for a shape within the limits. */
 #define CUZHAVELI_COLUMN_BYTES(shape) ((shape).width * (shape).cell_size)           /* a disk's part of a stripe */
@@ -61,9 +64,10 @@ enum cuzhaveli_refusal {
     CUZHAVELI_STEP_REPEATED = 8,      /* the row was rebuilt by an earlier step */
     CUZHAVELI_STEP_EARLY = 9,         /* another lost cell of the set is still missing */
     CUZHAVELI_NOT_NEXT = 10,          /* the run is over, the stripe is not its next, or more skipped than passed */
-    CUZHAVELI_PACKAGE_TOO_LONG = 11,  /* a package of more than 2^48 bytes */
+    CUZHAVELI_PACKAGE_TOO_LONG = 11,  /* a package of more than 2^48 bytes, all files together */
     CUZHAVELI_BAD_TEXT = 12,          /* input of the plan program; no call here gives it */
     CUZHAVELI_BAD_DISKS = 13,         /* k is under 2 or over p; tested right after 1 */
+    CUZHAVELI_TOO_MANY_FILES = 14,    /* a package of more than 4096 files; tested just before 11 */
     CUZHAVELI_NO_SUCH_ROW = 15,       /* a row number of p or more */
     CUZHAVELI_BAD_RATE = 16,          /* a rate of more than 1000 cents a GiB */
     CUZHAVELI_TOO_MANY_BYTES = 17,    /* a bill of more than 2^54 bytes */
@@ -197,10 +201,12 @@ struct cuzhaveli_answer cuzhaveli_read_list(size_t width, size_t disks, size_t l
 struct cuzhaveli_judged cuzhaveli_judge_plan(size_t width, size_t disks, size_t lost, const uint8_t *plan,
                                              size_t plan_len);
 
-/* The space that a package of `bytes` bytes takes: bytes / CUZHAVELI_DATA_BYTES(shape) stripes, rounded up, and
- * CUZHAVELI_COLUMN_BYTES(shape) bytes of each disk for a stripe; it fits if that need is at most `free`, the free
- * bytes of one disk. Refuses 1, 13, 2, 11. */
-struct cuzhaveli_space cuzhaveli_package_space(struct cuzhaveli_shape shape, uint64_t bytes, uint64_t free);
+/* The space that a package of files takes, each on stripes of its own. File i has lengths[i] bytes, and its stripes
+ * are lengths[i] / CUZHAVELI_DATA_BYTES(shape), rounded up, none for an empty file. The package takes the sum of
+ * these, and CUZHAVELI_COLUMN_BYTES(shape) bytes of each disk for a stripe; it fits if that need is at most `free`,
+ * the free bytes of one disk. No files take nothing. Refuses 1, 13, 2, 14, 11. */
+struct cuzhaveli_space cuzhaveli_package_space(struct cuzhaveli_shape shape, const uint64_t *lengths,
+                                               size_t lengths_len, uint64_t free);
 
 /* Stripes. `stripe_len` is CUZHAVELI_STRIPE_BYTES(shape), `column_len` CUZHAVELI_COLUMN_BYTES(shape). */
 

@@ -53,6 +53,8 @@ struct lent {
 };
 struct lent new_lent(void);
 void lend(struct lent *lent, struct random *r, size_t right, bool at_end);
+void lend_bytes(struct lent *lent, struct random *r, size_t length, bool at_end);
+void lend_null(struct lent *lent, size_t length);
 void set_content(struct lent *lent);
 bool lent_agrees(const struct lent *lent);
 

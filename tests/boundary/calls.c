@@ -137,19 +137,53 @@ static bool judge_plan(struct caller *c)
     return same(c, JUDGE, got.answer, wanted.answer) && got.reads == wanted.reads && lent_agrees(plan);
 }
 
+/* How many files: few, now and then about as many as there may be, or any number. */
+static size_t any_files(struct random *r)
+{
+    switch (below(r, 64)) {
+    case 0: return CUZHAVELI_MAX_FILES - 2 + below(r, 5);
+    case 1: return CUZHAVELI_MAX_FILES + 1 + below(r, 3000);
+    case 2: return any_number(r);
+    case 3: return below(r, 400);
+    default: return below(r, 8);
+    }
+}
+
+/* Lends lengths of files, most of them accepted together; NULL where there are none or too many, now and then, and
+ * always where there is no room for them. The number of files. */
+static size_t lend_lengths(struct caller *c)
+{
+    struct random *r = &c->random;
+    size_t files = any_files(r);
+    if (files > 8000 || ((files == 0 || files > CUZHAVELI_MAX_FILES) && once_in(r, 2))) {
+        lend_null(&c->first, files);
+        return files;
+    }
+    lend_bytes(&c->first, r, files * sizeof(uint64_t), c->at_end);
+    uint64_t *lengths = (uint64_t *)(void *)c->first.same;
+    unsigned most = (unsigned)(16 + below(r, 40));
+    for (size_t i = 0; i < files; i++)
+        lengths[i] = once_in(r, 400) ? any_number(r) : once_in(r, 6) ? 0 : lengths[i] >> (most + below(r, 64 - most));
+    set_content(&c->first);
+    return files;
+}
+
 static bool package_space(struct caller *c)
 {
     struct random *r = &c->random;
     struct cuzhaveli_shape shape = any_shape(r);
-    uint64_t bytes = once_in(r, 2) ? next_number(r) >> (16 + below(r, 48)) : any_number(r);
+    size_t files = lend_lengths(c);
+    const uint64_t *lengths = (const uint64_t *)(const void *)c->first.bytes;
+    const uint64_t *same_lengths = (const uint64_t *)(const void *)c->first.same;
+    size_t same_files = files > 8000 ? 8000 : files; /* refused as well */
     uint64_t free = any_number(r);
-    if (is_shape(shape) && once_in(r, 2)) /* about as many as it takes */
-        free = bytes / CUZHAVELI_DATA_BYTES(shape) * CUZHAVELI_COLUMN_BYTES(shape) + below(r, 3) * CUZHAVELI_COLUMN_BYTES(shape) - below(r, 2);
-    SAY(c, "cuzhaveli_package_space(" SHAPE ", %ju, %ju)", OF(shape), (uintmax_t)bytes, (uintmax_t)free);
-    struct cuzhaveli_space got = cuzhaveli_package_space(shape, bytes, free);
-    struct cuzhaveli_space wanted = second_package_space(shape, bytes, free);
+    if (once_in(r, 2)) /* about as many as it takes */
+        free = second_package_space(shape, same_lengths, same_files, 0).bytes + below(r, 3) - 1;
+    SAY(c, "cuzhaveli_package_space(" SHAPE ", %p, %zu, %ju)", OF(shape), (const void *)lengths, files, (uintmax_t)free);
+    struct cuzhaveli_space got = cuzhaveli_package_space(shape, lengths, files, free);
+    struct cuzhaveli_space wanted = second_package_space(shape, same_lengths, same_files, free);
     return same(c, SPACE, got.answer, wanted.answer) && got.stripes == wanted.stripes && got.bytes == wanted.bytes &&
-           got.fits == wanted.fits;
+           got.fits == wanted.fits && lent_agrees(&c->first);
 }
 
 static bool encode_stripe(struct caller *c)

@@ -36,12 +36,25 @@ static uint8_t *beside(const struct lent *lent)
  * there is no room for it. */
 void lend(struct lent *lent, struct random *r, size_t right, bool at_end)
 {
-    lent->length = any_length(r, right);
-    if (lent->length > ROOM - GUARD || (lent->length != right && once_in(r, 2))) {
-        lent->bytes = NULL;
-        lent->same_length = 0;
-        return;
-    }
+    size_t length = any_length(r, right);
+    if (length > ROOM - GUARD || (length != right && once_in(r, 2)))
+        lend_null(lent, length);
+    else
+        lend_bytes(lent, r, length, at_end);
+}
+
+/* Lends NULL, as memory of that length. */
+void lend_null(struct lent *lent, size_t length)
+{
+    lent->bytes = NULL;
+    lent->length = length;
+    lent->same_length = 0;
+}
+
+/* Lends memory of that length and of random content. */
+void lend_bytes(struct lent *lent, struct random *r, size_t length, bool at_end)
+{
+    lent->length = length;
     lent->bytes = at_end ? lent->high - lent->length : lent->low;
     lent->same_length = lent->length;
     fill(r, lent->bytes, lent->length);

@@ -21,7 +21,7 @@ static void nothing(void) { }
 static void plan_disk(void) { sink = cuzhaveli_plan_disk(shape.width, shape.disks, lost).answer.refusal; }
 static void read_list(void) { sink = cuzhaveli_read_list(shape.width, shape.disks, lost, column, CUZHAVELI_LIST_BYTES(shape.width, shape.disks)).refusal; }
 static void judge_plan(void) { sink = cuzhaveli_judge_plan(shape.width, shape.disks, lost, stripe, CUZHAVELI_PLAN_BYTES(shape.width)).answer.refusal; }
-static void package_space(void) { sink = cuzhaveli_package_space(shape, 1 << 30, 1 << 30).answer.refusal; }
+static void package_space(void) { sink = cuzhaveli_package_space(shape, (const uint64_t *)(const void *)stripe, CUZHAVELI_MAX_FILES, 1 << 30).answer.refusal; }
 static void encode_stripe(void) { sink = cuzhaveli_encode_stripe(shape, stripe, CUZHAVELI_STRIPE_BYTES(shape)).refusal; }
 static void check_stripe(void) { sink = cuzhaveli_check_stripe(shape, stripe, CUZHAVELI_STRIPE_BYTES(shape)).answer.refusal; }
 

@@ -162,7 +162,12 @@ extern "C" {
         plan_len: usize,
     ) -> Judged;
 
-    pub fn cuzhaveli_package_space(shape: Shape, bytes: u64, free: u64) -> Space;
+    pub fn cuzhaveli_package_space(
+        shape: Shape,
+        lengths: *const u64,
+        lengths_len: usize,
+        free: u64,
+    ) -> Space;
 
     pub fn cuzhaveli_encode_stripe(shape: Shape, stripe: *mut u8, stripe_len: usize) -> Answer;
 

@@ -51,6 +51,7 @@ kinds! {
     PackageTooLong = 11, "the package has more than 2^48 bytes";
     BadText = 12, "the input is not of the plan program's form";
     BadDisks = 13, "the data disks are fewer than 2 or more than the width";
+    TooManyFiles = 14, "the package has more than 4096 files";
     NoSuchRow = 15, "the array has no row of that number";
     BadRate = 16, "a rate is over 1000 cents a GiB";
     TooManyBytes = 17, "the bill has more than 2^54 bytes";

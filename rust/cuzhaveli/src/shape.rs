@@ -43,7 +43,7 @@ impl Shape {
     pub fn new(width: usize, disks: usize, cell_size: usize) -> Result<Shape, Refusal> {
         let shape = ffi::Shape { width, disks, cell_size };
         // The space call refuses these three numbers and nothing else of an empty package.
-        unsafe { ffi::cuzhaveli_package_space(shape, 0, 0) }.answer.accepted()?;
+        unsafe { ffi::cuzhaveli_package_space(shape, [].as_ptr(), 0, 0) }.answer.accepted()?;
         Ok(Shape(shape))
     }
 
@@ -392,15 +392,19 @@ impl Shape {
         Run::resumed(ffi::Run { shape: self.0, lost, stripes, next, skipped })
     }
 
-    /// The space of a package of so many bytes, where one disk has so many free. Refuses 11.
+    /// The space of a package of files of these lengths, each on stripes of its own, where one disk has so many bytes
+    /// free. An empty file takes none. Refuses 14, 11.
     ///
     /// ```
-    /// let space = cuzhaveli::Shape::new(5, 5, 4096)?.space(102_401, 40_960)?;
-    /// assert_eq!((space.stripes, space.bytes_per_disk, space.fits), (2, 40_960, true));
+    /// let shape = cuzhaveli::Shape::new(5, 5, 4096)?; // 102,400 bytes a stripe
+    /// let space = shape.space(&[102_401, 0, 1], 61_440)?;
+    /// assert_eq!((space.stripes, space.bytes_per_disk, space.fits), (3, 61_440, true));
+    /// assert_eq!(shape.space(&[102_402], 61_440)?.stripes, 2);
     /// # Ok::<(), cuzhaveli::Refusal>(())
     /// ```
-    pub fn space(self, package: u64, free: u64) -> Result<Space, Refusal> {
-        let space = unsafe { ffi::cuzhaveli_package_space(self.0, package, free) };
+    pub fn space(self, lengths: &[u64], free: u64) -> Result<Space, Refusal> {
+        let space =
+            unsafe { ffi::cuzhaveli_package_space(self.0, lengths.as_ptr(), lengths.len(), free) };
         space.answer.accepted()?;
         let fits = space.fits.get();
         Ok(Space { stripes: space.stripes, bytes_per_disk: space.bytes, fits })

@@ -184,8 +184,12 @@ fn records_of_other_software_are_tested() {
 #[test]
 fn bills_and_space_are_refused_by_number() {
     let shape = Shape::new(31, 31, 4_096).unwrap();
-    assert_eq!(number(shape.space((1 << 48) + 1, 0)), 11);
-    assert_eq!(number(shape.space(u64::MAX, 0)), 11);
+    assert_eq!(number(shape.space(&[(1 << 48) + 1], 0)), 11);
+    assert_eq!(number(shape.space(&[u64::MAX; 4_096], 0)), 11);
+    assert_eq!(number(shape.space(&[1 << 63, 1 << 63], 0)), 11);
+    assert_eq!(number(shape.space(&[u64::MAX; 4_097], 0)), 14);
+    assert_eq!(shape.space(&[], 0).unwrap().stripes, 0);
+    assert_eq!(shape.space(&[1; 4_096], u64::MAX).unwrap().stripes, 4_096);
     assert_eq!(number(bill(u64::MAX, [1_001, 0, 0])), 16);
     assert_eq!(number(bill((1 << 54) + 1, [1_000, 0, 0])), 17);
     let run = shape.resume_run(0, u32::MAX, u32::MAX, 0).unwrap();

@@ -45,9 +45,16 @@ pub unsafe extern "C" fn second_judge_plan(
     judge::model::judge_plan(width, disks, lost, from_raw_parts(plan, plan_len))
 }
 
+/// # Safety
+/// `lengths` is lent: see above, but a length counts numbers.
 #[no_mangle]
-pub extern "C" fn second_package_space(shape: Shape, bytes: u64, free: u64) -> Space {
-    space::model::package_space(shape, bytes, free)
+pub unsafe extern "C" fn second_package_space(
+    shape: Shape,
+    lengths: *const u64,
+    lengths_len: usize,
+    free: u64,
+) -> Space {
+    space::model::package_space(shape, from_raw_parts(lengths, lengths_len), free)
 }
 
 /// # Safety
