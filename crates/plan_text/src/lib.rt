@@ -2,8 +2,8 @@
 ghost use mathlib.Core.Path.{_≡_};
 ghost use mathlib.Core.Bool.{true};
 ghost use mathlib.Core.List.{[]};
-ghost use Prim.Native.Nat.{_+_, _-_, _*_, _≤_, _<_};
-ghost use lib.ListN.{length, getD, drop, replicate};
+ghost use Prim.Native.Nat.{_+_, _*_, _≤_, _<_};
+ghost use lib.ListN.{length, drop, replicate};
 ghost use Rattle.liberation.specs.Sets.{isWidth};
 ghost use Rattle.liberation.specs.Plans.{step, planOf, marksFrom};
 ghost use Rattle.planner.specs.Records.{Holds};
@@ -56,31 +56,17 @@ fn put_input(out: &mut [u8], at: usize, first: usize, second: usize) -> usize
     text::put_field(out, comma, second, 10)
 }
 
-// The byte at a place, 0 past the end.
-fn byte_at(text: &[u8], at: usize) -> u8
-    ensures { λ r. ⌜ r ≡ getD (now (text .entry)) at 0 ⌝ }
-{
-    if at < text.len() { text[at] } else { 0 }
-}
-
-// The value of a digit, 0 for a byte below the digits.
-fn digit(byte: u8) -> usize
-    ensures { λ r. ⌜ r ≡ byte - 48 ⌝ }
-{
-    if byte < 48 { 0 } else { (byte - 48) as usize }
-}
-
 // The number from a place on, of one digit if the byte `stop` follows it, else of two.
 fn value(text: &[u8], at: usize, stop: u8) -> usize
     requires { ⌜ at < 100 ⌝ }
     ensures { λ r. ⌜ r ≡ valueTo stop (drop at (now (text .entry))) ⌝ }
 {
-    let first = digit(byte_at(text, at));
-    let next = byte_at(text, at + 1);
+    let first = text::digit(text::byte_at(text, at));
+    let next = text::byte_at(text, at + 1);
     if next == stop {
         first
     } else {
-        10 * first + digit(next)
+        10 * first + text::digit(next)
     }
 }
 
@@ -95,7 +81,7 @@ fn first_value(text: &[u8]) -> usize
 fn second_value(text: &[u8]) -> usize
     ensures { λ r. ⌜ r ≡ secondValue (now (text .entry)) ⌝ }
 {
-    if byte_at(text, 8) == 44 {
+    if text::byte_at(text, 8) == 44 {
         value(text, 9, 10)
     } else {
         value(text, 10, 10)

@@ -1,8 +1,9 @@
-// Text written into a lent slice piece by piece: fixed words, numbers in decimal, the fields of a plan's step.
-// Each function puts one piece at a place, leaves all other bytes as they are, and says where the piece ends.
+// Text in a lent slice. The writers put a piece at a place, a fixed word, a number in decimal or the fields of a plan's step, leave all other bytes as they are, and say where the piece ends.
+// The readers look at one byte.
+ghost use mathlib.Core.Path.{_≡_};
 ghost use mathlib.Core.List.{[], _∷_, _++_};
-ghost use Prim.Native.Nat.{_+_, _≤_, _<_};
-ghost use lib.ListN.{length};
+ghost use Prim.Native.Nat.{_+_, _-_, _≤_, _<_};
+ghost use lib.ListN.{length, getD};
 ghost use Rattle.text.specs.Writing.{Wrote};
 ghost use Rattle.text.specs.Fields.{digitsOf, letterOf, stepFields};
 
@@ -76,4 +77,18 @@ pub fn put_step(
     let second = put_field(out, at, row, 44);
     let third = put_kind(out, second, kind);
     put_field(out, third, number, stop)
+}
+
+// The byte at a place, 0 past the end.
+pub fn byte_at(text: &[u8], at: usize) -> u8
+    ensures { λ r. ⌜ r ≡ getD (now (text .entry)) at 0 ⌝ }
+{
+    if at < text.len() { text[at] } else { 0 }
+}
+
+// The value of a digit, 0 for a byte below the digits.
+pub fn digit(byte: u8) -> usize
+    ensures { λ r. ⌜ r ≡ byte - 48 ⌝ }
+{
+    if byte < 48 { 0 } else { (byte - 48) as usize }
 }
