@@ -1,0 +1,3 @@
+-- Laws of reading a text.
+pub mod TestLaws
+pub mod LineLaws

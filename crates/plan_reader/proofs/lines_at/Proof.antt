@@ -1,0 +1,126 @@
+-- `lines_at`: each turn reads a line and puts its step into the plan. The invariant: the lines so far are lines, their steps are the plan's bytes, and the next line begins behind them.
+use Prim.Native.Nat.{_-_}
+use native.Mathlib.Omega.{arith}
+use mathlib.Core.Path.{_≡_, refl}
+use mathlib.Core.Bool.{true}
+use borrow.Author.Tests.{not-true, not-false}
+use borrow.Author.Needs.{needs}
+use Rattle.liberation.specs.Plans.{step}
+use Rattle.liberation_texts.proofs.StepwiseLaws.{SmallStep}
+use Rattle.plan_reader.proofs.LineLaws.{small-at, Halfway, halfway-start, halfway-place, halfway-turn, halfway-bad, halfway-more, halfway-end}
+use Rattle.plan_reader.proofs.lines_at.Statement.{statement}
+use Rattle.plan_reader.proofs.lines_at.Tie as tie
+
+abbrev Inv-loop : tie.InvT-loop
+Inv-loop width text at plan₀ next₀ i₀ plan next i = Halfway width text at plan next i
+
+abbrev μ-loop : tie.MeasureT-loop
+μ-loop width text at plan₀ next₀ i₀ plan next i = width - i
+
+-- the line of this turn is one
+good : (c : tie.Else1 Inv-loop μ-loop) → c .before .before .line-at .result .ok ≡ true
+good c = not-false (c .before .before .line-at .result .ok) (c .if1 .left)
+
+-- its numbers are bytes
+small : (c : tie.Else1 Inv-loop μ-loop) → let r = c .before .before .line-at .result in SmallStep (step (r .row) (r .kind) (r .number))
+small c = small-at (c .before .before .line-at .ensures) (good c)
+
+loop-holds : tie.Need-loop-holds Inv-loop μ-loop
+loop-holds c = let a = c .before .args in halfway-start (a .width) (a .text .now) (a .at)
+
+line-at-requires : tie.Need-line-at-requires Inv-loop μ-loop
+line-at-requires c κs = omega (arith, halfway-place (c .before .loop .inv))
+
+unread-requires : tie.Need-unread-requires Inv-loop μ-loop
+unread-requires c κs = search needs
+
+returns : tie.Need-returns Inv-loop μ-loop
+returns c =
+    let n = c .before .before .before in
+    let l = n .before in
+    halfway-bad (l .before .loop .inv) (l .loop-test .taken) (n .line-at .ensures) (not-true (n .line-at .result .ok) (c .before .if1 .taken)) (c .unread .ensures .0) (c .unread .ensures .1)
+
+cast-plan : tie.Need-cast-plan Inv-loop μ-loop
+cast-plan c = omega (arith, small (c .before) .row)
+
+mul-plan : tie.Need-mul-plan Inv-loop μ-loop
+mul-plan c = search needs
+
+array-write-plan : tie.Need-array-write-plan Inv-loop μ-loop
+array-write-plan c = search needs
+
+cast-plan-2 : tie.Need-cast-plan-2 Inv-loop μ-loop
+cast-plan-2 c = omega (arith, small (c .before .before) .kind)
+
+mul-plan-2 : tie.Need-mul-plan-2 Inv-loop μ-loop
+mul-plan-2 c = search needs
+
+add-plan : tie.Need-add-plan Inv-loop μ-loop
+add-plan c = search needs
+
+array-write-plan-2 : tie.Need-array-write-plan-2 Inv-loop μ-loop
+array-write-plan-2 c = search needs
+
+cast-plan-3 : tie.Need-cast-plan-3 Inv-loop μ-loop
+cast-plan-3 c = omega (arith, small (c .before .before .before) .number)
+
+mul-plan-3 : tie.Need-mul-plan-3 Inv-loop μ-loop
+mul-plan-3 c = search needs
+
+add-plan-2 : tie.Need-add-plan-2 Inv-loop μ-loop
+add-plan-2 c = search needs
+
+array-write-plan-3 : tie.Need-array-write-plan-3 Inv-loop μ-loop
+array-write-plan-3 c = search needs
+
+add-i : tie.Need-add-i Inv-loop μ-loop
+add-i c = search needs
+
+loop-less : tie.Need-loop-less Inv-loop μ-loop
+loop-less c = search needs
+
+loop-again : tie.Need-loop-again Inv-loop μ-loop
+loop-again c =
+    let e = c .before .before .before in
+    let n = e .before .before in
+    let l = n .before in
+    halfway-turn (l .before .loop .inv) (l .loop-test .taken) (omega arith) (n .line-at .ensures) (good e)
+
+unread-requires-2 : tie.Need-unread-requires-2 Inv-loop μ-loop
+unread-requires-2 c κs = search needs
+
+returns-2 : tie.Need-returns-2 Inv-loop μ-loop
+returns-2 c =
+    let l = c .before .before in
+    halfway-more (l .before .loop .inv) (l .loop-test .left) (c .before .if2 .taken) (c .unread2 .ensures .0) (c .unread2 .ensures .1)
+
+returns-3 : tie.Need-returns-3 Inv-loop μ-loop
+returns-3 c = let l = c .before in halfway-end (l .before .loop .inv) (l .loop-test .left) (c .if2 .left) refl refl
+
+pub lines-at-spec : {M : Type 1} → statement M
+lines-at-spec =
+    tie.close
+    (tie.spec
+    Inv-loop
+    μ-loop
+    loop-holds
+    line-at-requires
+    unread-requires
+    returns
+    cast-plan
+    mul-plan
+    array-write-plan
+    cast-plan-2
+    mul-plan-2
+    add-plan
+    array-write-plan-2
+    cast-plan-3
+    mul-plan-3
+    add-plan-2
+    array-write-plan-3
+    add-i
+    loop-less
+    loop-again
+    unread-requires-2
+    returns-2
+    returns-3)

@@ -1,0 +1,2 @@
+-- What reading a text promises.
+pub mod Says
