@@ -64,7 +64,7 @@ pub record BytesOf (bs : List ℕ) (i : ℕ) (s : Step) : Type 0 where
   pub kind : s .kind ≡ getD bs (3 * i + 1) 0
   pub number : s .number ≡ getD bs (3 * i + 2) 0
 
-steps-next : (p i : ℕ) (s : Step) (bs : List ℕ) → i < p → BytesOf bs i s → stepsFrom p i bs ≡ s ∷ stepsFrom p (i + 1) bs
+pub steps-next : (p i : ℕ) (s : Step) (bs : List ℕ) → i < p → BytesOf bs i s → stepsFrom p i bs ≡ s ∷ stepsFrom p (i + 1) bs
 unfolding stepsIn
 steps-next p i s bs h b = ap (λ (n : ℕ). stepsIn n (drop (3 * i) bs)) more ∙ ap₂ (λ (t : Step) (l : List ℕ). t ∷ stepsIn (p - (i + 1)) l) (sym here) rest
   where

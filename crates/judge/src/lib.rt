@@ -22,7 +22,7 @@ pub struct Judged {
 }
 
 // A byte of a plan as a number to count with.
-fn wide(byte: u8) -> usize
+pub fn wide(byte: u8) -> usize
     ensures { λ r. ⌜ r ≡ byte ⌝ }
 {
     byte as usize

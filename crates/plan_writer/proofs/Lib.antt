@@ -1,0 +1,2 @@
+-- Laws of the plain form, line by line.
+pub mod PlainLoop
