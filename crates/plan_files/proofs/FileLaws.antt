@@ -1,0 +1,130 @@
+-- What the calls answer, refusal by refusal: those before any step, then the judge's, and the plain form of an accepted plan.
+use mathlib.Core.Path.{_≡_, sym, ap, ap₂, _∙_}
+use mathlib.Core.Bool.{Bool, true, false, not}
+use mathlib.Core.List.{List, _++_}
+use Prim.Native.Nat.{ℕ, _+_, _*_, _-_, _≤_}
+use native.Mathlib.Omega.{arith}
+use lib.Dec.{eqb}
+use lib.ListN.{length, take, drop, replicate}
+use lib.Seq.{take-at}
+use borrow.Author.Tests.{eq-eqb}
+use Rattle.laws.specs.Choice.{pick, when, firstOf}
+use Rattle.laws.proofs.Flags.{and-i}
+use Rattle.laws.proofs.ChoiceLaws.{first-kept, first-next, pick-refused, pick-done}
+use Rattle.liberation.specs.Sets.{planFault, longFault}
+use Rattle.liberation.specs.Plans.{Step, readCount}
+use Rattle.liberation.specs.Judging.{judge, stepsIn, accepted}
+use Rattle.liberation.proofs.Widths.{width-most}
+use Rattle.liberation.proofs.FaultLaws.{plan-of, long-accepted}
+use Rattle.refusals.specs.Answers.{Answers}
+use Rattle.judge.specs.declared.Judged.{Judged}
+use Rattle.judge.specs.Says.{formFault, JudgeSays}
+use Rattle.judge.proofs.AcceptLaws.{steps-long}
+use Rattle.text.specs.Writing.{Wrote}
+use Rattle.liberation_texts.specs.Reading.{stepsRead, stepBytes}
+use Rattle.liberation_texts.specs.Plain.{plain, writable}
+use Rattle.liberation_texts.proofs.StepwiseLaws.{steps-count, bytes-length, bytes-steps}
+use Rattle.liberation_texts.proofs.TextTheorems.{accepted-writable}
+use Rattle.plan_reader.specs.declared.Parsed.{Parsed}
+use Rattle.plan_reader.specs.Says.{planBytes, ParseSays}
+use Rattle.plan_files.specs.declared.Written.{Written}
+use Rattle.plan_files.specs.Says.{textFault, allFaults, Judges, Writes, Refuses}
+
+-- Texts: refused by 22, or read.
+pub not-read : (p : ℕ) (t : List ℕ) (r : Parsed) → ParseSays p t r → r .ok ≡ false → textFault p t ≡ 22
+not-read p t r k o = ap (λ (x : Bool). when (not x) 22) (sym (k .ok) ∙ o)
+
+pub is-read : (p : ℕ) (t : List ℕ) (r : Parsed) → ParseSays p t r → r .ok ≡ true → textFault p t ≡ 0
+is-read p t r k o = ap (λ (x : Bool). when (not x) 22) (sym (k .ok) ∙ o)
+
+-- the first 3 × p bytes of what was read are the steps
+pub read-steps : (p : ℕ) (t : List ℕ) (r : Parsed) → ParseSays p t r → r .ok ≡ true → stepsIn p (take (3 * p) (r .plan)) ≡ stepsRead p t
+unfolding planBytes
+read-steps p t r k o =
+    ap (λ (x : List ℕ). stepsIn p (take (3 * p) x)) (k .plan ∙ ap (λ (x : Bool). pick x (planBytes ss) (replicate 93 0)) (sym (k .ok) ∙ o))
+    ∙ ap (stepsIn p) (take-at (stepBytes ss) (replicate (93 - length (stepBytes ss)) 0) (3 * p) (omega (arith, bytes-length ss, steps-count p t)))
+    ∙ ap (λ (n : ℕ). stepsIn n (stepBytes ss)) (sym (steps-count p t))
+    ∙ bytes-steps ss
+  where
+    ss : List Step
+    ss = stepsRead p t
+
+-- a plan that the numbers allow has at most 31 steps
+pub plan-small : (p k f : ℕ) → planFault p k f ≡ 0 → p ≤ 31
+plan-small p k f z = width-most p (plan-of p k f z .0)
+
+-- The judge: refused before any step by n.
+module _ (n p k f : ℕ) (ss : List Step) where
+  pub judges-refused : (m : ℕ) (r : Judged) → m ≡ n → (m ≡ 0 → ⊥) → Answers m (r .answer) → r .reads ≡ 0 → Judges n p k f ss r
+  judges-refused m r e z a d =
+      let fault : m ≡ allFaults n p k f ss = first-kept m n (judge p k f ss .number) e z in
+      record {
+        refusal = a .refusal ∙ fault;
+        place = a .place ∙ pick-refused m n (judge p k f ss .place) 0 e z;
+        reads = d ∙ pick-refused m (allFaults n p k f ss) (readCount p k f ss) 0 fault z;
+      }
+
+  -- nothing is refused before the steps, whose bytes go to the judge
+  pub judges-steps : (bs : List ℕ) (r : Judged) → n ≡ 0 → planFault p k f ≡ 0 → length bs ≡ 3 * p → stepsIn p bs ≡ ss → JudgeSays p k f bs r → Judges n p k f ss r
+  judges-steps bs r z q l e j =
+      let form : formFault p k f bs ≡ 0 = sym (first-next 0 (planFault p k f) (longFault (3 * p) bs) q (sym (long-accepted (3 * p) bs l))) in
+      let same : formFault p k f bs ≡ n = form ∙ sym z in
+      record {
+        refusal = j .refusal ∙ ap₂ (λ (m : ℕ) (x : List Step). firstOf m (judge p k f x .number)) same e;
+        place = j .place ∙ ap₂ (λ (m : ℕ) (x : List Step). pick (eqb m 0) (judge p k f x .place) 0) same e;
+        reads = j .reads ∙ ap₂ (λ (m : ℕ) (x : List Step). pick (eqb (firstOf m (judge p k f x .number)) 0) (readCount p k f x) 0) same e;
+      }
+
+  -- The writers: refused by n, and nothing written.
+  pub writes-refused : (m : ℕ) (o : List ℕ) (r : Written) → m ≡ n → (m ≡ 0 → ⊥) → Refuses m r → Writes n p k f ss o o r
+  writes-refused m o r e z a =
+      let fault : m ≡ allFaults n p k f ss = first-kept m n (judge p k f ss .number) e z in
+      record {
+        refusal = a .answer .refusal ∙ fault;
+        place = a .answer .place ∙ pick-refused m n (judge p k f ss .place) 0 e z;
+        size = a .size ∙ pick-refused m (allFaults n p k f ss) (length (plain ss)) 0 fault z;
+        bytes = pick-refused m (allFaults n p k f ss) (plain ss ++ drop (length (plain ss)) o) o fault z;
+      }
+
+  -- the same steps, nothing being refused before them
+  pub writes-steps : (rs : List Step) (o o′ : List ℕ) (r : Written) → n ≡ 0 → rs ≡ ss → Writes 0 p k f rs o o′ r → Writes n p k f ss o o′ r
+  writes-steps rs o o′ r z e w =
+      record {
+        refusal = w .refusal ∙ ap₂ (λ (m : ℕ) (x : List Step). firstOf m (judge p k f x .number)) (sym z) e;
+        place = w .place ∙ ap₂ (λ (m : ℕ) (x : List Step). pick (eqb m 0) (judge p k f x .place) 0) (sym z) e;
+        size = w .size ∙ ap₂ (λ (m : ℕ) (x : List Step). pick (eqb (firstOf m (judge p k f x .number)) 0) (length (plain x)) 0) (sym z) e;
+        bytes = w .bytes ∙ ap₂ (λ (m : ℕ) (x : List Step). pick (eqb (firstOf m (judge p k f x .number)) 0) (plain x ++ drop (length (plain x)) o) o) (sym z) e;
+      }
+
+-- The judge's answer handed on: the steps are refused, or accepted and then written.
+module _ (p k f : ℕ) (bs : List ℕ) (j : Judged) (g : Judges 0 p k f (stepsIn p bs) j) where
+  pub steps-refused : (o : List ℕ) (r : Written) → (j .answer .refusal ≡ 0 → ⊥) → r .answer ≡ j .answer → r .length ≡ 0 → Writes 0 p k f (stepsIn p bs) o o r
+  steps-refused o r z a l =
+      let ss = stepsIn p bs in
+      let m = j .answer .refusal in
+      record {
+        refusal = ap (λ x. x .refusal) a ∙ g .refusal;
+        place = ap (λ x. x .place) a ∙ g .place;
+        size = l ∙ pick-refused m (judge p k f ss .number) (length (plain ss)) 0 (g .refusal) z;
+        bytes = pick-refused m (judge p k f ss .number) (plain ss ++ drop (length (plain ss)) o) o (g .refusal) z;
+      }
+
+  pub steps-accepted : j .answer .refusal ≡ 0 → accepted p k f (stepsIn p bs) ≡ true
+  unfolding accepted
+  steps-accepted z = and-i _ _ (eq-eqb (length (stepsIn p bs)) p (steps-long p bs)) (eq-eqb (judge p k f (stepsIn p bs) .number) 0 (sym (g .refusal) ∙ z))
+
+  pub steps-written : (o o′ : List ℕ) (n : ℕ) (r : Written) → j .answer .refusal ≡ 0 → r .answer ≡ j .answer → r .length ≡ n → Wrote o o′ 0 n (plain (stepsIn p bs)) → Writes 0 p k f (stepsIn p bs) o o′ r
+  steps-written o o′ n r z a l w =
+      let ss = stepsIn p bs in
+      let q : judge p k f ss .number ≡ 0 = sym (g .refusal) ∙ z in
+      let e : n ≡ length (plain ss) = omega (arith, w .ends) in
+      record {
+        refusal = ap (λ x. x .refusal) a ∙ g .refusal;
+        place = ap (λ x. x .place) a ∙ g .place;
+        size = l ∙ e ∙ pick-done (judge p k f ss .number) (length (plain ss)) 0 q;
+        bytes = w .bytes ∙ ap (λ (m : ℕ). plain ss ++ drop m o) e ∙ pick-done (judge p k f ss .number) (plain ss ++ drop (length (plain ss)) o) o q;
+      }
+
+-- what is asked of a plan before it is written
+pub writable-steps : (p k f : ℕ) (ss : List Step) → planFault p k f ≡ 0 → accepted p k f ss ≡ true → writable ss ≡ true
+writable-steps p k f ss z h = accepted-writable p k f ss (plan-of p k f z .0) h

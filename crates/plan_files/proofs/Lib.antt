@@ -1,0 +1,2 @@
+-- Laws of the calls on plans as text.
+pub mod FileLaws

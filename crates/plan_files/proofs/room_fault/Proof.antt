@@ -1,0 +1,24 @@
+-- `room_fault`: refusals 1, 13 and 3, then 5.
+use mathlib.Core.Path.{sym, _∙_}
+use mathlib.Core.Bool.{not}
+use lib.Dec.{eqb}
+use Rattle.laws.specs.Choice.{when}
+use Rattle.laws.proofs.ChoiceLaws.{first-kept, first-next}
+use borrow.Author.Needs.{needs}
+use Rattle.plan_files.proofs.room_fault.Statement.{statement}
+use Rattle.plan_files.proofs.room_fault.Tie as tie
+
+plan-fault-requires : tie.Need-plan-fault-requires
+plan-fault-requires c κs = search needs
+
+returns : tie.Need-returns
+returns c = let q = c .before in first-kept _ _ (when (not (eqb (q .before .args .room) 263)) 5) (q .plan-fault .ensures) (c .if1 .taken)
+
+length-fault-requires : tie.Need-length-fault-requires
+length-fault-requires c κs = search needs
+
+returns-2 : tie.Need-returns-2
+returns-2 c = let q = c .before .before in first-next _ _ (when (not (eqb (q .before .args .room) 263)) 5) (sym (q .plan-fault .ensures) ∙ c .before .if1 .left) (c .length-fault .ensures)
+
+pub room-fault-spec : {M : Type 1} → statement M
+room-fault-spec = tie.close (tie.spec plan-fault-requires returns length-fault-requires returns-2)

@@ -1,0 +1,2 @@
+-- What the calls on plans as text promise.
+pub mod Says
