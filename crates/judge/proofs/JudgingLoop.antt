@@ -1,6 +1,6 @@
 -- The steps of a plan in order. After i steps without a refusal, the rows rebuilt and the cells read so far, with the steps still to come, give the answer of the whole plan.
 use mathlib.Core.Path.{_≡_, refl, sym, ap, ap₂, _∙_}
-use mathlib.Core.Bool.{Bool, true, false, _||_}
+use mathlib.Core.Bool.{Bool, true, false, _||_, not}
 use mathlib.Core.Logic.{⊎-elim}
 use mathlib.Core.List.{List, [], _∷_}
 use Prim.Native.Nat.{ℕ, suc, _+_, _-_, _*_, _≤_, _<_}
@@ -9,13 +9,13 @@ use native.Mathlib.Omega.{arith}
 use lib.Dec.{eqb, leb, ltb}
 use lib.ListN.{length, getD, set, drop}
 use lib.Seq.{getD-drop, drop-drop}
-use borrow.Author.Tests.{eq-eqb, ne-eqb, leb-false}
-use Rattle.laws.specs.Choice.{pick}
-use Rattle.laws.specs.Lists.{added, allBelow}
+use borrow.Author.Tests.{eq-eqb, ne-eqb, eqb-true, eqb-false, leb-false}
+use Rattle.laws.specs.Choice.{pick, when, firstOf}
+use Rattle.laws.specs.Lists.{isIn, added, allBelow}
 use Rattle.laws.proofs.Flags.{flag, or-false-l, or-false-r}
-use Rattle.liberation.specs.Sets.{diskAt, setOf, survivingIn}
+use Rattle.liberation.specs.Sets.{diskAt, setOf, lostIn, survivingIn}
 use Rattle.liberation.specs.Plans.{Step, step, readFrom, cellsRead, readCount, marksFrom}
-use Rattle.liberation.specs.Judging.{Judged, judged, judge, judgeFrom, stepFault, stepsIn}
+use Rattle.liberation.specs.Judging.{Judged, judged, judge, judgeFrom, othersThere, stepFault, stepsIn}
 use Rattle.liberation.proofs.SetLaws.{survivors-below}
 use Rattle.sets.specs.Marks.{Marked, markAll, freshIn}
 use Rattle.sets.proofs.MarkLaws.{marks-added, fresh-added, fresh-le}
@@ -53,6 +53,29 @@ judge-next i p k f ds s ss e = rw (eq-eqb (stepFault p k f ds s) 0 e, judgeFrom)
 judge-stop : (i p k f : ℕ) (ds : List ℕ) (s : Step) (ss : List Step) → (stepFault p k f ds s ≡ 0 → ⊥) → judgeFrom i p k f ds (s ∷ ss) ≡ judged (stepFault p k f ds s) i
 unfolding judgeFrom
 judge-stop i p k f ds s ss n = rw (ne-eqb (stepFault p k f ds s) 0 n, judgeFrom)
+
+-- the judge's refusals are 6 to 9
+step-most : (p k f : ℕ) (ds : List ℕ) (s : Step) → stepFault p k f ds s ≤ 9
+unfolding stepFault
+step-most p k f ds s =
+    let xs = lostIn p f (setOf p k (s .kind) (s .number)) in
+    go (outOfForm p s) (not (isIn (s .row) xs)) (isIn (s .row) ds) (not (othersThere (s .row) xs ds))
+  where
+    go : (a b c d : Bool) → firstOf (when a 6) (firstOf (when b 7) (firstOf (when c 8) (when d 9))) ≤ 9
+    go true b c d = omega arith
+    go false true c d = omega arith
+    go false false true d = omega arith
+    go false false false true = omega arith
+    go false false false false = omega arith
+
+pub judge-most : (i p k f : ℕ) (ds : List ℕ) (ss : List Step) → judgeFrom i p k f ds ss .number ≤ 9
+unfolding judgeFrom
+judge-most i p k f ds [] = omega arith
+judge-most i p k f ds (s ∷ ss) =
+    ⊎-elim
+    (λ t. omega (arith, ap (λ (x : Judged). x .number) (judge-next i p k f ds s ss (eqb-true (stepFault p k f ds s) 0 t)), judge-most (suc i) p k f (s .row ∷ ds) ss))
+    (λ t. omega (arith, ap (λ (x : Judged). x .number) (judge-stop i p k f ds s ss (eqb-false (stepFault p k f ds s) 0 t)), step-most p k f ds s))
+    (flag (eqb (stepFault p k f ds s) 0))
 
 -- the steps from step i on
 abbrev pub stepsFrom : ℕ → ℕ → List ℕ → List Step
