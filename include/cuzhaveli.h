@@ -41,6 +41,7 @@ extern "C" {
 #define CUZHAVELI_MAX_CELL_SIZE 4096
 #define CUZHAVELI_MAX_STRIPES 4294967295u /* of one run; cuzhaveli_package_space can give more */
 #define CUZHAVELI_MAX_FILES 4096          /* of a package */
+#define CUZHAVELI_TEXT_BYTES 263          /* room for a plan that is written as text */
 
 /* Sizes in bytes, for a shape within the limits. */
 #define CUZHAVELI_COLUMN_BYTES(shape) ((shape).width * (shape).cell_size)           /* a disk's part of a stripe */
@@ -71,7 +72,8 @@ enum cuzhaveli_refusal {
     CUZHAVELI_NO_SUCH_ROW = 15,       /* a row number of p or more */
     CUZHAVELI_BAD_RATE = 16,          /* a rate of more than 1000 cents a GiB */
     CUZHAVELI_TOO_MANY_BYTES = 17,    /* a bill of more than 2^54 bytes */
-    CUZHAVELI_SURVIVORS_DISAGREE = 19 /* the surviving disks are those of no clean stripe; tested last */
+    CUZHAVELI_SURVIVORS_DISAGREE = 19, /* the surviving disks are those of no clean stripe; tested last */
+    CUZHAVELI_BAD_PLAN_TEXT = 22      /* a text that is not of a plan's form, or not of p lines; tested after 5 */
 };
 
 /* p, k and s. */
@@ -107,6 +109,12 @@ struct cuzhaveli_plan {
 struct cuzhaveli_judged {
     struct cuzhaveli_answer answer;
     uint32_t reads;
+};
+
+/* How many bytes of text were written. */
+struct cuzhaveli_written {
+    struct cuzhaveli_answer answer;
+    size_t length;
 };
 
 struct cuzhaveli_checked {
@@ -200,6 +208,28 @@ struct cuzhaveli_answer cuzhaveli_read_list(size_t width, size_t disks, size_t l
  * `place` is the step. Refuses 1, 13, 3, 5, 6, 7, 8, 9. */
 struct cuzhaveli_judged cuzhaveli_judge_plan(size_t width, size_t disks, size_t lost, const uint8_t *plan,
                                              size_t plan_len);
+
+/* A plan as text, as hosts keep it in files: the line `row,set,number`, then `width` lines, one for each step in order,
+ * such as `3,D,2`: the row; R for a row set or D for a diagonal set, or r, d; the set's number. Numbers have one to
+ * three digits, leading zeros allowed, and are at most 255. Each line ends in LF or CR LF, the last one too, and
+ * nothing else stands in the text, neither spaces nor empty lines. A text has `text_len` bytes and need not end in a 0;
+ * `text` may be NULL if it has none. The plain form of a plan is the text with LF, capitals, and no leading zero. */
+
+/* Judges a plan that is a text: the answer is that of cuzhaveli_judge_plan for its steps. Refuses 1, 13, 3, 22, 6, 7,
+ * 8, 9. */
+struct cuzhaveli_judged cuzhaveli_judge_text(size_t width, size_t disks, size_t lost, const uint8_t *text,
+                                             size_t text_len);
+
+/* Writes a plan of CUZHAVELI_PLAN_BYTES(width) bytes, if the judge accepts it, in its plain form: out[0 .. length),
+ * with no 0 after it; the bytes after it stand. `out_len` is CUZHAVELI_TEXT_BYTES, which is enough for every accepted
+ * plan. Refuses 1, 13, 3, 5, 6, 7, 8, 9. */
+struct cuzhaveli_written cuzhaveli_write_plan(size_t width, size_t disks, size_t lost, const uint8_t *plan,
+                                              size_t plan_len, uint8_t *out, size_t out_len);
+
+/* The same for a plan that is a text. Two texts of accepted plans give the same bytes exactly if they name the same
+ * steps in the same order, and a plain text gives itself. Refuses 1, 13, 3, 5, 22, 6, 7, 8, 9. */
+struct cuzhaveli_written cuzhaveli_plain_text(size_t width, size_t disks, size_t lost, const uint8_t *text,
+                                              size_t text_len, uint8_t *out, size_t out_len);
 
 /* The space that a package of files takes, each on stripes of its own. File i has lengths[i] bytes, and its stripes
  * are lengths[i] / CUZHAVELI_DATA_BYTES(shape), rounded up, none for an empty file. The package takes the sum of

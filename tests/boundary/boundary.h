@@ -10,6 +10,9 @@
 extern __typeof__(cuzhaveli_plan_disk) second_plan_disk;
 extern __typeof__(cuzhaveli_read_list) second_read_list;
 extern __typeof__(cuzhaveli_judge_plan) second_judge_plan;
+extern __typeof__(cuzhaveli_judge_text) second_judge_text;
+extern __typeof__(cuzhaveli_write_plan) second_write_plan;
+extern __typeof__(cuzhaveli_plain_text) second_plain_text;
 extern __typeof__(cuzhaveli_package_space) second_package_space;
 extern __typeof__(cuzhaveli_encode_stripe) second_encode_stripe;
 extern __typeof__(cuzhaveli_check_stripe) second_check_stripe;
@@ -53,13 +56,14 @@ struct lent {
 };
 struct lent new_lent(void);
 void lend(struct lent *lent, struct random *r, size_t right, bool at_end);
-void lend_bytes(struct lent *lent, struct random *r, size_t length, bool at_end);
+void lend_random(struct lent *lent, struct random *r, size_t length, bool at_end);
 void lend_null(struct lent *lent, size_t length);
+void lend_bytes(struct lent *lent, const uint8_t *bytes, size_t length, bool at_end);
 void set_content(struct lent *lent);
 bool lent_agrees(const struct lent *lent);
 
 /* calls.c: one random call each; false if the library and the second implementation differ. */
-#define CALLS 19
+#define CALLS 22
 struct caller {
     struct random random;
     struct lent first, second;

@@ -6,8 +6,8 @@
 #include <string.h>
 
 enum {
-    PLAN, LIST, JUDGE, SPACE, ENCODE, CHECK, SCRUB, ONE, TESTED, TWO, UPDATE, OPEN, STEP, SKIP, PROGRESS, FULL, DISKS,
-    BYTES, BILL
+    PLAN, LIST, JUDGE, TEXT, WRITE, PLAIN, SPACE, ENCODE, CHECK, SCRUB, ONE, TESTED, TWO, UPDATE, OPEN, STEP, SKIP,
+    PROGRESS, FULL, DISKS, BYTES, BILL
 };
 
 #define SAY(caller, ...) snprintf((caller)->what, sizeof (caller)->what, __VA_ARGS__)
@@ -159,13 +159,110 @@ static size_t lend_lengths(struct caller *c)
         lend_null(&c->first, files);
         return files;
     }
-    lend_bytes(&c->first, r, files * sizeof(uint64_t), c->at_end);
+    lend_random(&c->first, r, files * sizeof(uint64_t), c->at_end);
     uint64_t *lengths = (uint64_t *)(void *)c->first.same;
     unsigned most = (unsigned)(16 + below(r, 40));
     for (size_t i = 0; i < files; i++)
         lengths[i] = once_in(r, 400) ? any_number(r) : once_in(r, 6) ? 0 : lengths[i] >> (most + below(r, 64 - most));
     set_content(&c->first);
     return files;
+}
+
+#define TEXT_MOST (16 + 31 * 11 + 8)
+
+static size_t put_number(struct random *r, uint8_t *text, unsigned number)
+{
+    static const char *const FORMS[] = {"%u", "%02u", "%03u"};
+    return (size_t)sprintf((char *)text, FORMS[below(r, 3)], number);
+}
+
+static size_t put_end(struct random *r, uint8_t *text)
+{
+    size_t cr = below(r, 2);
+    memcpy(text, "\r\n" + 1 - cr, 1 + cr);
+    return 1 + cr;
+}
+
+/* A plan's bytes as text, in one of the forms that hosts write. */
+static size_t any_text(struct random *r, const uint8_t *plan, size_t steps, uint8_t *text)
+{
+    size_t used = 14;
+    memcpy(text, "row,set,number", used);
+    used += put_end(r, text + used);
+    for (size_t n = 0; n < steps; n++) {
+        used += put_number(r, text + used, plan[3 * n]);
+        text[used++] = ',';
+        text[used++] = (uint8_t)"RDrd"[plan[3 * n + 1] % 2 + 2 * below(r, 2)];
+        text[used++] = ',';
+        used += put_number(r, text + used, plan[3 * n + 2]);
+        used += put_end(r, text + used);
+    }
+    return used;
+}
+
+/* Lends a text: a plan's, with a byte changed, put in or left out now and then, or its end cut off; or nothing. */
+static void lend_text(struct caller *c, struct array a)
+{
+    static const uint8_t LIKELY[] = "0129,RDrd\r\n x";
+    uint8_t text[TEXT_MOST];
+    struct random *r = &c->random;
+    lend_plan(c, a);
+    size_t steps = c->first.bytes && c->first.length <= 93 ? c->first.length / 3 : 0;
+    size_t used = once_in(r, 50) ? 0 : any_text(r, c->first.same, steps, text);
+    for (size_t changes = once_in(r, 3) ? 1 + below(r, 2) : 0; changes > 0 && used > 0; changes--) {
+        size_t place = below(r, used);
+        switch (below(r, 4)) {
+        case 0: text[place] = LIKELY[below(r, sizeof LIKELY)]; break;
+        case 1: memmove(text + place, text + place + 1, --used - place); break;
+        case 2: memmove(text + place + 1, text + place, used++ - place); break;
+        default: used = once_in(r, 2) ? place : used - 1;
+        }
+    }
+    lend_bytes(&c->first, text, used, c->at_end);
+}
+
+static bool judge_text(struct caller *c)
+{
+    struct array a = any_array(&c->random);
+    struct lent *text = &c->first;
+    lend_text(c, a);
+    const uint8_t *bytes = text->length == 0 && once_in(&c->random, 2) ? NULL : text->bytes;
+    SAY(c, "cuzhaveli_judge_text(%zu, %zu, %zu, %p, %zu)", a.width, a.disks, a.lost, (const void *)bytes, text->length);
+    struct cuzhaveli_judged got = cuzhaveli_judge_text(a.width, a.disks, a.lost, bytes, text->length);
+    struct cuzhaveli_judged wanted = second_judge_text(a.width, a.disks, a.lost, text->same, text->same_length);
+    return same(c, TEXT, got.answer, wanted.answer) && got.reads == wanted.reads && lent_agrees(text);
+}
+
+static bool write_plan(struct caller *c)
+{
+    struct array a = any_array(&c->random);
+    struct lent *plan = &c->first, *out = &c->second;
+    lend_plan(c, a);
+    lend(out, &c->random, CUZHAVELI_TEXT_BYTES, c->at_end);
+    SAY(c, "cuzhaveli_write_plan(%zu, %zu, %zu, %p, %zu, %p, %zu)", a.width, a.disks, a.lost, (void *)plan->bytes,
+        plan->length, (void *)out->bytes, out->length);
+    struct cuzhaveli_written got =
+        cuzhaveli_write_plan(a.width, a.disks, a.lost, plan->bytes, plan->length, out->bytes, out->length);
+    struct cuzhaveli_written wanted =
+        second_write_plan(a.width, a.disks, a.lost, plan->same, plan->same_length, out->same, out->same_length);
+    return same(c, WRITE, got.answer, wanted.answer) && got.length == wanted.length && lent_agrees(plan) &&
+           lent_agrees(out);
+}
+
+static bool plain_text(struct caller *c)
+{
+    struct array a = any_array(&c->random);
+    struct lent *text = &c->first, *out = &c->second;
+    lend_text(c, a);
+    lend(out, &c->random, CUZHAVELI_TEXT_BYTES, c->at_end);
+    SAY(c, "cuzhaveli_plain_text(%zu, %zu, %zu, %p, %zu, %p, %zu)", a.width, a.disks, a.lost, (void *)text->bytes,
+        text->length, (void *)out->bytes, out->length);
+    struct cuzhaveli_written got =
+        cuzhaveli_plain_text(a.width, a.disks, a.lost, text->bytes, text->length, out->bytes, out->length);
+    struct cuzhaveli_written wanted =
+        second_plain_text(a.width, a.disks, a.lost, text->same, text->same_length, out->same, out->same_length);
+    return same(c, PLAIN, got.answer, wanted.answer) && got.length == wanted.length && lent_agrees(text) &&
+           lent_agrees(out);
 }
 
 static bool package_space(struct caller *c)
@@ -435,6 +532,9 @@ const struct call CALL[CALLS] = {
     [PLAN] = {"cuzhaveli_plan_disk", plan_disk},
     [LIST] = {"cuzhaveli_read_list", read_list},
     [JUDGE] = {"cuzhaveli_judge_plan", judge_plan},
+    [TEXT] = {"cuzhaveli_judge_text", judge_text},
+    [WRITE] = {"cuzhaveli_write_plan", write_plan},
+    [PLAIN] = {"cuzhaveli_plain_text", plain_text},
     [SPACE] = {"cuzhaveli_package_space", package_space},
     [ENCODE] = {"cuzhaveli_encode_stripe", encode_stripe},
     [CHECK] = {"cuzhaveli_check_stripe", check_stripe},

@@ -40,7 +40,7 @@ void lend(struct lent *lent, struct random *r, size_t right, bool at_end)
     if (length > ROOM - GUARD || (length != right && once_in(r, 2)))
         lend_null(lent, length);
     else
-        lend_bytes(lent, r, length, at_end);
+        lend_random(lent, r, length, at_end);
 }
 
 /* Lends NULL, as memory of that length. */
@@ -52,7 +52,7 @@ void lend_null(struct lent *lent, size_t length)
 }
 
 /* Lends memory of that length and of random content. */
-void lend_bytes(struct lent *lent, struct random *r, size_t length, bool at_end)
+void lend_random(struct lent *lent, struct random *r, size_t length, bool at_end)
 {
     lent->length = length;
     lent->bytes = at_end ? lent->high - lent->length : lent->low;
@@ -60,6 +60,16 @@ void lend_bytes(struct lent *lent, struct random *r, size_t length, bool at_end)
     fill(r, lent->bytes, lent->length);
     memset(beside(lent), MARK, GUARD);
     memcpy(lent->same, lent->bytes, lent->length);
+}
+
+/* Lends memory of this content. */
+void lend_bytes(struct lent *lent, const uint8_t *bytes, size_t length, bool at_end)
+{
+    lent->length = lent->same_length = length;
+    lent->bytes = at_end ? lent->high - length : lent->low;
+    memset(beside(lent), MARK, GUARD);
+    memcpy(lent->same, bytes, length);
+    set_content(lent);
 }
 
 /* Copies the second implementation's content to the lent memory. */

@@ -14,6 +14,8 @@
 static uint8_t *painted, *stripe, *column;
 static struct cuzhaveli_shape shape;
 static size_t lost, other;
+static uint8_t plan[CUZHAVELI_PLAN_BYTES(CUZHAVELI_MAX_WIDTH)], text[CUZHAVELI_TEXT_BYTES];
+static size_t text_len;
 static ucontext_t here, there;
 static volatile uint8_t sink;
 
@@ -21,6 +23,9 @@ static void nothing(void) { }
 static void plan_disk(void) { sink = cuzhaveli_plan_disk(shape.width, shape.disks, lost).answer.refusal; }
 static void read_list(void) { sink = cuzhaveli_read_list(shape.width, shape.disks, lost, column, CUZHAVELI_LIST_BYTES(shape.width, shape.disks)).refusal; }
 static void judge_plan(void) { sink = cuzhaveli_judge_plan(shape.width, shape.disks, lost, stripe, CUZHAVELI_PLAN_BYTES(shape.width)).answer.refusal; }
+static void judge_text(void) { sink = cuzhaveli_judge_text(shape.width, shape.disks, lost, text, text_len).answer.refusal; }
+static void write_plan(void) { sink = cuzhaveli_write_plan(shape.width, shape.disks, lost, plan, CUZHAVELI_PLAN_BYTES(shape.width), column, CUZHAVELI_TEXT_BYTES).answer.refusal; }
+static void plain_text(void) { sink = cuzhaveli_plain_text(shape.width, shape.disks, lost, text, text_len, column, CUZHAVELI_TEXT_BYTES).answer.refusal; }
 static void package_space(void) { sink = cuzhaveli_package_space(shape, (const uint64_t *)(const void *)stripe, CUZHAVELI_MAX_FILES, 1 << 30).answer.refusal; }
 static void encode_stripe(void) { sink = cuzhaveli_encode_stripe(shape, stripe, CUZHAVELI_STRIPE_BYTES(shape)).refusal; }
 static void check_stripe(void) { sink = cuzhaveli_check_stripe(shape, stripe, CUZHAVELI_STRIPE_BYTES(shape)).answer.refusal; }
@@ -63,6 +68,9 @@ static struct { const char *name; void (*make)(void); size_t most; } MADE[] = {
     {"cuzhaveli_plan_disk", plan_disk, 0},
     {"cuzhaveli_read_list", read_list, 0},
     {"cuzhaveli_judge_plan", judge_plan, 0},
+    {"cuzhaveli_judge_text", judge_text, 0},
+    {"cuzhaveli_write_plan", write_plan, 0},
+    {"cuzhaveli_plain_text", plain_text, 0},
     {"cuzhaveli_package_space", package_space, 0},
     {"cuzhaveli_encode_stripe", encode_stripe, 0},
     {"cuzhaveli_check_stripe", check_stripe, 0},
@@ -101,6 +109,18 @@ static void measure(size_t before)
     }
 }
 
+/* Our plan, as bytes and as text. */
+static void set_plan(void)
+{
+    struct cuzhaveli_steps ours = cuzhaveli_plan_disk(shape.width, shape.disks, lost).steps;
+    for (size_t n = 0; n < shape.width; n++) {
+        plan[3 * n] = ours.rows[n];
+        plan[3 * n + 1] = ours.kinds[n];
+        plan[3 * n + 2] = ours.numbers[n];
+    }
+    text_len = cuzhaveli_write_plan(shape.width, shape.disks, lost, plan, CUZHAVELI_PLAN_BYTES(shape.width), text, sizeof text).length;
+}
+
 bool stack_is_small(void)
 {
     static const size_t WIDTHS[] = {3, 7, 17, 31}, SIZES[] = {1, 64, 700, 4096};
@@ -118,6 +138,7 @@ bool stack_is_small(void)
         shape = (struct cuzhaveli_shape){width, i % 5 ? width : 2, SIZES[i / 4 % 4]};
         lost = i / 16 == 0 ? 0 : i / 16 == 1 ? shape.disks - 1 : shape.disks;
         other = i / 16 == 0 ? 1 : i / 16 == 1 ? 0 : i / 16 == 2 ? shape.disks + 1 : 1;
+        set_plan();
         measure(before);
     }
     for (size_t call = 0; call < KINDS; call++) {

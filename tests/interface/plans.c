@@ -1,7 +1,23 @@
-/* Prints our plan, its read list and the judge's word on it for every array and lost disk. */
+/* Prints our plan, its read list, the judge's word on it and its text for every array and lost disk. */
 
 #include <cuzhaveli.h>
 #include <stdio.h>
+#include <string.h>
+
+/* The plan as text, if it is accepted, what the judge says of that, and whether it is its own plain form. */
+static void print_text(size_t width, size_t disks, size_t lost, const uint8_t *plan)
+{
+    uint8_t text[CUZHAVELI_TEXT_BYTES] = {0}, again[CUZHAVELI_TEXT_BYTES] = {0};
+    struct cuzhaveli_written written =
+        cuzhaveli_write_plan(width, disks, lost, plan, CUZHAVELI_PLAN_BYTES(width), text, sizeof text);
+    struct cuzhaveli_judged judged = cuzhaveli_judge_text(width, disks, lost, text, written.length);
+    struct cuzhaveli_written plain =
+        cuzhaveli_plain_text(width, disks, lost, text, written.length, again, sizeof again);
+    printf("%u %u %u reads %u: %zu bytes, %d\n%.*s", written.answer.refusal, judged.answer.refusal,
+           plain.answer.refusal, judged.reads, written.length,
+           plain.length == written.length && memcmp(text, again, plain.length) == 0, (int)written.length,
+           (const char *)text);
+}
 
 static void print_plan(size_t width, size_t disks, size_t lost)
 {
@@ -21,6 +37,7 @@ static void print_plan(size_t width, size_t disks, size_t lost)
     for (size_t n = 0; n < width; n++)
         printf(" %u,%u,%u", plan[3 * n], plan[3 * n + 1], plan[3 * n + 2]);
     putchar('\n');
+    print_text(width, disks, lost, plan);
 }
 
 int main(void)

@@ -3,6 +3,7 @@
 ghost use mathlib.Core.Path.{_≡_};
 ghost use Rattle.planner.specs.Says.{PlanSays, ListSays};
 ghost use Rattle.judge.specs.Says.{JudgeSays};
+ghost use Rattle.plan_files.specs.Says.{JudgeTextSays, WriteSays, PlainSays};
 ghost use Rattle.space.specs.Says.{SpaceSays};
 ghost use Rattle.stripes.specs.Says.{EncodeSays, CheckSays};
 ghost use Rattle.rebuild_one.specs.Says.{OneSays};
@@ -14,6 +15,7 @@ ghost use Rattle.runs.specs.Runs.{OpenSays, StepSays, SkipSays, ProgressSays, r
 ghost use Rattle.billing.specs.Bills.{BillSays, RunBillSays};
 use billing::Bill;
 use judge::Judged;
+use plan_files::Written;
 use planner::Plan;
 use refusals::Answer;
 use refusals::Shape;
@@ -58,6 +60,47 @@ pub extern "C" fn cuzhaveli_judge_plan(
     ensures { λ r. ⌜ JudgeSays width disks lost (now (plan .entry)) r ⌝ }
 {
     judge::judge_plan(width, disks, lost, plan)
+}
+
+// The judge of a plan that is a text.
+#[no_mangle]
+pub extern "C" fn cuzhaveli_judge_text(
+    width: usize,
+    disks: usize,
+    lost: usize,
+    text: &[u8],
+) -> Judged
+    ensures { λ r. ⌜ JudgeTextSays width disks lost (now (text .entry)) r ⌝ }
+{
+    plan_files::judge_text(width, disks, lost, text)
+}
+
+// Writes an accepted plan of 3 × p bytes in its plain form into a lent slice of 263 bytes.
+#[no_mangle]
+pub extern "C" fn cuzhaveli_write_plan(
+    width: usize,
+    disks: usize,
+    lost: usize,
+    plan: &[u8],
+    out: &mut [u8],
+) -> Written
+    ensures { λ r. ⌜ WriteSays width disks lost (now (plan .entry)) (now (out .entry)) (now (out .exit)) r ⌝ }
+{
+    plan_files::write_plan(width, disks, lost, plan, out)
+}
+
+// Writes the plain form of the plan that a text names into a lent slice of 263 bytes.
+#[no_mangle]
+pub extern "C" fn cuzhaveli_plain_text(
+    width: usize,
+    disks: usize,
+    lost: usize,
+    text: &[u8],
+    out: &mut [u8],
+) -> Written
+    ensures { λ r. ⌜ PlainSays width disks lost (now (text .entry)) (now (out .entry)) (now (out .exit)) r ⌝ }
+{
+    plan_files::plain_text(width, disks, lost, text, out)
 }
 
 // The space that a package of files takes.

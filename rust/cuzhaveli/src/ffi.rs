@@ -73,6 +73,12 @@ records! {
         pub reads: u32,
     }
 
+    /// How many bytes of text were written.
+    pub struct Written {
+        pub answer: Answer,
+        pub length: usize,
+    }
+
     /// Whether a stripe is clean.
     pub struct Checked {
         pub answer: Answer,
@@ -161,6 +167,34 @@ extern "C" {
         plan: *const u8,
         plan_len: usize,
     ) -> Judged;
+
+    pub fn cuzhaveli_judge_text(
+        width: usize,
+        disks: usize,
+        lost: usize,
+        text: *const u8,
+        text_len: usize,
+    ) -> Judged;
+
+    pub fn cuzhaveli_write_plan(
+        width: usize,
+        disks: usize,
+        lost: usize,
+        plan: *const u8,
+        plan_len: usize,
+        out: *mut u8,
+        out_len: usize,
+    ) -> Written;
+
+    pub fn cuzhaveli_plain_text(
+        width: usize,
+        disks: usize,
+        lost: usize,
+        text: *const u8,
+        text_len: usize,
+        out: *mut u8,
+        out_len: usize,
+    ) -> Written;
 
     pub fn cuzhaveli_package_space(
         shape: Shape,

@@ -56,6 +56,7 @@ kinds! {
     BadRate = 16, "a rate is over 1000 cents a GiB";
     TooManyBytes = 17, "the bill has more than 2^54 bytes";
     SurvivorsDisagree = 19, "the surviving disks are those of no clean stripe";
+    BadPlanText = 22, "the text is not of a plan's form, or has another number of lines than the width";
     Unknown = 255, "a refusal that this version of the crate does not know";
 }
 

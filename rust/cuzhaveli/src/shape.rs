@@ -245,6 +245,70 @@ impl Shape {
         judged.answer.accepted().map(|()| judged.reads)
     }
 
+    /// The read count of a plan as text, as hosts keep it in files: the line `row,set,number`, then p lines such as
+    /// `3,D,2`, each ended by LF or CR LF; R and D may be small letters, and numbers have one to three digits and are
+    /// at most 255. Refuses 3, 22, 6 to 9.
+    ///
+    /// ```
+    /// let shape = cuzhaveli::Shape::new(3, 3, 1)?;
+    /// assert_eq!(shape.judge_text(1, b"row,set,number\r\n0,r,0\r\n1,d,00\r\n2,d,1\r\n")?, 7);
+    /// let unended = shape.judge_text(1, b"row,set,number\n0,R,0\n1,D,0\n2,D,1");
+    /// assert_eq!(unended.unwrap_err().number(), 22);
+    /// # Ok::<(), cuzhaveli::Refusal>(())
+    /// ```
+    pub fn judge_text(self, lost: usize, text: &[u8]) -> Result<u32, Refusal> {
+        let (width, disks, text_len) = (self.0.width, self.0.disks, text.len());
+        let judged =
+            unsafe { ffi::cuzhaveli_judge_text(width, disks, lost, text.as_ptr(), text_len) };
+        judged.answer.accepted().map(|()| judged.reads)
+    }
+
+    /// A plan that the judge accepts as text in its one plain form: LF, capitals, no leading zero. Refuses 3, 5 (other
+    /// than p steps), 6 to 9.
+    ///
+    /// ```
+    /// let shape = cuzhaveli::Shape::new(3, 3, 1)?;
+    /// let steps: Vec<_> = shape.plan(1)?.steps().collect();
+    /// assert_eq!(shape.write_plan(1, &steps)?, "row,set,number\n0,R,0\n1,D,0\n2,D,1\n");
+    /// # Ok::<(), cuzhaveli::Refusal>(())
+    /// ```
+    pub fn write_plan(self, lost: usize, steps: &[Step]) -> Result<String, Refusal> {
+        let plan: Vec<u8> = steps.iter().flat_map(Step::bytes).collect();
+        self.written(|shape, out, out_len| unsafe {
+            let (plan, plan_len) = (plan.as_ptr(), plan.len());
+            ffi::cuzhaveli_write_plan(shape.width, shape.disks, lost, plan, plan_len, out, out_len)
+        })
+    }
+
+    /// The plain form of a plan that is a text. Two texts of accepted plans have the same plain form exactly if they
+    /// name the same steps in the same order. Refuses 3, 22, 6 to 9.
+    ///
+    /// ```
+    /// let shape = cuzhaveli::Shape::new(3, 3, 1)?;
+    /// let plain = shape.plain_text(1, b"row,set,number\r\n0,r,0\r\n1,d,00\r\n2,d,1\r\n")?;
+    /// assert_eq!(plain, "row,set,number\n0,R,0\n1,D,0\n2,D,1\n");
+    /// assert_eq!(shape.plain_text(1, plain.as_bytes())?, plain);
+    /// # Ok::<(), cuzhaveli::Refusal>(())
+    /// ```
+    pub fn plain_text(self, lost: usize, text: &[u8]) -> Result<String, Refusal> {
+        self.written(|shape, out, out_len| unsafe {
+            let (text, text_len) = (text.as_ptr(), text.len());
+            ffi::cuzhaveli_plain_text(shape.width, shape.disks, lost, text, text_len, out, out_len)
+        })
+    }
+
+    /// The text that a call writes.
+    fn written(
+        self,
+        write: impl FnOnce(ffi::Shape, *mut u8, usize) -> ffi::Written,
+    ) -> Result<String, Refusal> {
+        let mut out = vec![0; 263];
+        let written = write(self.0, out.as_mut_ptr(), out.len());
+        written.answer.accepted()?;
+        out.truncate(written.length);
+        Ok(String::from_utf8(out).expect("the library writes ASCII"))
+    }
+
     /// The cells that a rebuild of that disk by our plan reads. Refuses 3.
     ///
     /// ```

@@ -69,6 +69,7 @@ fn a_slice_of_another_length_gives_5_and_stands() {
         for other in other_lengths(shape.width()) {
             let step = Step { row: 0, set: Set::Row(0) };
             assert_eq!(number(shape.judge(0, &vec![step; other])), 5);
+            assert_eq!(number(shape.write_plan(0, &vec![step; other])), 5);
         }
         for other in other_lengths(3 * shape.width()) {
             assert_eq!(number(shape.judge_bytes(0, &vec![0; other])), 5);
@@ -85,6 +86,9 @@ fn a_disk_that_is_not_there_gives_3() {
             assert_eq!(number(shape.plan(disk)), 3);
             assert_eq!(number(shape.read_list(disk)), 3);
             assert_eq!(number(shape.judge(disk, &[])), 3);
+            assert_eq!(number(shape.judge_text(disk, b"")), 3);
+            assert_eq!(number(shape.write_plan(disk, &[])), 3);
+            assert_eq!(number(shape.plain_text(disk, b"")), 3);
             assert_eq!(number(shape.rebuild_one(disk, &stripe, &mut column)), 3);
             assert_eq!(number(shape.rebuild_tested(disk, &stripe, &mut column)), 3);
             assert_eq!(number(shape.rebuild_two([disk, disk], &mut stripe)), 3);
@@ -161,6 +165,34 @@ fn survivors_of_no_clean_stripe_give_19_and_the_column_stands() {
             let refusal = shape.rebuild_tested(lost, &stripe, &mut column).unwrap_err();
             assert_eq!(refusal.kind(), RefusalKind::SurvivorsDisagree);
             assert_eq!(column, clean[shape.disk_range(lost)]);
+        }
+    }
+}
+
+#[test]
+fn a_text_that_is_no_plan_gives_22_and_every_plan_is_written_and_read() {
+    for shape in shapes() {
+        for lost in 0..shape.disks() + 2 {
+            let plan = shape.plan(lost).unwrap();
+            let steps: Vec<Step> = plan.steps().collect();
+            let plain = shape.write_plan(lost, &steps).unwrap();
+            assert_eq!(plain.lines().count(), shape.width() + 1);
+            let others = [
+                plain.clone(),
+                plain.replace('\n', "\r\n"),
+                plain.replace('R', "r").replace('D', "d"),
+                plain.replace(",0\n", ",000\n"),
+            ];
+            for text in others.map(String::into_bytes) {
+                assert_eq!(shape.judge_text(lost, &text), Ok(plan.reads()));
+                assert_eq!(shape.plain_text(lost, &text).as_ref(), Ok(&plain));
+                for end in 0..text.len() {
+                    assert_eq!(number(shape.judge_text(lost, &text[..end])), 22);
+                    assert_eq!(number(shape.plain_text(lost, &text[..end])), 22);
+                }
+                let refusal = shape.judge_text(lost, &[&text[..], b"\n"].concat()).unwrap_err();
+                assert_eq!(refusal.kind(), RefusalKind::BadPlanText);
+            }
         }
     }
 }

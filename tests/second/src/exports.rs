@@ -7,11 +7,11 @@ use std::slice::{from_raw_parts, from_raw_parts_mut};
 
 use crate::ffi::{
     Answer, Bill, Checked, DisksRun, FullRun, Judged, Plan, Progress, Run, RunAnswer, Scrubbed,
-    Shape, Space,
+    Shape, Space, Written,
 };
 use crate::groups::{
-    billing, judge, plan, read_list, rebuild_one, rebuild_tested, rebuild_two, runs, scrub, space,
-    stripes, update,
+    billing, judge, plan, plan_files, read_list, rebuild_one, rebuild_tested, rebuild_two, runs,
+    scrub, space, stripes, update,
 };
 
 #[no_mangle]
@@ -43,6 +43,51 @@ pub unsafe extern "C" fn second_judge_plan(
     plan_len: usize,
 ) -> Judged {
     judge::model::judge_plan(width, disks, lost, from_raw_parts(plan, plan_len))
+}
+
+/// # Safety
+/// `text` is lent: see above.
+#[no_mangle]
+pub unsafe extern "C" fn second_judge_text(
+    width: usize,
+    disks: usize,
+    lost: usize,
+    text: *const u8,
+    text_len: usize,
+) -> Judged {
+    plan_files::model::judge_text((width, disks, lost), from_raw_parts(text, text_len))
+}
+
+/// # Safety
+/// `plan` and `out` are lent: see above.
+#[no_mangle]
+pub unsafe extern "C" fn second_write_plan(
+    width: usize,
+    disks: usize,
+    lost: usize,
+    plan: *const u8,
+    plan_len: usize,
+    out: *mut u8,
+    out_len: usize,
+) -> Written {
+    let (plan, out) = (from_raw_parts(plan, plan_len), from_raw_parts_mut(out, out_len));
+    plan_files::model::write_plan((width, disks, lost), plan, out)
+}
+
+/// # Safety
+/// `text` and `out` are lent: see above.
+#[no_mangle]
+pub unsafe extern "C" fn second_plain_text(
+    width: usize,
+    disks: usize,
+    lost: usize,
+    text: *const u8,
+    text_len: usize,
+    out: *mut u8,
+    out_len: usize,
+) -> Written {
+    let (text, out) = (from_raw_parts(text, text_len), from_raw_parts_mut(out, out_len));
+    plan_files::model::plain_text((width, disks, lost), text, out)
 }
 
 /// # Safety

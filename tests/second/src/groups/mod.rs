@@ -22,6 +22,7 @@ groups! {
     price,
     examples,
     printed_plan,
+    plan_files,
     space,
     stripes,
     scrub,
