@@ -1,0 +1,18 @@
+-- `bit_of`: a shift by less than 64 loses nothing.
+use mathlib.Core.Path.{_∙_}
+use native.Mathlib.Nat.{one-mul}
+use native.Mathlib.Omega.{arith}
+use lib.Dec.{lit<}
+use lib.Pow.{shl-exact}
+use borrow.Author.Needs.{needs}
+use Rattle.states.proofs.bit_of.Statement.{statement}
+use Rattle.states.proofs.bit_of.Tie as tie
+
+shl-result : tie.Need-shl-result
+shl-result c = search needs
+
+returns : tie.Need-returns
+returns c = shl-exact 1 (c .args .disk) 64 (lit< tt) (omega arith) ∙ one-mul _
+
+pub bit-of-spec : {M : Type 1} → statement M
+bit-of-spec = tie.close (tie.spec shl-result returns)

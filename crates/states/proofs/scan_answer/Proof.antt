@@ -1,0 +1,55 @@
+-- `scan_answer`: the refusal with no totals, or the totals of the scan.
+use mathlib.Core.Path.{sym, ap₂, _∙_}
+use Rattle.laws.proofs.ChoiceLaws.{pick-refused, pick-done}
+use Rattle.refusals.specs.declared.Answer.{Answer}
+use Rattle.refusals.proofs.AnswerLaws.{answers-as, answer-is}
+use Rattle.states.specs.declared.Totals.{Totals}
+use Rattle.states.specs.States.{noTotals}
+use Rattle.states.specs.Scanning.{scanFault, scanAnswer}
+use borrow.Author.Needs.{needs}
+use Rattle.states.proofs.scan_answer.Statement.{statement}
+use Rattle.states.proofs.scan_answer.Tie as tie
+
+scan-fault-requires : tie.Need-scan-fault-requires
+scan-fault-requires c κs = search needs
+
+answered-requires : tie.Need-answered-requires
+answered-requires c κs = search needs
+
+no-totals-requires : tie.Need-no-totals-requires
+no-totals-requires c κs = search needs
+
+returns : tie.Need-returns
+unfolding scanAnswer
+returns c =
+    let q = c .before .before .before in
+    let a = q .before .args in
+    let e = q .scan-fault .ensures in
+    let b = c .before .answered .result in
+    ap₂ (λ (x : Answer) (t : Totals). record { answer = x; totals = t })
+    (answer-is (scanFault (a .s) (a .n) (a .which)) b (answers-as _ _ b e (c .before .answered .ensures)))
+    (c .no-totals .ensures ∙ pick-refused (q .scan-fault .result) (scanFault (a .s) (a .n) (a .which)) (a .s .totals) noTotals e (c .before .before .if1 .taken))
+
+answered-requires-2 : tie.Need-answered-requires-2
+answered-requires-2 c κs = search needs
+
+returns-2 : tie.Need-returns-2
+unfolding scanAnswer
+returns-2 c =
+    let q = c .before .before .before in
+    let a = q .before .args in
+    let none = sym (q .scan-fault .ensures) ∙ c .before .before .if1 .left in
+    ap₂ (λ (x : Answer) (t : Totals). record { answer = x; totals = t })
+    (answer-is (scanFault (a .s) (a .n) (a .which)) (c .answered2 .result) (answers-as 0 _ (c .answered2 .result) (sym none) (c .answered2 .ensures)))
+    (pick-done (scanFault (a .s) (a .n) (a .which)) (a .s .totals) noTotals none)
+
+pub scan-answer-spec : {M : Type 1} → statement M
+scan-answer-spec =
+    tie.close
+    (tie.spec
+    scan-fault-requires
+    answered-requires
+    no-totals-requires
+    returns
+    answered-requires-2
+    returns-2)
