@@ -1,0 +1,3 @@
+-- One report, and any series of them.
+pub mod OneReport
+pub mod ManyReports
