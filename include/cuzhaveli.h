@@ -21,6 +21,10 @@
  *  - `lengths` points to `lengths_len` numbers that may be read, aligned as uint64_t; it may be NULL if that is 0 or
  *    more than CUZHAVELI_MAX_FILES;
  *  - `run` is not NULL and is aligned as struct cuzhaveli_run;
+ *  - `list` points to `list_len` records, not bytes, is aligned as struct cuzhaveli_array_state (8 bytes), and may be
+ *    NULL if `list_len` is 0 or over CUZHAVELI_MAX_ARRAYS;
+ *  - `back` is a bool of C99 or C++: any number becomes one in a call through this header. From a language without
+ *    one pass a byte 0 or 1, and no other;
  *  - memory that a call writes overlaps nothing else it is lent, and nobody else uses it meanwhile.
  * Padding between fields is unspecified: compare fields, not bytes. */
 
@@ -42,6 +46,7 @@ extern "C" {
 #define CUZHAVELI_MAX_STRIPES 4294967295u /* of one run; cuzhaveli_package_space can give more */
 #define CUZHAVELI_MAX_FILES 4096          /* of a package */
 #define CUZHAVELI_TEXT_BYTES 263          /* room for a plan that is written as text */
+#define CUZHAVELI_MAX_ARRAYS 64           /* of one list */
 
 /* Sizes in bytes, for a shape within the limits. */
 #define CUZHAVELI_COLUMN_BYTES(shape) ((shape).width * (shape).cell_size)           /* a disk's part of a stripe */
@@ -73,6 +78,8 @@ enum cuzhaveli_refusal {
     CUZHAVELI_BAD_RATE = 16,          /* a rate of more than 1000 cents a GiB */
     CUZHAVELI_TOO_MANY_BYTES = 17,    /* a bill of more than 2^54 bytes */
     CUZHAVELI_SURVIVORS_DISAGREE = 19, /* the surviving disks are those of no clean stripe; tested last */
+    CUZHAVELI_NO_SUCH_ARRAY = 20,     /* an array number beyond the list, or a list of more than 64; tested first */
+    CUZHAVELI_DISK_UNCHANGED = 21,    /* a loss of a lost disk, or a return of a present one; tested last */
     CUZHAVELI_BAD_PLAN_TEXT = 22      /* a text that is not of a plan's form, or not of p lines; tested after 5 */
 };
 
@@ -172,6 +179,26 @@ struct cuzhaveli_bill {
     uint64_t second;
     uint64_t third;
     uint64_t cents;
+};
+
+/* An array of a list: its p and k, and bit d of `lost` set if disk d is lost. */
+struct cuzhaveli_array_state {
+    size_t width;
+    size_t disks;
+    uint64_t lost;
+};
+
+/* How many arrays of a list can bear so many more losses. They add up to the arrays of the list. */
+struct cuzhaveli_totals {
+    uint32_t optimal;  /* two more: no disk is lost */
+    uint32_t degraded; /* one more: one is */
+    uint32_t critical; /* none: two are */
+    uint32_t failed;   /* past saving, until disks come back: three or more are */
+};
+
+struct cuzhaveli_board {
+    struct cuzhaveli_answer answer;
+    struct cuzhaveli_totals totals;
 };
 
 /* Records of runs opened by earlier versions: of arrays with k = p, and of those with k before stripes could be
@@ -307,6 +334,17 @@ struct cuzhaveli_progress cuzhaveli_run_progress(const struct cuzhaveli_run *run
  * for both. Refuses nothing; calls on the record do, as on any other. */
 struct cuzhaveli_run cuzhaveli_resume_full_run(struct cuzhaveli_full_run old);
 struct cuzhaveli_run cuzhaveli_resume_disks_run(struct cuzhaveli_disks_run old);
+
+/* States of arrays: which disks of each are lost, and how many arrays can bear more losses. */
+
+/* Reports that disk `disk` of array `which` (counted from 0) of a list of `list_len` arrays, 1 to CUZHAVELI_MAX_ARRAYS,
+ * was lost (`back` false) or is back (`back` true): sets or clears its bit, leaves the rest of the list, and counts the
+ * list as it then is. Every record is tested first, in order, by 1, 13 and 3 (a lost disk over its k + 1), so that the
+ * earliest bad one decides; then the reported disk by 3. From one report to the next a disk is lost exactly if the last
+ * accepted report of it was its loss. On a refusal the list stands, and the totals are zeros. Refuses 20, 1, 13, 3,
+ * 21. */
+struct cuzhaveli_board cuzhaveli_report_disk(struct cuzhaveli_array_state *list, size_t list_len, size_t which,
+                                             size_t disk, bool back);
 
 /* Bills. A rate is in cents a GiB (2^30 bytes), 0 to 1000: `first` for the first 64 GiB, `second` for the part above
  * up to 1024 GiB, `third` for the rest. The three products are added, then rounded to the nearest cent, an exact half

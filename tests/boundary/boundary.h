@@ -28,6 +28,7 @@ extern __typeof__(cuzhaveli_resume_full_run) second_resume_full_run;
 extern __typeof__(cuzhaveli_resume_disks_run) second_resume_disks_run;
 extern __typeof__(cuzhaveli_bill_bytes) second_bill_bytes;
 extern __typeof__(cuzhaveli_bill_run) second_bill_run;
+extern __typeof__(cuzhaveli_report_disk) second_report_disk;
 struct cuzhaveli_answer second_refuse_two(struct cuzhaveli_shape shape, size_t first, size_t second, size_t stripe_len);
 
 /* numbers.c: random numbers, most of them accepted. */
@@ -63,7 +64,7 @@ void set_content(struct lent *lent);
 bool lent_agrees(const struct lent *lent);
 
 /* calls.c: one random call each; false if the library and the second implementation differ. */
-#define CALLS 22
+#define CALLS 23
 struct caller {
     struct random random;
     struct lent first, second;

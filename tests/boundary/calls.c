@@ -7,7 +7,7 @@
 
 enum {
     PLAN, LIST, JUDGE, TEXT, WRITE, PLAIN, SPACE, ENCODE, CHECK, SCRUB, ONE, TESTED, TWO, UPDATE, OPEN, STEP, SKIP,
-    PROGRESS, FULL, DISKS, BYTES, BILL
+    PROGRESS, FULL, DISKS, BYTES, BILL, REPORT
 };
 
 #define SAY(caller, ...) snprintf((caller)->what, sizeof (caller)->what, __VA_ARGS__)
@@ -528,6 +528,71 @@ static bool bill_run(struct caller *c)
     return same(c, BILL, got.answer, wanted.answer) && same_bill(got, wanted);
 }
 
+/* An array with few of its disks lost, mostly; now and then with any numbers, or a disk over k + 1. */
+static struct cuzhaveli_array_state any_state(struct random *r, bool good)
+{
+    struct cuzhaveli_array_state state;
+    do {
+        state.width = any_width(r);
+        state.disks = any_disks(r, state.width);
+    } while (good && !is_array((struct array){state.width, state.disks, 0}));
+    state.lost = 0;
+    for (size_t losses = below(r, 5); losses > 0; losses--)
+        state.lost |= (uint64_t)1 << below(r, (state.disks < 31 ? state.disks : 31) + 2);
+    if (!good && once_in(r, 4))
+        state.lost = once_in(r, 2) ? next_number(r) : state.lost | (uint64_t)1 << below(r, 64);
+    return state;
+}
+
+/* Lends a list of arrays: few of them, mostly, now and then none, 64 or more, and then NULL, too. One or two are bad at
+ * times. */
+static void lend_states(struct caller *c, size_t *arrays)
+{
+    struct random *r = &c->random;
+    struct lent *list = &c->first;
+    size_t bytes = sizeof(struct cuzhaveli_array_state);
+    *arrays = once_in(r, 8) ? below(r, 2) * (63 + below(r, 4)) : 1 + below(r, 6);
+    if (once_in(r, 40))
+        *arrays = any_number(r);
+    if (*arrays > 200 || ((*arrays == 0 || *arrays > CUZHAVELI_MAX_ARRAYS) && once_in(r, 2))) {
+        lend_null(list, *arrays * bytes);
+        return;
+    }
+    lend_random(list, r, *arrays * bytes, c->at_end);
+    struct cuzhaveli_array_state *states = (struct cuzhaveli_array_state *)list->same;
+    for (size_t i = 0; i < *arrays; i++)
+        states[i] = any_state(r, true);
+    if (*arrays > 0 && once_in(r, 3))
+        for (size_t bad = 1 + below(r, 2); bad > 0; bad--)
+            states[below(r, *arrays)] = any_state(r, false);
+    set_content(list);
+}
+
+/* A disk that can be reported, mostly. */
+static bool report_disk(struct caller *c)
+{
+    struct random *r = &c->random;
+    struct lent *list = &c->first;
+    size_t arrays;
+    lend_states(c, &arrays);
+    struct cuzhaveli_array_state *states = (struct cuzhaveli_array_state *)list->same;
+    bool some = list->bytes && arrays > 0;
+    size_t which = some && !once_in(r, 12) ? below(r, arrays) : once_in(r, 2) ? arrays : any_number(r);
+    struct cuzhaveli_array_state state = {5, 5, 0};
+    if (some && which < arrays)
+        state = states[which];
+    size_t disk = any_disk(r, state.disks);
+    bool back = disk < 64 && (state.lost >> disk & 1) != once_in(r, 8);
+    SAY(c, "cuzhaveli_report_disk(%p, %zu, %zu, %zu, %d) of {%zu, %zu, %jx}", (void *)list->bytes, arrays, which, disk,
+        back, state.width, state.disks, (uintmax_t)state.lost);
+    struct cuzhaveli_board got =
+        cuzhaveli_report_disk((struct cuzhaveli_array_state *)list->bytes, arrays, which, disk, back);
+    struct cuzhaveli_board wanted = second_report_disk(states, list->bytes ? arrays : 0, which, disk, back);
+    return same(c, REPORT, got.answer, wanted.answer) && got.totals.optimal == wanted.totals.optimal &&
+           got.totals.degraded == wanted.totals.degraded && got.totals.critical == wanted.totals.critical &&
+           got.totals.failed == wanted.totals.failed && lent_agrees(list);
+}
+
 const struct call CALL[CALLS] = {
     [PLAN] = {"cuzhaveli_plan_disk", plan_disk},
     [LIST] = {"cuzhaveli_read_list", read_list},
@@ -551,4 +616,5 @@ const struct call CALL[CALLS] = {
     [DISKS] = {"cuzhaveli_resume_disks_run", resume_disks_run},
     [BYTES] = {"cuzhaveli_bill_bytes", bill_bytes},
     [BILL] = {"cuzhaveli_bill_run", bill_run},
+    [REPORT] = {"cuzhaveli_report_disk", report_disk},
 };

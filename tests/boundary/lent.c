@@ -32,18 +32,7 @@ static uint8_t *beside(const struct lent *lent)
     return at_end ? lent->bytes - GUARD : lent->bytes + lent->length;
 }
 
-/* Lends memory of random content: of the right length, mostly; where it is wrong, NULL now and then, and always where
- * there is no room for it. */
-void lend(struct lent *lent, struct random *r, size_t right, bool at_end)
-{
-    size_t length = any_length(r, right);
-    if (length > ROOM - GUARD || (length != right && once_in(r, 2)))
-        lend_null(lent, length);
-    else
-        lend_random(lent, r, length, at_end);
-}
-
-/* Lends NULL, as memory of that length. */
+/* Lends NULL for so many bytes. */
 void lend_null(struct lent *lent, size_t length)
 {
     lent->bytes = NULL;
@@ -51,15 +40,25 @@ void lend_null(struct lent *lent, size_t length)
     lent->same_length = 0;
 }
 
-/* Lends memory of that length and of random content. */
+/* Lends so many bytes of random content. */
 void lend_random(struct lent *lent, struct random *r, size_t length, bool at_end)
 {
-    lent->length = length;
-    lent->bytes = at_end ? lent->high - lent->length : lent->low;
-    lent->same_length = lent->length;
-    fill(r, lent->bytes, lent->length);
+    lent->length = lent->same_length = length;
+    lent->bytes = at_end ? lent->high - length : lent->low;
+    fill(r, lent->bytes, length);
     memset(beside(lent), MARK, GUARD);
-    memcpy(lent->same, lent->bytes, lent->length);
+    memcpy(lent->same, lent->bytes, length);
+}
+
+/* Lends memory of the right length, mostly; where it is wrong, NULL now and then, and always where there is no room for
+ * it. */
+void lend(struct lent *lent, struct random *r, size_t right, bool at_end)
+{
+    size_t length = any_length(r, right);
+    if (length > ROOM - GUARD || (length != right && once_in(r, 2)))
+        lend_null(lent, length);
+    else
+        lend_random(lent, r, length, at_end);
 }
 
 /* Lends memory of this content. */

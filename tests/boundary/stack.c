@@ -60,6 +60,14 @@ static void records(void)
     sink = cuzhaveli_bill_bytes((uint64_t)1 << 50, 1, 2, 3).answer.refusal;
 }
 
+static void report_disk(void)
+{
+    struct cuzhaveli_array_state list[CUZHAVELI_MAX_ARRAYS];
+    for (size_t i = 0; i < CUZHAVELI_MAX_ARRAYS; i++)
+        list[i] = (struct cuzhaveli_array_state){shape.width, shape.disks, i % 4};
+    sink = cuzhaveli_report_disk(list, CUZHAVELI_MAX_ARRAYS, 4 * other, lost, false).answer.refusal;
+}
+
 /* What the header promises of each call, in bytes. */
 #define PROMISED 8192
 
@@ -81,6 +89,7 @@ static struct { const char *name; void (*make)(void); size_t most; } MADE[] = {
     {"cuzhaveli_update_cell", update_cell, 0},
     {"calls on runs", run_calls, 0},
     {"records and bills", records, 0},
+    {"cuzhaveli_report_disk", report_disk, 0}, /* the list of 1536 bytes among them */
 };
 #define KINDS (sizeof MADE / sizeof *MADE)
 

@@ -13,6 +13,7 @@ ghost use Rattle.scrub.specs.Says.{ScrubSays};
 ghost use Rattle.rebuild_tested.specs.Says.{TestedSays};
 ghost use Rattle.runs.specs.Runs.{OpenSays, StepSays, SkipSays, ProgressSays, resumed, resumedDisks};
 ghost use Rattle.billing.specs.Bills.{BillSays, RunBillSays};
+ghost use Rattle.states.specs.States.{ReportSays};
 use billing::Bill;
 use judge::Judged;
 use plan_files::Written;
@@ -26,6 +27,8 @@ use runs::Run;
 use runs::RunAnswer;
 use scrub::Scrubbed;
 use space::Space;
+use states::ArrayState;
+use states::Board;
 use stripes::Checked;
 
 // Our plan for a lost disk.
@@ -259,4 +262,28 @@ pub extern "C" fn cuzhaveli_bill_run(run: Run, first: u64, second: u64, third: u
     ensures { λ r. ⌜ RunBillSays run first second third r ⌝ }
 {
     billing::bill_run(run, first, second, third)
+}
+
+// A report on array `which` of a lent list: its disk `disk` was lost, or is back. Every record is read, and one is written or none.
+#[no_mangle]
+pub extern "C" fn cuzhaveli_report_disk(
+    list: &mut [ArrayState],
+    which: usize,
+    disk: usize,
+    back: bool,
+) -> Board
+    ensures { λ r. ⌜ ReportSays (now (list .entry)) which disk back (now (list .exit)) r ⌝ }
+{
+    let n = states::scan_length(list.len());
+    let mut s = states::scan_start();
+    let mut i = 0;
+    while i < n {
+        s = states::scan_record(s, which, disk, back, list[i]);
+        i += 1;
+    }
+    let r = states::scan_answer(s, n, which);
+    if r.answer.refusal == 0 {
+        list[which] = s.found;
+    }
+    r
 }

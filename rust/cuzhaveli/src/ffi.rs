@@ -131,6 +131,27 @@ records! {
         pub cents: u64,
     }
 
+    /// An array of a list: its width, its data disks, and bit d of `lost` set if disk d is lost.
+    pub struct ArrayState {
+        pub width: usize,
+        pub disks: usize,
+        pub lost: u64,
+    }
+
+    /// How many arrays of a list can bear two more losses, one more, none, and how many are past saving.
+    pub struct Totals {
+        pub optimal: u32,
+        pub degraded: u32,
+        pub critical: u32,
+        pub failed: u32,
+    }
+
+    /// What a report on an array of a list answers.
+    pub struct Board {
+        pub answer: Answer,
+        pub totals: Totals,
+    }
+
     /// The record of a run opened before arrays could have fewer data disks than their width.
     pub struct FullRun {
         pub width: usize,
@@ -267,4 +288,12 @@ extern "C" {
     pub fn cuzhaveli_bill_bytes(bytes: u64, first: u64, second: u64, third: u64) -> Bill;
 
     pub fn cuzhaveli_bill_run(run: Run, first: u64, second: u64, third: u64) -> Bill;
+
+    pub fn cuzhaveli_report_disk(
+        list: *mut ArrayState,
+        list_len: usize,
+        which: usize,
+        disk: usize,
+        back: bool,
+    ) -> Board;
 }

@@ -38,6 +38,7 @@ mod read_list;
 mod refusal;
 mod run;
 mod shape;
+mod states;
 
 pub use bill::{bill, Bill};
 pub use plan::{Plan, Set, Step};
@@ -45,3 +46,4 @@ pub use read_list::ReadList;
 pub use refusal::{Refusal, RefusalKind};
 pub use run::Run;
 pub use shape::{Scrub, Shape, Space};
+pub use states::{report_disk, ArrayState, Totals};

@@ -56,6 +56,8 @@ kinds! {
     BadRate = 16, "a rate is over 1000 cents a GiB";
     TooManyBytes = 17, "the bill has more than 2^54 bytes";
     SurvivorsDisagree = 19, "the surviving disks are those of no clean stripe";
+    NoSuchArray = 20, "the list has no array of that number, or more than 64 arrays";
+    DiskUnchanged = 21, "the disk reported lost is lost, or the one reported back is not";
     BadPlanText = 22, "the text is not of a plan's form, or has another number of lines than the width";
     Unknown = 255, "a refusal that this version of the crate does not know";
 }

@@ -1,7 +1,9 @@
 //! The safe calls on any argument: refused by number, nothing written, no panic.
 
 use cuzhaveli::ffi::{self, DisksRun, FullRun};
-use cuzhaveli::{bill, Refusal, RefusalKind, Run, Scrub, Set, Shape, Step};
+use cuzhaveli::{
+    bill, report_disk, ArrayState, Refusal, RefusalKind, Run, Scrub, Set, Shape, Step, Totals,
+};
 
 const WIDTHS: [usize; 10] = [3, 5, 7, 11, 13, 17, 19, 23, 29, 31];
 const HUGE: [usize; 6] =
@@ -270,4 +272,45 @@ fn a_refusal_says_what_was_wrong() {
     assert!(refusal.to_string().ends_with("(step 0)"));
     let as_error: &dyn std::error::Error = &refusal;
     assert_eq!(as_error.to_string(), refusal.to_string());
+}
+
+#[test]
+fn reports_on_any_list_are_refused_or_counted() {
+    let good = ArrayState { width: 5, disks: 3, lost: 0 };
+    for count in [0, 1, 64, 65] {
+        let mut list = vec![good; count];
+        for which in HUGE.into_iter().chain([count]) {
+            assert_eq!(number(report_disk(&mut list, which, 0, false)), 20);
+        }
+        assert_eq!(list, vec![good; count]);
+    }
+    for (bad, refusal) in [
+        (ArrayState { width: 9, ..good }, 1),
+        (ArrayState { disks: 6, ..good }, 13),
+        (ArrayState { lost: 1 << 5, ..good }, 3),
+        (ArrayState { lost: 1 << 63, ..good }, 3),
+    ] {
+        for place in 0..3 {
+            let mut list = [good; 3];
+            list[place] = bad;
+            let before = list;
+            for disk in HUGE.into_iter().chain([0, 4]) {
+                assert_eq!(number(report_disk(&mut list, 1, disk, true)), refusal);
+            }
+            assert_eq!(list, before);
+        }
+    }
+    let mut list = [good; 64];
+    for disk in HUGE.into_iter().chain([5, 63, 64]) {
+        assert_eq!(number(report_disk(&mut list, 63, disk, false)), 3);
+    }
+    assert_eq!(number(report_disk(&mut list, 63, 4, true)), 21);
+    for (disk, at) in [(0, 1), (4, 2), (2, 3), (1, 3)] {
+        let totals = report_disk(&mut list, 63, disk, false).unwrap();
+        let mut counts = [63, 0, 0, 0];
+        counts[at] = 1;
+        let [optimal, degraded, critical, failed] = counts;
+        assert_eq!(totals, Totals { optimal, degraded, critical, failed });
+    }
+    assert_eq!((list[62], list[63].lost), (good, 0b10111));
 }

@@ -6,12 +6,12 @@
 use std::slice::{from_raw_parts, from_raw_parts_mut};
 
 use crate::ffi::{
-    Answer, Bill, Checked, DisksRun, FullRun, Judged, Plan, Progress, Run, RunAnswer, Scrubbed,
-    Shape, Space, Written,
+    Answer, ArrayState, Bill, Board, Checked, DisksRun, FullRun, Judged, Plan, Progress, Run,
+    RunAnswer, Scrubbed, Shape, Space, Written,
 };
 use crate::groups::{
     billing, judge, plan, plan_files, read_list, rebuild_one, rebuild_tested, rebuild_two, runs,
-    scrub, space, stripes, update,
+    scrub, space, states, stripes, update,
 };
 
 #[no_mangle]
@@ -244,4 +244,17 @@ pub extern "C" fn second_bill_bytes(bytes: u64, first: u64, second: u64, third: 
 #[no_mangle]
 pub extern "C" fn second_bill_run(run: Run, first: u64, second: u64, third: u64) -> Bill {
     billing::model::bill_run(&run, [first, second, third])
+}
+
+/// # Safety
+/// `list` is lent: as many records as it says, aligned as they are.
+#[no_mangle]
+pub unsafe extern "C" fn second_report_disk(
+    list: *mut ArrayState,
+    list_len: usize,
+    which: usize,
+    disk: usize,
+    back: bool,
+) -> Board {
+    states::model::report_disk(from_raw_parts_mut(list, list_len), which, disk, back)
 }

@@ -32,5 +32,6 @@ groups! {
     update,
     runs,
     billing,
+    states,
     vectors,
 }
