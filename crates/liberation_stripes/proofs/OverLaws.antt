@@ -11,6 +11,7 @@ use Rattle.laws.specs.Choice.{pick}
 use Rattle.laws.specs.Lists.{isIn, distinct}
 use Rattle.laws.specs.Xor.{xorL, allBytes}
 use Rattle.laws.proofs.Flags.{and-l, and-r, or-false-l, or-false-r}
+use Rattle.laws.proofs.KeptLaws.{Keeps}
 use Rattle.laws.proofs.TestLaws.{eqb-sym}
 use Rattle.laws.proofs.MemberLaws.{in-head, in-tail}
 use Rattle.laws.proofs.XorLaws.{xorL-assoc, xorL-swap, length-xorL, zero-xorL, xorL-bytes, zeros-bytes}
@@ -46,6 +47,10 @@ over-append s g [] ys long = sym (zero-xorL s (xorOver s g ys) (over-long s g ys
 over-append s g (x ∷ xs) ys long = ap (xorL (g x)) (over-append s g xs ys long) ∙ sym (xorL-assoc (g x) (xorOver s g xs) (xorOver s g ys))
 
 -- the cells of a list but x
+pub without-keeps : (y : ℕ) → Keeps (λ x. eqb y x) (without y)
+unfolding without
+without-keeps y = record { none = refl; next = λ x xs. refl }
+
 pub in-without : (x y : ℕ) (xs : List ℕ) → isIn y (without x xs) ≡ (isIn y xs && not (eqb y x))
 unfolding without
 in-without x y [] = refl

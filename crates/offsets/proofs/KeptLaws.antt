@@ -1,86 +1,26 @@
--- Cells of a list that are kept, those that a test does not leave out. Of a row or a diagonal without its cell on disk f these are the cells before it and those after it, so no test for each cell is needed.
+-- The cells of a list on other disks than f. Of a row or a diagonal these are the cells before its cell on disk f and those after it, so no test for each cell is needed.
 use mathlib.Core.Path.{_≡_, refl, sym, ap, ap₂, _∙_}
-use mathlib.Core.Bool.{Bool, true, false, not, _||_}
+use mathlib.Core.Bool.{Bool, true, false, not}
 use mathlib.Core.Logic.{⊎-elim}
 use mathlib.Core.List.{List, [], _∷_, _++_}
 use Prim.Native.Nat.{ℕ, zero, suc, _+_, _-_, _%_, _≤_, _<_}
 use native.Mathlib.Nat.{mod-lt}
 use native.Mathlib.Omega.{arith}
-use lib.Dec.{eqb, ltb}
-use lib.ListN.{length}
+use lib.Dec.{eqb}
 use borrow.Author.Tests.{eq-eqb, ne-eqb, not-true}
 use Rattle.laws.specs.Choice.{pick}
-use Rattle.laws.specs.Lists.{isIn, allBelow}
-use Rattle.laws.proofs.Flags.{and-l, and-r, and-i}
-use Rattle.laws.proofs.MemberLaws.{in-head, in-tail}
+use Rattle.laws.specs.Lists.{isIn}
+use Rattle.laws.proofs.Flags.{and-l}
+use Rattle.laws.proofs.KeptLaws.{Keeps, kept-append, kept-all}
 use Rattle.laws.proofs.OrderLaws.{lt-or-le}
 use Rattle.liberation.specs.Sets.{place, diskAt, rowFrom, diagonalFrom, survivingIn}
 use Rattle.liberation.proofs.SetLaws.{disk-place, in-surviving}
-use Rattle.liberation_stripes.specs.Stripes.{without}
 use Rattle.offsets.specs.Offsets.{cellsFrom}
 use Rattle.offsets.proofs.PushLaws.{Walk}
-
--- the cells of a list but those that are gone
-pub record Keeps (gone : ℕ → Bool) (kept : List ℕ → List ℕ) : Type 0 where
-  pub none : kept [] ≡ []
-  pub next : (x : ℕ) (xs : List ℕ) → kept (x ∷ xs) ≡ pick (gone x) (kept xs) (x ∷ kept xs)
 
 pub surviving-keeps : (p f : ℕ) → Keeps (λ x. eqb (diskAt p x) f) (survivingIn p f)
 unfolding survivingIn
 surviving-keeps p f = record { none = refl; next = λ x xs. refl }
-
-pub without-keeps : (y : ℕ) → Keeps (λ x. eqb y x) (without y)
-unfolding without
-without-keeps y = record { none = refl; next = λ x xs. refl }
-
-all-keeps : Keeps (λ x. false) (λ xs. xs)
-all-keeps = record { none = refl; next = λ x xs. refl }
-
--- one test after another
-pub both-keep : {g h : ℕ → Bool} {a b : List ℕ → List ℕ} → Keeps g a → Keeps h b → Keeps (λ x. h x || g x) (λ xs. a (b xs))
-both-keep {g} {h} {a} {b} k l = record { none = ap a (l .none) ∙ k .none; next = λ x xs. ap a (l .next x xs) ∙ go x (b xs) (h x) }
-  where
-    go : (x : ℕ) (ys : List ℕ) (t : Bool) → a (pick t ys (x ∷ ys)) ≡ pick (t || g x) (a ys) (x ∷ a ys)
-    go x ys true = refl
-    go x ys false = k .next x ys
-
-pub kept-append : {gone : ℕ → Bool} {kept : List ℕ → List ℕ} → Keeps gone kept → (xs ys : List ℕ) → kept (xs ++ ys) ≡ kept xs ++ kept ys
-kept-append {gone} {kept} k [] ys = ap (λ (l : List ℕ). l ++ kept ys) (sym (k .none))
-kept-append {gone} {kept} k (x ∷ xs) ys = k .next x (xs ++ ys) ∙ go (gone x) (kept-append k xs ys) ∙ ap (λ (l : List ℕ). l ++ kept ys) (sym (k .next x xs))
-  where
-    go : (b : Bool) → kept (xs ++ ys) ≡ kept xs ++ kept ys → pick b (kept (xs ++ ys)) (x ∷ kept (xs ++ ys)) ≡ pick b (kept xs) (x ∷ kept xs) ++ kept ys
-    go true e = e
-    go false e = ap (λ (l : List ℕ). x ∷ l) e
-
--- those of cells below n are below n
-pub kept-below : {gone : ℕ → Bool} {kept : List ℕ → List ℕ} → Keeps gone kept → (n : ℕ) (xs : List ℕ) → allBelow n xs ≡ true → allBelow n (kept xs) ≡ true
-kept-below k n [] h = ap (allBelow n) (k .none)
-kept-below {gone} {kept} k n (x ∷ xs) h = ap (allBelow n) (k .next x xs) ∙ go (gone x) (kept-below k n xs (and-r (ltb x n) (allBelow n xs) h))
-  where
-    go : (b : Bool) → allBelow n (kept xs) ≡ true → allBelow n (pick b (kept xs) (x ∷ kept xs)) ≡ true
-    go true e = e
-    go false e = and-i (ltb x n) (allBelow n (kept xs)) (and-l (ltb x n) (allBelow n xs) h) e
-
--- there are no more of them
-pub kept-short : {gone : ℕ → Bool} {kept : List ℕ → List ℕ} → Keeps gone kept → (xs : List ℕ) → length (kept xs) ≤ length xs
-kept-short k [] = omega (arith, ap length (k .none))
-kept-short {gone} {kept} k (x ∷ xs) = go (gone x) (k .next x xs) (kept-short k xs)
-  where
-    go : (b : Bool) → kept (x ∷ xs) ≡ pick b (kept xs) (x ∷ kept xs) → length (kept xs) ≤ length xs → length (kept (x ∷ xs)) ≤ suc (length xs)
-    go true e h = omega (arith, ap length e)
-    go false e h = omega (arith, ap length e)
-
--- two tests that agree on the cells of a list keep the same of them
-pub kept-same : {g h : ℕ → Bool} {a b : List ℕ → List ℕ} → Keeps g a → Keeps h b → (xs : List ℕ) → ((x : ℕ) → isIn x xs ≡ true → g x ≡ h x) → a xs ≡ b xs
-kept-same k l [] f = k .none ∙ sym (l .none)
-kept-same {g} {h} {a} {b} k l (x ∷ xs) f =
-    k .next x xs
-    ∙ ap₂ (λ (t : Bool) (ys : List ℕ). pick t ys (x ∷ ys)) (f x (in-head x xs)) (kept-same k l xs (λ y i. f y (in-tail y x xs i)))
-    ∙ sym (l .next x xs)
-
--- none is gone
-pub kept-all : {gone : ℕ → Bool} {kept : List ℕ → List ℕ} → Keeps gone kept → (xs : List ℕ) → ((x : ℕ) → isIn x xs ≡ true → gone x ≡ false) → kept xs ≡ xs
-kept-all k xs f = kept-same k all-keeps xs f
 
 -- a disk left out twice
 pub surviving-twice : (p f : ℕ) (xs : List ℕ) → survivingIn p f (survivingIn p f xs) ≡ survivingIn p f xs

@@ -12,12 +12,13 @@ use Rattle.laws.specs.Choice.{pick}
 use Rattle.laws.specs.Lists.{isIn}
 use Rattle.laws.proofs.Flags.{and-r, and-i, or-cases}
 use Rattle.laws.proofs.ListLaws.{isIn-append}
+use Rattle.laws.proofs.KeptLaws.{Keeps, kept-same}
 use Rattle.liberation.specs.Sets.{place, rowAt, diskAt, extraRow, extraDisk, extraOf, hasExtra, rowSet, diagonalSet, setOf, lostIn}
 use Rattle.liberation.proofs.SetLaws.{disk-place, in-lost, in-ordinary-data}
 use Rattle.liberation.proofs.DistinctLaws.{extra-apart}
 use Rattle.liberation.proofs.LostLaws.{lost-diagonal}
 use Rattle.liberation_stripes.specs.Stripes.{without}
-use Rattle.offsets.proofs.KeptLaws.{Keeps, without-keeps, kept-same}
+use Rattle.liberation_stripes.proofs.OverLaws.{without-keeps}
 use Rattle.set_offsets.specs.Cells.{ordinaryOf, extraIn}
 use Rattle.set_offsets.proofs.SetLists.{set-split, own-row, extra-row, extra-first}
 

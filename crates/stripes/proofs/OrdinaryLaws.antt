@@ -14,18 +14,19 @@ use Rattle.laws.specs.Lists.{isIn, allBelow, same}
 use Rattle.laws.proofs.Flags.{and-i, or-l, or-r, clash, same-flag}
 use Rattle.laws.proofs.ListLaws.{isIn-append}
 use Rattle.laws.proofs.MemberLaws.{at-in, in-below}
+use Rattle.laws.proofs.KeptLaws.{kept-append, kept-below, kept-same}
 use Rattle.liberation.specs.Sets.{place, diskAt, rowAt, rowSet, ordinary, hasExtra, extraOf, setOf}
 use Rattle.liberation.proofs.SetLaws.{disk-place, place-of, in-row, in-ordinary, in-ordinary-data, set-below}
 use Rattle.liberation.proofs.DistinctLaws.{extra-apart}
 use Rattle.liberation.proofs.PlaceLaws.{disk-below}
 use Rattle.liberation_stripes.specs.Stripes.{without, solved, setClean, stripeLong}
 use Rattle.liberation_stripes.proofs.CellLaws.{cell-fits, cells-apart}
-use Rattle.liberation_stripes.proofs.OverLaws.{in-without}
+use Rattle.liberation_stripes.proofs.OverLaws.{in-without, without-keeps}
 use Rattle.xor.specs.Parts.{withPart, xorOffsets}
 use Rattle.xor_within.specs.Beside.{Apart}
 use Rattle.offsets.specs.Offsets.{scaled, Pushed}
 use Rattle.offsets.proofs.OffsetLaws.{over-offsets, each-offset}
-use Rattle.offsets.proofs.KeptLaws.{surviving-keeps, without-keeps, kept-append, kept-below, kept-same}
+use Rattle.offsets.proofs.KeptLaws.{surviving-keeps}
 use Rattle.set_offsets.specs.Cells.{survivors, ordinaryOf, extraIn}
 use Rattle.set_offsets.proofs.SetLists.{survivors-one, survivors-past, set-split, extra-kept, own-row, reached}
 use Rattle.stripes.specs.Cells.{Ordinary}

@@ -1,0 +1,74 @@
+-- The numbers below n as a list: its members, each once, and one of them taken out.
+use mathlib.Core.Path.{_≡_, refl, sym, ap, ap₂, _∙_}
+use mathlib.Core.Bool.{Bool, true, false, _||_, or-false, or-comm}
+use mathlib.Core.Logic.{⊎-elim}
+use mathlib.Core.List.{List, [], _∷_, _++_, append-nil}
+use Prim.Native.Nat.{ℕ, zero, suc, _≤_, _<_}
+use native.Mathlib.Omega.{arith}
+use lib.Dec.{eqb, ltb}
+use lib.ListN.{length, length-append}
+use borrow.Author.Tests.{eq-eqb, ne-eqb, ltb-true, lt-ltb, le-ltb}
+use Rattle.laws.specs.Choice.{pick}
+use Rattle.laws.specs.Lists.{isIn, distinct, allBelow}
+use Rattle.laws.proofs.Flags.{and-i}
+use Rattle.laws.proofs.ListLaws.{isIn-append, below-append}
+use Rattle.laws.proofs.MemberLaws.{distinct-snoc}
+use Rattle.laws.proofs.KeptLaws.{kept-append}
+use Rattle.laws.proofs.OrderLaws.{lt-or-le}
+use Rattle.laws.proofs.TestLaws.{ltb-next}
+use Rattle.liberation_stripes.specs.Stripes.{without}
+use Rattle.liberation_stripes.proofs.OverLaws.{without-keeps}
+use Rattle.liberation_servers.specs.Servers.{upTo}
+
+pub in-up : (n x : ℕ) → isIn x (upTo n) ≡ ltb x n
+unfolding upTo
+in-up zero x = sym (le-ltb x 0 (omega arith))
+in-up (suc n) x = isIn-append x (upTo n) (n ∷ []) ∙ ap₂ _||_ (in-up n x) (or-false (eqb x n)) ∙ or-comm (ltb x n) (eqb x n) ∙ ltb-next x n
+
+pub up-lt : (n x : ℕ) → isIn x (upTo n) ≡ true → x < n
+up-lt n x h = ltb-true x n (sym (in-up n x) ∙ h)
+
+pub lt-up : (n x : ℕ) → x < n → isIn x (upTo n) ≡ true
+lt-up n x h = in-up n x ∙ lt-ltb x n h
+
+pub up-below : (m n : ℕ) → n ≤ m → allBelow m (upTo n) ≡ true
+unfolding upTo
+up-below m zero h = refl
+up-below m (suc n) h = below-append m (upTo n) (n ∷ []) (up-below m n (omega arith)) (and-i (ltb n m) true (lt-ltb n m (omega arith)) refl)
+
+pub up-distinct : (n : ℕ) → distinct (upTo n) ≡ true
+unfolding upTo
+up-distinct zero = refl
+up-distinct (suc n) = distinct-snoc n (upTo n) (up-distinct n) (in-up n n ∙ le-ltb n n (omega arith))
+
+pub up-long : (n : ℕ) → length (upTo n) ≡ n
+unfolding upTo
+up-long zero = refl
+up-long (suc n) = length-append (upTo n) (n ∷ []) ∙ omega (arith, up-long n)
+
+-- a number taken out of the list turn by turn, of a list of lower numbers, and the last number
+pub without-turn : (x n : ℕ) → without x (upTo (suc n)) ≡ without x (upTo n) ++ pick (eqb x n) [] (n ∷ [])
+unfolding upTo without
+without-turn x n = kept-append (without-keeps x) (upTo n) (n ∷ [])
+
+without-above : (x n : ℕ) → n ≤ x → without x (upTo n) ≡ upTo n
+unfolding upTo without
+without-above x zero h = refl
+without-above x (suc n) h =
+    without-turn x n
+    ∙ ap₂ _++_ (without-above x n (omega arith)) (ap (λ (b : Bool). pick b [] (n ∷ [])) (ne-eqb x n (λ e. omega arith)))
+
+pub without-last : (n : ℕ) → without n (upTo (suc n)) ≡ upTo n
+without-last n =
+    without-turn n n
+    ∙ ap₂ _++_ (without-above n n (omega arith)) (ap (λ (b : Bool). pick b [] (n ∷ [])) (eq-eqb n n refl))
+    ∙ append-nil (upTo n)
+
+-- m of the m + 1 servers are left
+pub others-long : (n x : ℕ) → x < n → suc (length (without x (upTo n))) ≡ n
+others-long zero x h = absurd (omega arith)
+others-long (suc n) x h =
+    ⊎-elim
+    (λ l. ap (λ (xs : List ℕ). suc (length xs)) (without-turn x n ∙ ap (λ (b : Bool). without x (upTo n) ++ pick b [] (n ∷ [])) (ne-eqb x n (λ e. omega arith))) ∙ omega (arith, length-append (without x (upTo n)) (n ∷ []), others-long n x l))
+    (λ l. let e : x ≡ n = omega arith in ap (λ (y : ℕ). suc (length (without y (upTo (suc n))))) e ∙ ap (λ (xs : List ℕ). suc (length xs)) (without-last n) ∙ ap suc (up-long n))
+    (lt-or-le x n)

@@ -1,0 +1,3 @@
+-- A parity server.
+pub mod Servers
+pub mod Claims
