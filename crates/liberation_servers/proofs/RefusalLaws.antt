@@ -78,6 +78,15 @@ losses-first (suc n) k j ls i r l z e f = ⊎-elim (λ h. first-kept r (lossesFa
         (sym (ap (λ (c : ℕ). lossesFault c k j ls) q) ∙ z)
         (e ∙ ap (λ (c : ℕ). pick (eqb c j) 0 (lossFault k (firstLoss ls c) (secondLoss ls c))) q)
 
+-- the limits of m, and of a server's number
+pub count-of : (m : ℕ) → serversFault m ≡ 0 → (2 ≤ m) × (m ≤ 16)
+count-of m h =
+    let both : (ltb m 2 || ltb 16 m) ≡ false = when-none (ltb m 2 || ltb 16 m) 17 h in
+    (ltb-false m 2 (or-false-l (ltb m 2) (ltb 16 m) both), ltb-false 16 m (or-false-r (ltb m 2) (ltb 16 m) both))
+
+pub server-of : (m j : ℕ) → serverFault m j ≡ 0 → (serversFault m ≡ 0) × (j ≤ m)
+server-of m j h = let x = first-none (serversFault m) (when (ltb m j) 18) h in (x .0, ltb-false m j (when-none (ltb m j) 17 (x .1)))
+
 -- m is no server number over m
 pub server-last : (m : ℕ) → serverFault m m ≡ serversFault m
 server-last m = ap (λ (b : Bool). firstOf (serversFault m) (when b 18)) (le-ltb m m (omega arith)) ∙ first-zero (serversFault m)
@@ -91,15 +100,14 @@ module _ (p k s m : ℕ) (ts : List ℕ) where
       let q = shape-of p k s (x .0) in (
         y .0,
         λ e.
-            let servers : (ltb m 2 || ltb 16 m) ≡ false = when-none (ltb m 2 || ltb 16 m) 17 e in
             record {
               width = q .0;
               some = q .1;
               small = q .2;
               least = q .3;
               most = q .4;
-              few = ltb-false m 2 (or-false-l (ltb m 2) (ltb 16 m) servers);
-              many = ltb-false 16 m (or-false-r (ltb m 2) (ltb 16 m) servers);
+              few = count-of m e .0;
+              many = count-of m e .1;
               long = long-of (serversLong p k s m) ts (y .1);
             },
       )
@@ -114,8 +122,8 @@ module _ (p k s m : ℕ) (ts : List ℕ) where
     unfolding rebuildFault
     parts = first-none (callFault (serverFault m j) p k s m ts) (firstOf (longFault (2 * suc m) ls) (lossesFault (suc m) k j ls)) h
 
-    servers : (serversFault m ≡ 0) × (when (ltb m j) 18 ≡ 0)
-    servers = first-none (serversFault m) (when (ltb m j) 18) (call-of (serverFault m j) (parts .0) .0)
+    servers : (serversFault m ≡ 0) × (j ≤ m)
+    servers = server-of m j (call-of (serverFault m j) (parts .0) .0)
 
     pub rebuild-of : Given p k s m ts
     rebuild-of = call-of (serverFault m j) (parts .0) .1 (servers .0)
@@ -123,4 +131,4 @@ module _ (p k s m : ℕ) (ts : List ℕ) where
     pub rebuild-losses : GivenLosses k m j ls
     rebuild-losses =
         let x = first-none (longFault (2 * suc m) ls) (lossesFault (suc m) k j ls) (parts .1) in
-        record { server = omega (arith, ltb-false m j (when-none (ltb m j) 17 (servers .1))); long = long-of (2 * suc m) ls (x .0); pairs = losses-at (suc m) k j ls (x .1) }
+        record { server = omega (arith, servers .1); long = long-of (2 * suc m) ls (x .0); pairs = losses-at (suc m) k j ls (x .1) }

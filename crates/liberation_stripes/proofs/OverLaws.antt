@@ -62,6 +62,9 @@ in-without x y (z ∷ xs) = go (eqb x z) (eqb y z) refl refl (in-without x y xs)
     go false true e q rest = ap (λ (t : Bool). t || isIn y (without x xs)) q ∙ sym (ap not (ap (λ (n : ℕ). eqb n x) (eqb-true y z q) ∙ eqb-sym z x ∙ e))
     go false false e q rest = ap (λ (t : Bool). t || isIn y (without x xs)) q ∙ rest
 
+pub without-none : (x : ℕ) (xs : List ℕ) → isIn x (without x xs) ≡ false
+without-none x xs = in-without x x xs ∙ ap (λ (b : Bool). isIn x xs && not b) (eq-eqb x x refl) ∙ and-false (isIn x xs)
+
 -- a list that lacks x
 without-absent : (x : ℕ) (xs : List ℕ) → isIn x xs ≡ false → without x xs ≡ xs
 unfolding without

@@ -21,14 +21,15 @@ use Rattle.liberation.proofs.DistinctLaws.{extra-apart}
 use Rattle.liberation.proofs.PlaceLaws.{disk-below}
 use Rattle.liberation_stripes.specs.Stripes.{without, solved, setClean, stripeLong}
 use Rattle.liberation_stripes.proofs.CellLaws.{cell-fits, cells-apart}
-use Rattle.liberation_stripes.proofs.OverLaws.{in-without, without-keeps}
+use Rattle.liberation_stripes.proofs.OverLaws.{without-keeps, without-none}
 use Rattle.xor.specs.Parts.{withPart, xorOffsets}
+use Rattle.xor.specs.Reach.{Reached}
 use Rattle.xor_within.specs.Beside.{Apart}
 use Rattle.offsets.specs.Offsets.{scaled, Pushed}
-use Rattle.offsets.proofs.OffsetLaws.{over-offsets, each-offset}
+use Rattle.offsets.proofs.OffsetLaws.{length-scaled, over-offsets, each-offset, cells-reached}
 use Rattle.offsets.proofs.KeptLaws.{surviving-keeps}
 use Rattle.set_offsets.specs.Cells.{survivors, ordinaryOf, extraIn}
-use Rattle.set_offsets.proofs.SetLists.{survivors-one, survivors-past, set-split, extra-kept, own-row, reached}
+use Rattle.set_offsets.proofs.SetLists.{survivors-one, survivors-past, set-split, extra-kept, own-row}
 use Rattle.stripes.specs.Cells.{Ordinary}
 
 -- the set without its ordinary cell on disk c
@@ -63,12 +64,12 @@ module _ (p k kind i c r : ℕ) (o : Ordinary p k kind i c r) where
           (ap (λ (x : ℕ). isIn x (ordinary p k i)) (sym e) ∙ sym (ap (λ (b : Bool). isIn cell (pick b (rowSet p k i) (ordinary p k i))) (ne-eqb kind 0 n)) ∙ o .own)
           (extra-apart p k i (o .numbered) h))
 
--- offsets of the cells xs, in a list of 33 numbers, lie apart from a cell that is none of them
-module _ (s r n : ℕ) (old at xs t : List ℕ) (room : length at ≡ 33) (pushed : Pushed old at 0 r (scaled s xs)) (below : allBelow n xs ≡ true) (long : length t ≡ n * s) where
-  apart-from : (x : ℕ) → x < n → isIn x xs ≡ false → Apart (x * s) s (length t) (take r at)
+-- offsets of the cells xs, up to 100, lie apart from a cell that is none of them
+module _ (s r n : ℕ) (old at xs t : List ℕ) (few : length xs ≤ 100) (pushed : Pushed old at 0 r (scaled s xs)) (below : allBelow n xs ≡ true) (long : length t ≡ n * s) where
+  pub apart-from : (x : ℕ) → x < n → isIn x xs ≡ false → Apart (x * s) s (length t) (take r at)
   apart-from x h none =
       record {
-        sources = reached s r n old at xs t room pushed below long;
+        sources = subst (Reached s (length t)) (sym (pushed .list)) (cells-reached s n (length t) xs below (omega arith) few);
         fits = omega (arith, cell-fits n s x h);
         apart = subst (λ (l : List ℕ). (i : ℕ) → i < length l → (getD l i 0 + s ≤ x * s) ⊎ (x * s + s ≤ getD l i 0)) (sym (pushed .list)) (each-offset (λ a. (a + s ≤ x * s) ⊎ (x * s + s ≤ a)) s xs apart);
       }
@@ -78,6 +79,10 @@ module _ (s r n : ℕ) (old at xs t : List ℕ) (room : length at ≡ 33) (pushe
 
       apart : (i : ℕ) → i < length xs → (getD xs i 0 * s + s ≤ x * s) ⊎ (x * s + s ≤ getD xs i 0 * s)
       apart i l = cells-apart s (getD xs i 0) x (other i l)
+
+-- their XOR put at the cell x, of a set xs without x, is the set's step
+pub step-put : (s x n : ℕ) (xs old at t u : List ℕ) → Pushed old at 0 n (scaled s (without x xs)) → u ≡ withPart s (x * s) (xorOffsets s t (take n at)) t → u ≡ solved s x xs t
+step-put s x n xs old at t u pushed e = e ∙ ap (λ (l : List ℕ). withPart s (x * s) l t) (ap (xorOffsets s t) (pushed .list) ∙ over-offsets s t (without x xs))
 
 -- an ordinary cell of a set is a cell of the stripe
 module _ (p k kind i c r : ℕ) (o : Ordinary p k kind i c r) where
@@ -98,13 +103,10 @@ module _ (p k kind i c r : ℕ) (o : Ordinary p k kind i c r) where
     in-stripe = kept-below (without-keeps (place p r c)) (p * (k + 2)) (setOf p k kind i) (set-below p k kind i (o .numbered))
 
     pub others-apart : Apart (place p r c * s) s (length t) (take n at)
-    others-apart = apart-from s n (p * (k + 2)) old at (without (place p r c) (setOf p k kind i)) t room list in-stripe (long ∙ omega arith) (place p r c) own-below none
-      where
-        none : isIn (place p r c) (without (place p r c) (setOf p k kind i)) ≡ false
-        none = in-without (place p r c) (place p r c) (setOf p k kind i) ∙ ap (λ (b : Bool). isIn (place p r c) (setOf p k kind i) && not b) (eq-eqb (place p r c) (place p r c) refl) ∙ and-false (isIn (place p r c) (setOf p k kind i))
+    others-apart = apart-from s n (p * (k + 2)) old at (without (place p r c) (setOf p k kind i)) t (omega (arith, list .count, list .fits, length-scaled s (without (place p r c) (setOf p k kind i)))) list in-stripe (long ∙ omega arith) (place p r c) own-below (without-none (place p r c) (setOf p k kind i))
 
     pub others-solve : (u : List ℕ) → u ≡ withPart s (place p r c * s) (xorOffsets s t (take n at)) t → u ≡ solved s (place p r c) (setOf p k kind i) t
-    others-solve u e = e ∙ ap (λ (l : List ℕ). withPart s (place p r c * s) l t) (ap (xorOffsets s t) (list .list) ∙ over-offsets s t (without (place p r c) (setOf p k kind i)))
+    others-solve u e = step-put s (place p r c) n (setOf p k kind i) old at t u list e
 
 -- all cells of a set are pushed where no disk is lost, so their XOR tells whether the set is clean
 pub none-lost : (p k s kind i n : ℕ) (old at t : List ℕ) (r : Bool) → i < p → Pushed old at 0 n (scaled s (survivors p (k + 2) (k + 2) (setOf p k kind i))) → r ≡ same (xorOffsets s t (take n at)) (replicate s 0) → r ≡ setClean p k s t kind i

@@ -1,0 +1,2 @@
+-- What mending a server asks.
+pub mod Turns

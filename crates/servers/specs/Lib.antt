@@ -1,0 +1,2 @@
+-- What writing and rebuilding a server promise.
+pub mod Says
