@@ -1,0 +1,3 @@
+-- Theorems about the parity server, from the promises of the calls alone.
+pub mod Servers
+pub mod Losses
