@@ -1,5 +1,6 @@
 /* Times encode, check, the rebuild of one and of two data disks, the update of
-   a cell, the scrub and the tested rebuild, and prints the results as Markdown.
+   a cell, the scrub, the tested rebuild and the stripe of a parity server, and
+   prints the results as Markdown.
 
    Time is processor time of the thread. In a round each contestant is timed
    once, in an order that turns from round to round. A run has rounds for every
@@ -8,6 +9,7 @@
 #include "clock.h"
 #include "results.h"
 #include "scrub.h"
+#include "servers.h"
 #include "update.h"
 
 #include <stdio.h>
@@ -196,6 +198,7 @@ int main(int argc, char **argv)
     print_results();
     print_updates(rounds);
     print_scrubs(rounds);
+    print_servers(rounds);
     for (int array = 0; array < ARRAYS; array++) {
         close_array(&arrays[array]);
     }

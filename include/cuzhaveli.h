@@ -43,6 +43,7 @@ extern "C" {
 
 #define CUZHAVELI_MAX_WIDTH 31
 #define CUZHAVELI_MAX_CELL_SIZE 4096
+#define CUZHAVELI_MAX_SERVERS 16          /* without the parity server */
 #define CUZHAVELI_MAX_STRIPES 4294967295u /* of one run; cuzhaveli_package_space can give more */
 #define CUZHAVELI_MAX_FILES 4096          /* of a package */
 #define CUZHAVELI_TEXT_BYTES 263          /* room for a plan that is written as text */
@@ -52,8 +53,13 @@ extern "C" {
 #define CUZHAVELI_COLUMN_BYTES(shape) ((shape).width * (shape).cell_size)           /* a disk's part of a stripe */
 #define CUZHAVELI_DATA_BYTES(shape) ((shape).disks * CUZHAVELI_COLUMN_BYTES(shape)) /* a stripe's film */
 #define CUZHAVELI_STRIPE_BYTES(shape) (((shape).disks + 2) * CUZHAVELI_COLUMN_BYTES(shape))
+#define CUZHAVELI_SERVERS_BYTES(shape, m) (((size_t)(m) + 1) * CUZHAVELI_STRIPE_BYTES(shape)) /* of all servers */
+#define CUZHAVELI_LOSSES_BYTES(m) ((size_t)2 * ((size_t)(m) + 1))                             /* of all servers */
 #define CUZHAVELI_LIST_BYTES(p, k) (((size_t)(k) + 2) * (size_t)(p)) /* a read list */
 #define CUZHAVELI_PLAN_BYTES(p) ((size_t)3 * (size_t)(p))            /* a plan for the judge */
+
+/* A byte of a server's losses that names no disk. */
+#define CUZHAVELI_NO_LOSS 255
 
 /* The place of a cell in a read list; times the cell size, its first byte in a stripe. */
 #define CUZHAVELI_CELL(p, row, disk) ((size_t)(disk) * (size_t)(p) + (size_t)(row))
@@ -77,6 +83,7 @@ enum cuzhaveli_refusal {
     CUZHAVELI_NO_SUCH_ROW = 15,       /* a row number of p or more */
     CUZHAVELI_BAD_RATE = 16,          /* a rate of more than 1000 cents a GiB */
     CUZHAVELI_TOO_MANY_BYTES = 17,    /* a bill of more than 2^54 bytes */
+    CUZHAVELI_NO_SUCH_SERVER = 18,    /* m servers under 2 or over 16, or a server number over m */
     CUZHAVELI_SURVIVORS_DISAGREE = 19, /* the surviving disks are those of no clean stripe; tested last */
     CUZHAVELI_NO_SUCH_ARRAY = 20,     /* an array number beyond the list, or a list of more than 64; tested first */
     CUZHAVELI_DISK_UNCHANGED = 21,    /* a loss of a lost disk, or a return of a present one; tested last */
@@ -310,6 +317,26 @@ struct cuzhaveli_answer cuzhaveli_rebuild_two(struct cuzhaveli_shape shape, size
  * same cell, the last one stands. Refuses 1, 13, 2, 3 (P and Q too), 5, 15. */
 struct cuzhaveli_answer cuzhaveli_update_cell(struct cuzhaveli_shape shape, size_t row, size_t disk, uint8_t *stripe,
                                               size_t stripe_len, const uint8_t *cell, size_t cell_len);
+
+/* Servers: `servers` of them, m = 2 to 16, with arrays of one shape, and a parity server, number m. Their m + 1 stripes
+ * lie one after another in `stripes`, CUZHAVELI_SERVERS_BYTES(shape, servers) bytes; that of server i starts at byte
+ * i * CUZHAVELI_STRIPE_BYTES(shape). */
+
+/* Writes the parity server's stripe, the last: the XOR of the others, byte by byte. If they are clean, so is it; they
+ * are only read. Refuses 1, 13, 2, 18, 5. */
+struct cuzhaveli_answer cuzhaveli_write_server(struct cuzhaveli_shape shape, size_t servers, uint8_t *stripes,
+                                               size_t stripes_len);
+
+/* Rebuilds the stripe of server `lost`, 0 to m, from the others. These may have lost up to two disks each:
+ * losses[2 * i] and losses[2 * i + 1] are those of server i, CUZHAVELI_NO_LOSS in either for none, in
+ * CUZHAVELI_LOSSES_BYTES(servers) bytes; the lost server's own two bytes are not read. The lost disks are mended first,
+ * in their places: one as cuzhaveli_rebuild_one does, two as cuzhaveli_rebuild_two does. Then the lost server becomes
+ * the XOR of the others. What it and the lost disks held is never used, and no other byte changes. If all m + 1 stripes
+ * were clean and the last the XOR of the rest before the losses, all come back as they were. The stripes are tested for
+ * 5 before the losses; 3 and 4 come server by server. Refuses 1, 13, 2, 18, 5, 3, 4. */
+struct cuzhaveli_answer cuzhaveli_rebuild_server(struct cuzhaveli_shape shape, size_t servers, size_t lost,
+                                                 uint8_t *stripes, size_t stripes_len, const uint8_t *losses,
+                                                 size_t losses_len);
 
 /* Runs: the rebuild of one disk over many stripes, in their order, each rebuilt or skipped. */
 

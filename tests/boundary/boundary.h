@@ -20,6 +20,8 @@ extern __typeof__(cuzhaveli_scrub_stripe) second_scrub_stripe;
 extern __typeof__(cuzhaveli_rebuild_one) second_rebuild_one;
 extern __typeof__(cuzhaveli_rebuild_tested) second_rebuild_tested;
 extern __typeof__(cuzhaveli_update_cell) second_update_cell;
+extern __typeof__(cuzhaveli_write_server) second_write_server;
+extern __typeof__(cuzhaveli_rebuild_server) second_rebuild_server;
 extern __typeof__(cuzhaveli_open_run) second_open_run;
 extern __typeof__(cuzhaveli_step_run) second_step_run;
 extern __typeof__(cuzhaveli_skip_stripe) second_skip_stripe;
@@ -42,6 +44,7 @@ size_t any_width(struct random *r);
 size_t any_disks(struct random *r, size_t width);
 size_t any_disk(struct random *r, size_t disks);
 size_t any_row(struct random *r, size_t width);
+size_t any_servers(struct random *r);
 size_t any_length(struct random *r, size_t right);
 struct cuzhaveli_shape any_shape(struct random *r);
 bool is_shape(struct cuzhaveli_shape shape);
@@ -64,7 +67,7 @@ void set_content(struct lent *lent);
 bool lent_agrees(const struct lent *lent);
 
 /* calls.c: one random call each; false if the library and the second implementation differ. */
-#define CALLS 23
+#define CALLS 25
 struct caller {
     struct random random;
     struct lent first, second;

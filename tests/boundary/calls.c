@@ -6,8 +6,8 @@
 #include <string.h>
 
 enum {
-    PLAN, LIST, JUDGE, TEXT, WRITE, PLAIN, SPACE, ENCODE, CHECK, SCRUB, ONE, TESTED, TWO, UPDATE, OPEN, STEP, SKIP,
-    PROGRESS, FULL, DISKS, BYTES, BILL, REPORT
+    PLAN, LIST, JUDGE, TEXT, WRITE, PLAIN, SPACE, ENCODE, CHECK, SCRUB, ONE, TESTED, TWO, UPDATE, EXTRA, SERVER, OPEN,
+    STEP, SKIP, PROGRESS, FULL, DISKS, BYTES, BILL, REPORT
 };
 
 #define SAY(caller, ...) snprintf((caller)->what, sizeof (caller)->what, __VA_ARGS__)
@@ -409,6 +409,73 @@ static bool update_cell(struct caller *c)
     return same(c, UPDATE, got, wanted) && lent_agrees(stripe) && lent_agrees(cell);
 }
 
+/* A shape whose stripes of many servers have room in the lent memory. */
+static struct cuzhaveli_shape any_server_shape(struct random *r)
+{
+    struct cuzhaveli_shape shape = any_shape(r);
+    if (is_shape(shape) && shape.cell_size > 130)
+        shape.cell_size = 1 + below(r, 130);
+    return shape;
+}
+
+/* Lends the stripes of all servers, clean ones mostly, with the parity server's written. */
+static void lend_servers(struct caller *c, struct cuzhaveli_shape shape, size_t servers)
+{
+    struct lent *stripes = &c->first;
+    bool good = is_shape(shape) && servers >= 2 && servers <= CUZHAVELI_MAX_SERVERS;
+    lend(stripes, &c->random, good ? CUZHAVELI_SERVERS_BYTES(shape, servers) : below(&c->random, 400), c->at_end);
+    if (!good || !stripes->bytes || stripes->length != CUZHAVELI_SERVERS_BYTES(shape, servers) || once_in(&c->random, 3))
+        return;
+    for (size_t i = 0; i < servers; i++)
+        second_encode_stripe(shape, stripes->same + i * CUZHAVELI_STRIPE_BYTES(shape), CUZHAVELI_STRIPE_BYTES(shape));
+    second_write_server(shape, servers, stripes->same, stripes->same_length);
+    set_content(stripes);
+}
+
+static bool write_server(struct caller *c)
+{
+    struct cuzhaveli_shape shape = any_server_shape(&c->random);
+    size_t servers = any_servers(&c->random);
+    struct lent *stripes = &c->first;
+    lend_servers(c, shape, servers);
+    SAY(c, "cuzhaveli_write_server(" SHAPE ", %zu, %p, %zu)", OF(shape), servers, (void *)stripes->bytes, stripes->length);
+    struct cuzhaveli_answer got = cuzhaveli_write_server(shape, servers, stripes->bytes, stripes->length);
+    struct cuzhaveli_answer wanted = second_write_server(shape, servers, stripes->same, stripes->same_length);
+    return same(c, EXTRA, got, wanted) && lent_agrees(stripes);
+}
+
+/* Losses of the servers: none, a disk, or two; a number over the last disk, or one disk twice, now and then. */
+static void lend_losses(struct caller *c, struct cuzhaveli_shape shape, size_t servers)
+{
+    struct random *r = &c->random;
+    struct lent *losses = &c->second;
+    lend(losses, r, servers <= CUZHAVELI_MAX_SERVERS ? CUZHAVELI_LOSSES_BYTES(servers) : below(r, 40), c->at_end);
+    if (!losses->bytes)
+        return;
+    for (size_t i = 0; i < losses->length; i++)
+        losses->same[i] = once_in(r, 2) ? CUZHAVELI_NO_LOSS : (uint8_t)below(r, shape.disks % 64 + 2);
+    if (losses->length > 0 && once_in(r, 8))
+        losses->same[below(r, losses->length)] = (uint8_t)next_number(r);
+    set_content(losses);
+}
+
+static bool rebuild_server(struct caller *c)
+{
+    struct random *r = &c->random;
+    struct cuzhaveli_shape shape = any_server_shape(r);
+    size_t servers = any_servers(r), lost = once_in(r, 16) ? servers + 1 : below(r, servers % 32 + 1);
+    struct lent *stripes = &c->first, *losses = &c->second;
+    lend_servers(c, shape, servers);
+    lend_losses(c, shape, servers);
+    SAY(c, "cuzhaveli_rebuild_server(" SHAPE ", %zu, %zu, %p, %zu, %p, %zu)", OF(shape), servers, lost,
+        (void *)stripes->bytes, stripes->length, (void *)losses->bytes, losses->length);
+    struct cuzhaveli_answer got = cuzhaveli_rebuild_server(shape, servers, lost, stripes->bytes, stripes->length,
+                                                           losses->bytes, losses->length);
+    struct cuzhaveli_answer wanted = second_rebuild_server(shape, servers, lost, stripes->same, stripes->same_length,
+                                                           losses->same, losses->same_length);
+    return same(c, SERVER, got, wanted) && lent_agrees(stripes) && lent_agrees(losses);
+}
+
 static bool open_run(struct caller *c)
 {
     struct cuzhaveli_shape shape = any_shape(&c->random);
@@ -608,6 +675,8 @@ const struct call CALL[CALLS] = {
     [TESTED] = {"cuzhaveli_rebuild_tested", rebuild_tested},
     [TWO] = {"cuzhaveli_rebuild_two", rebuild_two},
     [UPDATE] = {"cuzhaveli_update_cell", update_cell},
+    [EXTRA] = {"cuzhaveli_write_server", write_server},
+    [SERVER] = {"cuzhaveli_rebuild_server", rebuild_server},
     [OPEN] = {"cuzhaveli_open_run", open_run},
     [STEP] = {"cuzhaveli_step_run", step_run},
     [SKIP] = {"cuzhaveli_skip_stripe", skip_stripe},

@@ -73,6 +73,14 @@ size_t any_row(struct random *r, size_t width)
     return below(r, width);
 }
 
+/* Two to five servers, mostly. */
+size_t any_servers(struct random *r)
+{
+    if (once_in(r, 16))
+        return once_in(r, 2) ? any_number(r) : 17;
+    return once_in(r, 8) ? 2 + below(r, 15) : 2 + below(r, 4);
+}
+
 static size_t any_cell_size(struct random *r, size_t width)
 {
     if (once_in(r, 16))

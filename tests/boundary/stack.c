@@ -10,6 +10,7 @@
 #define STACK (256 * 1024)
 #define PAINT 0xC7
 #define LONGEST (33 * 31 * 4096)
+#define SERVERS 3
 
 static uint8_t *painted, *stripe, *column;
 static struct cuzhaveli_shape shape;
@@ -42,6 +43,14 @@ static void rebuild_one(void) { sink = cuzhaveli_rebuild_one(shape, lost, stripe
 static void rebuild_tested(void) { sink = cuzhaveli_rebuild_tested(shape, lost, stripe, CUZHAVELI_STRIPE_BYTES(shape), column, CUZHAVELI_COLUMN_BYTES(shape)).refusal; }
 static void rebuild_two(void) { sink = cuzhaveli_rebuild_two(shape, lost, other, stripe, CUZHAVELI_STRIPE_BYTES(shape)).refusal; }
 static void update_cell(void) { sink = cuzhaveli_update_cell(shape, shape.width - 1 - other % 2, lost % shape.disks, stripe, CUZHAVELI_STRIPE_BYTES(shape), column, shape.cell_size).refusal; }
+
+/* One server has lost these two disks, one a single disk, and the extra one none. */
+static void server_calls(void)
+{
+    uint8_t losses[CUZHAVELI_LOSSES_BYTES(SERVERS)] = {(uint8_t)lost, (uint8_t)other, 0, 0, (uint8_t)lost, CUZHAVELI_NO_LOSS, CUZHAVELI_NO_LOSS, CUZHAVELI_NO_LOSS};
+    sink = cuzhaveli_write_server(shape, SERVERS, stripe, CUZHAVELI_SERVERS_BYTES(shape, SERVERS)).refusal;
+    sink = cuzhaveli_rebuild_server(shape, SERVERS, 1, stripe, CUZHAVELI_SERVERS_BYTES(shape, SERVERS), losses, sizeof losses).refusal;
+}
 
 static void run_calls(void)
 {
@@ -87,6 +96,7 @@ static struct { const char *name; void (*make)(void); size_t most; } MADE[] = {
     {"cuzhaveli_rebuild_tested", rebuild_tested, 0},
     {"cuzhaveli_rebuild_two", rebuild_two, 0},
     {"cuzhaveli_update_cell", update_cell, 0},
+    {"calls on servers", server_calls, 0},
     {"calls on runs", run_calls, 0},
     {"records and bills", records, 0},
     {"cuzhaveli_report_disk", report_disk, 0}, /* the list of 1536 bytes among them */
@@ -135,7 +145,7 @@ bool stack_is_small(void)
     static const size_t WIDTHS[] = {3, 7, 17, 31}, SIZES[] = {1, 64, 700, 4096};
     bool small = true;
     painted = malloc(STACK);
-    stripe = calloc(LONGEST, 1);
+    stripe = calloc(SERVERS + 1, LONGEST);
     column = calloc(LONGEST, 1);
     if (!painted || !stripe || !column) {
         fprintf(stderr, "boundary: no memory for the measurement of the stack; free some\n");

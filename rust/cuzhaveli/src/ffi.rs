@@ -266,6 +266,23 @@ extern "C" {
         cell_len: usize,
     ) -> Answer;
 
+    pub fn cuzhaveli_write_server(
+        shape: Shape,
+        servers: usize,
+        stripes: *mut u8,
+        stripes_len: usize,
+    ) -> Answer;
+
+    pub fn cuzhaveli_rebuild_server(
+        shape: Shape,
+        servers: usize,
+        lost: usize,
+        stripes: *mut u8,
+        stripes_len: usize,
+        losses: *const u8,
+        losses_len: usize,
+    ) -> Answer;
+
     pub fn cuzhaveli_open_run(shape: Shape, lost: usize, stripes: u32) -> RunAnswer;
 
     pub fn cuzhaveli_step_run(

@@ -45,5 +45,5 @@ pub use plan::{Plan, Set, Step};
 pub use read_list::ReadList;
 pub use refusal::{Refusal, RefusalKind};
 pub use run::Run;
-pub use shape::{Scrub, Shape, Space};
+pub use shape::{Scrub, Shape, Space, NO_LOSS};
 pub use states::{report_disk, ArrayState, Totals};

@@ -55,6 +55,7 @@ kinds! {
     NoSuchRow = 15, "the array has no row of that number";
     BadRate = 16, "a rate is over 1000 cents a GiB";
     TooManyBytes = 17, "the bill has more than 2^54 bytes";
+    NoSuchServer = 18, "the servers are fewer than 2 or more than 16, or there is none of that number";
     SurvivorsDisagree = 19, "the surviving disks are those of no clean stripe";
     NoSuchArray = 20, "the list has no array of that number, or more than 64 arrays";
     DiskUnchanged = 21, "the disk reported lost is lost, or the one reported back is not";

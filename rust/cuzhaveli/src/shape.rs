@@ -8,6 +8,9 @@ use crate::{ffi, Plan, ReadList, Refusal, Run, Step};
 #[derive(Clone, Copy, Debug, PartialEq, Eq)]
 pub struct Shape(ffi::Shape);
 
+/// A byte of a server's losses that names no disk.
+pub const NO_LOSS: u8 = 255;
+
 /// The space that a package takes.
 #[derive(Clone, Copy, Debug, PartialEq, Eq)]
 pub struct Space {
@@ -419,6 +422,79 @@ impl Shape {
         let (cell, cell_len) = (cell.as_ptr(), cell.len());
         let answer = unsafe {
             ffi::cuzhaveli_update_cell(self.0, row, disk, stripe, stripe_len, cell, cell_len)
+        };
+        answer.accepted()
+    }
+
+    /// Where the stripe of a server stands among those of several, which lie one after another; the parity server's is
+    /// the last.
+    ///
+    /// ```
+    /// # let shape = cuzhaveli::Shape::new(7, 5, 512)?;
+    /// assert_eq!(shape.server_range(2), 2 * shape.stripe_len()..3 * shape.stripe_len());
+    /// # Ok::<(), cuzhaveli::Refusal>(())
+    /// ```
+    pub fn server_range(self, server: usize) -> Range<usize> {
+        server * self.stripe_len()..(server + 1) * self.stripe_len()
+    }
+
+    /// Writes the stripe of a parity server, the last of `servers` + 1 that lie one after another: the XOR of the
+    /// others, byte by byte. If they are clean, so is it. Refuses 18 for other than 2 to 16 servers, then 5.
+    ///
+    /// ```
+    /// let shape = cuzhaveli::Shape::new(3, 2, 1)?;
+    /// let mut stripes = [[1, 8, 64, 2, 16, 128, 3, 24, 192, 17, 152, 66], [0xFF; 12], [0; 12]].concat();
+    /// shape.encode(&mut stripes[shape.server_range(1)])?;
+    /// shape.write_server(2, &mut stripes)?;
+    /// assert!((0..12).all(|i| stripes[24 + i] == stripes[i] ^ stripes[12 + i]));
+    /// assert!(shape.is_clean(&stripes[shape.server_range(2)])?);
+    /// # Ok::<(), cuzhaveli::Refusal>(())
+    /// ```
+    pub fn write_server(self, servers: usize, stripes: &mut [u8]) -> Result<(), Refusal> {
+        let (stripes, stripes_len) = (stripes.as_mut_ptr(), stripes.len());
+        unsafe { ffi::cuzhaveli_write_server(self.0, servers, stripes, stripes_len) }.accepted()
+    }
+
+    /// Rebuilds a lost server, one of `servers` + 1 with the parity server, from the others. These may have lost up to
+    /// two disks each, `losses`, [`NO_LOSS`](crate::NO_LOSS) for none: they are mended first, in their places. The lost
+    /// server's own pair is not read. If all stripes were clean and the last the XOR of the rest before the losses, all
+    /// come back. Refuses 18, 5 (the stripes, then other than `servers` + 1 pairs), then 3 and 4 server by server.
+    ///
+    /// ```
+    /// use cuzhaveli::NO_LOSS;
+    ///
+    /// let shape = cuzhaveli::Shape::new(3, 2, 1)?;
+    /// let mut stripes = [[1, 8, 64, 2, 16, 128, 3, 24, 192, 17, 152, 66], [0xFF; 12], [0; 12]].concat();
+    /// shape.encode(&mut stripes[shape.server_range(1)])?;
+    /// shape.write_server(2, &mut stripes)?;
+    /// let before = stripes.clone();
+    /// stripes[shape.server_range(0)].fill(0xEE); // server 0 lost whole
+    /// stripes[shape.server_range(1)][..6].fill(0xEE); // disks 0 and 1 of server 1
+    /// let losses = [[NO_LOSS; 2], [0, 1], [NO_LOSS; 2]];
+    /// shape.rebuild_server(2, 0, &mut stripes, &losses)?;
+    /// assert_eq!(stripes, before);
+    /// assert_eq!(shape.rebuild_server(2, 3, &mut stripes, &losses).unwrap_err().number(), 18);
+    /// # Ok::<(), cuzhaveli::Refusal>(())
+    /// ```
+    pub fn rebuild_server(
+        self,
+        servers: usize,
+        lost: usize,
+        stripes: &mut [u8],
+        losses: &[[u8; 2]],
+    ) -> Result<(), Refusal> {
+        let (stripes, stripes_len) = (stripes.as_mut_ptr(), stripes.len());
+        let (losses, losses_len) = (losses.as_ptr().cast(), 2 * losses.len());
+        let answer = unsafe {
+            ffi::cuzhaveli_rebuild_server(
+                self.0,
+                servers,
+                lost,
+                stripes,
+                stripes_len,
+                losses,
+                losses_len,
+            )
         };
         answer.accepted()
     }

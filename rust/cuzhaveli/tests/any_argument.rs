@@ -3,6 +3,7 @@
 use cuzhaveli::ffi::{self, DisksRun, FullRun};
 use cuzhaveli::{
     bill, report_disk, ArrayState, Refusal, RefusalKind, Run, Scrub, Set, Shape, Step, Totals,
+    NO_LOSS,
 };
 
 const WIDTHS: [usize; 10] = [3, 5, 7, 11, 13, 17, 19, 23, 29, 31];
@@ -167,6 +168,58 @@ fn survivors_of_no_clean_stripe_give_19_and_the_column_stands() {
             let refusal = shape.rebuild_tested(lost, &stripe, &mut column).unwrap_err();
             assert_eq!(refusal.kind(), RefusalKind::SurvivorsDisagree);
             assert_eq!(column, clean[shape.disk_range(lost)]);
+        }
+    }
+}
+
+#[test]
+fn servers_are_refused_and_stand() {
+    for shape in shapes() {
+        let disks = shape.disks() as u8;
+        let mut stripes = vec![7; 3 * shape.stripe_len()];
+        for servers in HUGE.into_iter().chain([0, 1, 17]) {
+            assert_eq!(number(shape.write_server(servers, &mut stripes)), 18);
+            assert_eq!(number(shape.rebuild_server(servers, 0, &mut stripes, &[])), 18);
+            assert_eq!(number(shape.rebuild_server(2, servers.max(3), &mut stripes, &[])), 18);
+        }
+        for other in other_lengths(3 * shape.stripe_len()) {
+            assert_eq!(number(shape.write_server(2, &mut vec![7; other])), 5);
+            let none = [[NO_LOSS; 2]; 3];
+            assert_eq!(number(shape.rebuild_server(2, 0, &mut vec![7; other], &none)), 5);
+        }
+        for pairs in [0, 2, 4] {
+            let none = vec![[NO_LOSS; 2]; pairs];
+            assert_eq!(number(shape.rebuild_server(2, 0, &mut stripes, &none)), 5);
+        }
+        for (pair, refusal) in [([disks + 2, NO_LOSS], 3), ([0, 254], 3), ([disks, disks], 4)] {
+            let losses = [[200, 200], [0, 1], pair]; // the lost server's pair is not read
+            assert_eq!(number(shape.rebuild_server(2, 0, &mut stripes, &losses)), refusal);
+        }
+        assert!(stripes.iter().all(|byte| *byte == 7));
+    }
+}
+
+#[test]
+fn every_server_comes_back() {
+    for shape in shapes() {
+        let data = (0..4 * shape.stripe_len()).map(|i| (i * 37 % 251) as u8);
+        let mut before: Vec<u8> = data.collect();
+        for server in 0..3 {
+            shape.encode(&mut before[shape.server_range(server)]).unwrap();
+        }
+        shape.write_server(3, &mut before).unwrap();
+        for lost in 0..4 {
+            let mut stripes = before.clone();
+            stripes[shape.server_range(lost)].fill(0xEE);
+            let mut losses = [[NO_LOSS; 2]; 4];
+            losses[(lost + 1) % 4] = [shape.disks() as u8 + 1, 0];
+            losses[(lost + 2) % 4] = [NO_LOSS, 1];
+            for disk in [0, shape.disks() + 1] {
+                stripes[shape.server_range((lost + 1) % 4)][shape.disk_range(disk)].fill(0xEE);
+            }
+            stripes[shape.server_range((lost + 2) % 4)][shape.disk_range(1)].fill(0xEE);
+            shape.rebuild_server(3, lost, &mut stripes, &losses).unwrap();
+            assert_eq!(stripes, before);
         }
     }
 }

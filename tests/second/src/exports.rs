@@ -11,7 +11,7 @@ use crate::ffi::{
 };
 use crate::groups::{
     billing, judge, plan, plan_files, read_list, rebuild_one, rebuild_tested, rebuild_two, runs,
-    scrub, space, states, stripes, update,
+    scrub, servers, space, states, stripes, update,
 };
 
 #[no_mangle]
@@ -190,6 +190,35 @@ pub unsafe extern "C" fn second_update_cell(
 ) -> Answer {
     let stripe = from_raw_parts_mut(stripe, stripe_len);
     update::model::update_cell(shape, (row, disk), stripe, from_raw_parts(cell, cell_len))
+}
+
+/// # Safety
+/// `stripes` is lent: see above.
+#[no_mangle]
+pub unsafe extern "C" fn second_write_server(
+    shape: Shape,
+    servers: usize,
+    stripes: *mut u8,
+    stripes_len: usize,
+) -> Answer {
+    servers::model::write_server(shape, servers, from_raw_parts_mut(stripes, stripes_len))
+}
+
+/// # Safety
+/// `stripes` and `losses` are lent: see above.
+#[no_mangle]
+pub unsafe extern "C" fn second_rebuild_server(
+    shape: Shape,
+    servers: usize,
+    lost: usize,
+    stripes: *mut u8,
+    stripes_len: usize,
+    losses: *const u8,
+    losses_len: usize,
+) -> Answer {
+    let stripes = from_raw_parts_mut(stripes, stripes_len);
+    let losses = from_raw_parts(losses, losses_len);
+    servers::model::rebuild_server(shape, servers, lost, stripes, losses)
 }
 
 #[no_mangle]

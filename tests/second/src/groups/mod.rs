@@ -30,6 +30,7 @@ groups! {
     rebuild_tested,
     rebuild_two,
     update,
+    servers,
     runs,
     billing,
     states,

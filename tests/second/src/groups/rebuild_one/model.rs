@@ -19,7 +19,7 @@ pub fn rebuild_one(shape: Shape, lost: usize, stripe: &[u8], column: &mut [u8]) 
 }
 
 /// The lost disk's cells, rows upward, as the steps of our plan give them.
-fn follow_plan(shape: Shape, lost: usize, stripe: &[u8]) -> Vec<Vec<u8>> {
+pub fn follow_plan(shape: Shape, lost: usize, stripe: &[u8]) -> Vec<Vec<u8>> {
     let mut rebuilt: Rebuilt = vec![None; shape.width];
     for step in our_steps(shape.width, shape.disks, lost) {
         let sum = step_sum(shape, lost, stripe, &step, &rebuilt);
