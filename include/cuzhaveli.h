@@ -17,7 +17,8 @@
  *
  * What is proved, for every argument, is in docs/TRUST.md. What a C caller owes, since no proof sees it:
  *  - a pointer with a length n points to n bytes that may be read (and written, if not const), at any
- *    alignment; it may be NULL if n is not the length required (the call is then refused, at the latest by 5);
+ *    alignment; it may be NULL if n is not the length required (the call is then refused, at the latest by 5), and
+ *    for cuzhaveli_plan_text if n is 0;
  *  - `lengths` points to `lengths_len` numbers that may be read, aligned as uint64_t; it may be NULL if that is 0 or
  *    more than CUZHAVELI_MAX_FILES;
  *  - `run` is not NULL and is aligned as struct cuzhaveli_run;
@@ -41,6 +42,7 @@
 extern "C" {
 #endif
 
+#define CUZHAVELI_VERSION 100 /* 0.1.0, as cuzhaveli_version() says it */
 #define CUZHAVELI_MAX_WIDTH 31
 #define CUZHAVELI_MAX_CELL_SIZE 4096
 #define CUZHAVELI_MAX_SERVERS 16          /* without the parity server */
@@ -77,7 +79,7 @@ enum cuzhaveli_refusal {
     CUZHAVELI_STEP_EARLY = 9,         /* another lost cell of the set is still missing */
     CUZHAVELI_NOT_NEXT = 10,          /* the run is over, the stripe is not its next, or more skipped than passed */
     CUZHAVELI_PACKAGE_TOO_LONG = 11,  /* a package of more than 2^48 bytes, all files together */
-    CUZHAVELI_BAD_TEXT = 12,          /* input of the plan program; no call here gives it */
+    CUZHAVELI_BAD_TEXT = 12,          /* input of the plan program; in its text only, no call answers it */
     CUZHAVELI_BAD_DISKS = 13,         /* k is under 2 or over p; tested right after 1 */
     CUZHAVELI_TOO_MANY_FILES = 14,    /* a package of more than 4096 files; tested just before 11 */
     CUZHAVELI_NO_SUCH_ROW = 15,       /* a row number of p or more */
@@ -148,6 +150,12 @@ struct cuzhaveli_scrubbed {
     struct cuzhaveli_answer answer;
     uint8_t verdict;
     size_t disk;
+};
+
+/* A text: its first `length` bytes, zeros after them. */
+struct cuzhaveli_text {
+    uint8_t bytes[458];
+    size_t length;
 };
 
 /* The stripes that a package takes, the bytes of one disk for them, and whether these are free. */
@@ -242,6 +250,13 @@ struct cuzhaveli_answer cuzhaveli_read_list(size_t width, size_t disks, size_t l
  * `place` is the step. Refuses 1, 13, 3, 5, 6, 7, 8, 9. */
 struct cuzhaveli_judged cuzhaveli_judge_plan(size_t width, size_t disks, size_t lost, const uint8_t *plan,
                                              size_t plan_len);
+
+/* What the plan program prints for an input of input_len bytes, with k = p. The input has the lines `p,lost` and two
+ * numbers such as `5,1`, each of one or two digits without leading zeros, ended by LF; the text has the line
+ * `step,row,set,number,new` and one for each step (set R or D, cells no earlier step read). Refuses nothing. Another
+ * input gives the text `refused,12`, a width or a disk that is not there `refused,1` or `refused,3`. `input` may be
+ * NULL if input_len is 0. */
+struct cuzhaveli_text cuzhaveli_plan_text(const uint8_t *input, size_t input_len);
 
 /* A plan as text, as hosts keep it in files: the line `row,set,number`, then `width` lines, one for each step in order,
  * such as `3,D,2`: the row; R for a row set or D for a diagonal set, or r, d; the set's number. Numbers have one to
@@ -383,6 +398,10 @@ struct cuzhaveli_bill cuzhaveli_bill_bytes(uint64_t bytes, uint64_t first, uint6
 /* The bill of a run: of the cells it has read so far, times the cell size. Refuses 1, 13, 2, 3, 10 (if skipped is
  * above next), 16. */
 struct cuzhaveli_bill cuzhaveli_bill_run(struct cuzhaveli_run run, uint64_t first, uint64_t second, uint64_t third);
+
+/* The version of the archive: 10000 times its first number, 100 times its second, and its third; CUZHAVELI_VERSION is
+ * that of this header. Refuses nothing. */
+uint32_t cuzhaveli_version(void);
 
 #ifdef __cplusplus
 }

@@ -10,6 +10,7 @@
 extern __typeof__(cuzhaveli_plan_disk) second_plan_disk;
 extern __typeof__(cuzhaveli_read_list) second_read_list;
 extern __typeof__(cuzhaveli_judge_plan) second_judge_plan;
+extern __typeof__(cuzhaveli_plan_text) second_plan_text;
 extern __typeof__(cuzhaveli_judge_text) second_judge_text;
 extern __typeof__(cuzhaveli_write_plan) second_write_plan;
 extern __typeof__(cuzhaveli_plain_text) second_plain_text;
@@ -67,7 +68,7 @@ void set_content(struct lent *lent);
 bool lent_agrees(const struct lent *lent);
 
 /* calls.c: one random call each; false if the library and the second implementation differ. */
-#define CALLS 25
+#define CALLS 27
 struct caller {
     struct random random;
     struct lent first, second;

@@ -6,8 +6,8 @@
 #include <string.h>
 
 enum {
-    PLAN, LIST, JUDGE, TEXT, WRITE, PLAIN, SPACE, ENCODE, CHECK, SCRUB, ONE, TESTED, TWO, UPDATE, EXTRA, SERVER, OPEN,
-    STEP, SKIP, PROGRESS, FULL, DISKS, BYTES, BILL, REPORT
+    PLAN, LIST, JUDGE, TEXT, WRITE, PLAIN, PRINTED, SPACE, ENCODE, CHECK, SCRUB, ONE, TESTED, TWO, UPDATE, EXTRA,
+    SERVER, OPEN, STEP, SKIP, PROGRESS, FULL, DISKS, BYTES, BILL, REPORT, VERSION
 };
 
 #define SAY(caller, ...) snprintf((caller)->what, sizeof (caller)->what, __VA_ARGS__)
@@ -135,6 +135,31 @@ static bool judge_plan(struct caller *c)
     struct cuzhaveli_judged got = cuzhaveli_judge_plan(a.width, a.disks, a.lost, plan->bytes, plan->length);
     struct cuzhaveli_judged wanted = second_judge_plan(a.width, a.disks, a.lost, plan->same, plan->same_length);
     return same(c, JUDGE, got.answer, wanted.answer) && got.reads == wanted.reads && lent_agrees(plan);
+}
+
+/* An input of the form, mostly, with a byte of it changed now and then; NULL only with no bytes. */
+static bool plan_text(struct caller *c)
+{
+    struct random *r = &c->random;
+    struct lent *input = &c->first;
+    struct cuzhaveli_answer none = {0, 0};
+    char text[60];
+    size_t width = any_width(r);
+    size_t length = (size_t)snprintf(text, sizeof text, "p,lost\n%zu,%zu\n", width, any_disk(r, width));
+    lend(input, r, length, c->at_end);
+    if (!input->bytes)
+        input->length = 0;
+    if (input->length == length) {
+        memcpy(input->same, text, length);
+        if (once_in(r, 3))
+            input->same[below(r, length)] = (uint8_t)(once_in(r, 2) ? '0' + below(r, 10) : next_number(r));
+        set_content(input);
+    }
+    SAY(c, "cuzhaveli_plan_text(%p, %zu)", (void *)input->bytes, input->length);
+    struct cuzhaveli_text got = cuzhaveli_plan_text(input->bytes, input->length);
+    struct cuzhaveli_text wanted = second_plan_text(input->same, input->same_length);
+    return same(c, PRINTED, none, none) && got.length == wanted.length &&
+           memcmp(got.bytes, wanted.bytes, sizeof got.bytes) == 0 && lent_agrees(input);
 }
 
 /* How many files: few, now and then about as many as there may be, or any number. */
@@ -595,6 +620,13 @@ static bool bill_run(struct caller *c)
     return same(c, BILL, got.answer, wanted.answer) && same_bill(got, wanted);
 }
 
+static bool version(struct caller *c)
+{
+    struct cuzhaveli_answer none = {0, 0};
+    SAY(c, "cuzhaveli_version()");
+    return same(c, VERSION, none, none) && cuzhaveli_version() == CUZHAVELI_VERSION;
+}
+
 /* An array with few of its disks lost, mostly; now and then with any numbers, or a disk over k + 1. */
 static struct cuzhaveli_array_state any_state(struct random *r, bool good)
 {
@@ -664,6 +696,7 @@ const struct call CALL[CALLS] = {
     [PLAN] = {"cuzhaveli_plan_disk", plan_disk},
     [LIST] = {"cuzhaveli_read_list", read_list},
     [JUDGE] = {"cuzhaveli_judge_plan", judge_plan},
+    [PRINTED] = {"cuzhaveli_plan_text", plan_text},
     [TEXT] = {"cuzhaveli_judge_text", judge_text},
     [WRITE] = {"cuzhaveli_write_plan", write_plan},
     [PLAIN] = {"cuzhaveli_plain_text", plain_text},
@@ -686,4 +719,5 @@ const struct call CALL[CALLS] = {
     [BYTES] = {"cuzhaveli_bill_bytes", bill_bytes},
     [BILL] = {"cuzhaveli_bill_run", bill_run},
     [REPORT] = {"cuzhaveli_report_disk", report_disk},
+    [VERSION] = {"cuzhaveli_version", version},
 };

@@ -24,6 +24,7 @@ static void nothing(void) { }
 static void plan_disk(void) { sink = cuzhaveli_plan_disk(shape.width, shape.disks, lost).answer.refusal; }
 static void read_list(void) { sink = cuzhaveli_read_list(shape.width, shape.disks, lost, column, CUZHAVELI_LIST_BYTES(shape.width, shape.disks)).refusal; }
 static void judge_plan(void) { sink = cuzhaveli_judge_plan(shape.width, shape.disks, lost, stripe, CUZHAVELI_PLAN_BYTES(shape.width)).answer.refusal; }
+static void plan_text(void) { sink = cuzhaveli_plan_text((const uint8_t *)"p,lost\n31,30\n", 13).bytes[0]; }
 static void judge_text(void) { sink = cuzhaveli_judge_text(shape.width, shape.disks, lost, text, text_len).answer.refusal; }
 static void write_plan(void) { sink = cuzhaveli_write_plan(shape.width, shape.disks, lost, plan, CUZHAVELI_PLAN_BYTES(shape.width), column, CUZHAVELI_TEXT_BYTES).answer.refusal; }
 static void plain_text(void) { sink = cuzhaveli_plain_text(shape.width, shape.disks, lost, text, text_len, column, CUZHAVELI_TEXT_BYTES).answer.refusal; }
@@ -67,6 +68,7 @@ static void records(void)
     struct cuzhaveli_disks_run disks = {shape, 1, 4, 2};
     sink = (uint8_t)(cuzhaveli_resume_full_run(full).next + cuzhaveli_resume_disks_run(disks).next);
     sink = cuzhaveli_bill_bytes((uint64_t)1 << 50, 1, 2, 3).answer.refusal;
+    sink = (uint8_t)cuzhaveli_version();
 }
 
 static void report_disk(void)
@@ -85,6 +87,7 @@ static struct { const char *name; void (*make)(void); size_t most; } MADE[] = {
     {"cuzhaveli_plan_disk", plan_disk, 0},
     {"cuzhaveli_read_list", read_list, 0},
     {"cuzhaveli_judge_plan", judge_plan, 0},
+    {"cuzhaveli_plan_text", plan_text, 0},
     {"cuzhaveli_judge_text", judge_text, 0},
     {"cuzhaveli_write_plan", write_plan, 0},
     {"cuzhaveli_plain_text", plain_text, 0},

@@ -11,7 +11,8 @@ structs, with the same sizes and offsets; libcuzhaveli.a must define exactly the
 libcuzhaveli_plans.a those of crates/cuzhaveli_plans, which must be among them; an archive must hold
 no data and need nothing but memcpy and memset; the refusals must have one set of names and
 numbers in the header, the crate and the documents; the refusals that the header names for a
-call must be those that it gave in the random calls; theorems that documents name must be there.
+call must be those that it gave in the random calls; header and Makefile must have one version;
+theorems that documents name must be there.
 Exit status 1 if something differs.
 """
 
@@ -26,6 +27,7 @@ EXPORTS = TOP / "crates/cuzhaveli/src/lib.rt"
 PLANS = TOP / "crates/cuzhaveli_plans/src/lib.rt"
 HEADER = TOP / "include/cuzhaveli.h"
 FFI = TOP / "rust/cuzhaveli/src/ffi.rs"
+MAKEFILE = TOP / "Makefile"
 KINDS = TOP / "rust/cuzhaveli/src/refusal.rs"
 TABLES = [TOP / "README.md", TOP / "docs/C.md"]
 GUIDES = [TOP / "docs/TRUST.md", TOP / "docs/PROOFS.md"]
@@ -143,7 +145,8 @@ def read_header():
     text = re.sub(r"^\s*#.*$", "", text, flags=re.M)
     calls = {}
     for result, name, parameters in re.findall(r"([\w ]+?)\s*\b(cuzhaveli_\w+)\(([^)]*)\);", text):
-        calls[name] = [c_named(item) for item in split_list(parameters)] + [("", c_type(result))]
+        items = [] if parameters == "void" else split_list(parameters)
+        calls[name] = [c_named(item) for item in items] + [("", c_type(result))]
     structs = {}
     for name, fields in re.findall(r"struct (cuzhaveli_\w+) \{(.*?)\};", text, re.S):
         fields = [field for field in fields.split(";") if field.strip()]
@@ -278,6 +281,15 @@ def check_refusals():
     return len(wanted) - 1
 
 
+def check_version():
+    """The version that the Makefile gives to a release is the header's, which tests/boundary holds to the archive's."""
+    numbers = re.search(r"^VERSION = (\d+)\.(\d+)\.(\d+)$", MAKEFILE.read_text(), re.M)
+    first, second, third = map(int, numbers.groups())
+    header = int(re.search(r"#define CUZHAVELI_VERSION (\d+)", HEADER.read_text())[1])
+    if header != 10000 * first + 100 * second + third:
+        differs(f"version {header}; the Makefile has {'.'.join(numbers.groups())}", HEADER, "give both the same version")
+
+
 def check_guides():
     """The files and the theorems that the pages on trust and proofs name are there."""
     proofs = "\n".join(path.read_text() for path in TOP.glob("crates/*/proofs/*.antt"))
@@ -295,7 +307,7 @@ def check_given(boundary):
     """The refusals that the header names for each call, and those that the random calls gave."""
     seen = {name: set(map(int, numbers.split())) for name, numbers in re.findall(r"^refused (\w+):(.*)$", boundary.read_text(), re.M)}
     named_in = {}
-    for comment, calls in re.findall(r"/\*((?:(?!\*/).)*)\*/\n((?:struct[^;{}]*\([^;{}]*\);\n)+)", HEADER.read_text(), re.S):
+    for comment, calls in re.findall(r"/\*((?:(?!\*/).)*)\*/\n((?:(?:struct|uint32_t)[^;{}]*\([^;{}]*\);\n)+)", HEADER.read_text(), re.S):
         listed = re.search(r"Refuses ((?:(?!\. |\.$).)*)", comment, re.S)
         for name in re.findall(r"(cuzhaveli_\w+)\(", calls):
             named_in[name] = set(map(int, re.findall(r"\d+", listed[1]))) if listed else None
@@ -323,6 +335,7 @@ def main():
     compare("call", {name: call for name, call in calls.items() if name in plans}, plans, PLANS)
     symbols = check_archive(calls, library) + check_archive(plans, plans_library)
     refusals = check_refusals()
+    check_version()
     check_guides()
     check_given(boundary)
     if problems:

@@ -4,6 +4,7 @@ ghost use mathlib.Core.Path.{_≡_};
 ghost use Rattle.planner.specs.Says.{PlanSays, ListSays};
 ghost use Rattle.judge.specs.Says.{JudgeSays};
 ghost use Rattle.plan_files.specs.Says.{JudgeTextSays, WriteSays, PlainSays};
+ghost use Rattle.plan_text.specs.Says.{TextSays};
 ghost use Rattle.space.specs.Says.{SpaceSays};
 ghost use Rattle.stripes.specs.Says.{EncodeSays, CheckSays};
 ghost use Rattle.rebuild_one.specs.Says.{OneSays};
@@ -18,6 +19,7 @@ ghost use Rattle.states.specs.States.{ReportSays};
 use billing::Bill;
 use judge::Judged;
 use plan_files::Written;
+use plan_text::Text;
 use planner::Plan;
 use refusals::Answer;
 use refusals::Shape;
@@ -64,6 +66,14 @@ pub extern "C" fn cuzhaveli_judge_plan(
     ensures { λ r. ⌜ JudgeSays width disks lost (now (plan .entry)) r ⌝ }
 {
     judge::judge_plan(width, disks, lost, plan)
+}
+
+// What the plan program prints for an input.
+#[no_mangle]
+pub extern "C" fn cuzhaveli_plan_text(input: &[u8]) -> Text
+    ensures { λ r. ⌜ TextSays (now (input .entry)) r ⌝ }
+{
+    plan_text::plan_text(input)
 }
 
 // The judge of a plan that is a text.
@@ -285,6 +295,14 @@ pub extern "C" fn cuzhaveli_bill_run(run: Run, first: u64, second: u64, third: u
     ensures { λ r. ⌜ RunBillSays run first second third r ⌝ }
 {
     billing::bill_run(run, first, second, third)
+}
+
+// The version of the library: 10,000 times its first number, 100 times its second, and its third, so 100 for 0.1.0.
+#[no_mangle]
+pub extern "C" fn cuzhaveli_version() -> u32
+    ensures { λ r. ⌜ r ≡ 100 ⌝ }
+{
+    100
 }
 
 // A report on array `which` of a lent list: its disk `disk` was lost, or is back. Every record is read, and one is written or none.

@@ -14,6 +14,7 @@ use planner::Steps;
 
 // A printed text: its bytes, zeros after them, and how many they are.
 // There is room for a head line of 24 bytes and 31 lines of 14: four numbers of two digits, four commas, a letter and LF. The longest text has 433.
+#[repr(C)]
 pub struct Text {
     pub bytes: [u8; 458],
     pub length: usize,

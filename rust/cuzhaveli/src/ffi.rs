@@ -170,6 +170,14 @@ records! {
     }
 }
 
+/// A text: its first `length` bytes, zeros after them. It stands apart, since arrays as long as this have no default.
+#[repr(C)]
+#[derive(Clone, Copy, Debug, PartialEq, Eq)]
+pub struct Text {
+    pub bytes: [u8; 458],
+    pub length: usize,
+}
+
 extern "C" {
     pub fn cuzhaveli_plan_disk(width: usize, disks: usize, lost: usize) -> Plan;
 
@@ -188,6 +196,8 @@ extern "C" {
         plan: *const u8,
         plan_len: usize,
     ) -> Judged;
+
+    pub fn cuzhaveli_plan_text(input: *const u8, input_len: usize) -> Text;
 
     pub fn cuzhaveli_judge_text(
         width: usize,
@@ -313,4 +323,5 @@ extern "C" {
         disk: usize,
         back: bool,
     ) -> Board;
+    pub fn cuzhaveli_version() -> u32;
 }

@@ -41,9 +41,18 @@ mod shape;
 mod states;
 
 pub use bill::{bill, Bill};
-pub use plan::{Plan, Set, Step};
+pub use plan::{plan_text, Plan, Set, Step};
 pub use read_list::ReadList;
 pub use refusal::{Refusal, RefusalKind};
 pub use run::Run;
 pub use shape::{Scrub, Shape, Space, NO_LOSS};
 pub use states::{report_disk, ArrayState, Totals};
+
+/// The version of the archive: 10,000 times its first number, 100 times its second, and its third.
+///
+/// ```
+/// assert_eq!(cuzhaveli::version(), 100); // 0.1.0
+/// ```
+pub fn version() -> u32 {
+    unsafe { ffi::cuzhaveli_version() }
+}

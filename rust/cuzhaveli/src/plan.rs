@@ -1,4 +1,4 @@
-//! Plans: their steps and counts.
+//! Plans: their steps, counts and text.
 
 use crate::ffi;
 
@@ -24,6 +24,20 @@ impl Step {
             Set::Diagonal(number) => [self.row, 1, number],
         }
     }
+}
+
+/// What the plan program prints for an input: the text of our plan for an array with as many data disks as rows, or a
+/// `refused,NUMBER` line.
+///
+/// ```
+/// let text = cuzhaveli::plan_text(b"p,lost\n3,1\n");
+/// assert_eq!(text, b"step,row,set,number,new\n0,0,R,0,3\n1,1,D,0,2\n2,2,D,1,2\n");
+/// assert_eq!(cuzhaveli::plan_text(b"p,lost\n9,1\n"), b"refused,1\n");
+/// assert_eq!(cuzhaveli::plan_text(b"3,1\n"), b"refused,12\n");
+/// ```
+pub fn plan_text(input: &[u8]) -> Vec<u8> {
+    let text = unsafe { ffi::cuzhaveli_plan_text(input.as_ptr(), input.len()) };
+    text.bytes[..text.length].to_vec()
 }
 
 /// Our plan for one lost disk.

@@ -2,8 +2,8 @@
 
 use cuzhaveli::ffi::{self, DisksRun, FullRun};
 use cuzhaveli::{
-    bill, report_disk, ArrayState, Refusal, RefusalKind, Run, Scrub, Set, Shape, Step, Totals,
-    NO_LOSS,
+    bill, plan_text, report_disk, version, ArrayState, Refusal, RefusalKind, Run, Scrub, Set,
+    Shape, Step, Totals, NO_LOSS,
 };
 
 const WIDTHS: [usize; 10] = [3, 5, 7, 11, 13, 17, 19, 23, 29, 31];
@@ -314,6 +314,24 @@ fn every_disk_and_pair_comes_back_from_the_cells_read() {
             assert_eq!(two, stripe);
         }
     }
+}
+
+#[test]
+fn every_input_has_a_text() {
+    for input in [&b""[..], b"p,lost\n", b"p,lost\n5,1\n\n", &[0xFF; 70_000]] {
+        assert_eq!(plan_text(input), b"refused,12\n");
+    }
+    for (p, lost) in WIDTHS.into_iter().flat_map(|p| (0..p + 3).map(move |lost| (p, lost))) {
+        let text = plan_text(format!("p,lost\n{p},{lost}\n").as_bytes());
+        let lines = text.iter().filter(|byte| **byte == b'\n').count();
+        assert_eq!(lines, if lost < p + 2 { p + 1 } else { 1 });
+    }
+}
+
+#[test]
+fn the_archive_is_of_the_version_of_the_crate() {
+    let numbers = env!("CARGO_PKG_VERSION").split('.').map(|number| number.parse::<u32>().unwrap());
+    assert_eq!(version(), numbers.fold(0, |version, number| 100 * version + number));
 }
 
 #[test]

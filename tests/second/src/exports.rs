@@ -7,11 +7,11 @@ use std::slice::{from_raw_parts, from_raw_parts_mut};
 
 use crate::ffi::{
     Answer, ArrayState, Bill, Board, Checked, DisksRun, FullRun, Judged, Plan, Progress, Run,
-    RunAnswer, Scrubbed, Shape, Space, Written,
+    RunAnswer, Scrubbed, Shape, Space, Text, Written,
 };
 use crate::groups::{
-    billing, judge, plan, plan_files, read_list, rebuild_one, rebuild_tested, rebuild_two, runs,
-    scrub, servers, space, states, stripes, update,
+    billing, judge, plan, plan_files, printed_plan, read_list, rebuild_one, rebuild_tested,
+    rebuild_two, runs, scrub, servers, space, states, stripes, update,
 };
 
 #[no_mangle]
@@ -43,6 +43,13 @@ pub unsafe extern "C" fn second_judge_plan(
     plan_len: usize,
 ) -> Judged {
     judge::model::judge_plan(width, disks, lost, from_raw_parts(plan, plan_len))
+}
+
+/// # Safety
+/// `input` is lent: see above.
+#[no_mangle]
+pub unsafe extern "C" fn second_plan_text(input: *const u8, input_len: usize) -> Text {
+    printed_plan::model::plan_text(from_raw_parts(input, input_len))
 }
 
 /// # Safety

@@ -1,10 +1,17 @@
-//! Running the plan program.
+//! Running the plan program, and the call that gives its text.
 
 use std::io::Write;
 use std::path::Path;
 use std::process::{Command, Stdio};
 use std::thread;
 use std::time::Duration;
+
+use crate::ffi::{self, Text};
+
+/// The text that the library gives for an input.
+pub fn plan_text(input: &[u8]) -> Text {
+    unsafe { ffi::cuzhaveli_plan_text(input.as_ptr(), input.len()) }
+}
 
 /// What one run of the program showed.
 pub struct Shown {

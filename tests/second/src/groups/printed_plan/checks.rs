@@ -1,11 +1,11 @@
-//! What the plan program prints for well formed and other inputs.
+//! What the plan program prints, and the call gives, for well formed and other inputs.
 
 use std::path::Path;
 use std::thread;
 
-use super::calls::{run_program, Shown};
+use super::calls::{plan_text, run_program, Shown};
 use super::inputs::{self, well_formed};
-use super::model::printed;
+use super::model::{self, printed};
 use crate::groups::plan::calls::plan_disk;
 use crate::harness::model::WIDTHS;
 use crate::harness::{Group, Setting};
@@ -20,7 +20,9 @@ pub fn run(setting: &mut Setting, group: &mut Group) {
 
 fn compare(group: &mut Group, input: &[u8], expected: &[u8], shown: &Shown) {
     let short = &input[..input.len().min(200)];
-    let call = || format!("plan program, input of {} \"{}\"", input.len(), short.escape_ascii());
+    let say = |what: &str| format!("{what}, input of {} \"{}\"", input.len(), short.escape_ascii());
+    let call = || say("plan program");
+    group.same(|| say("plan_text"), model::plan_text(input), plan_text(input));
     group.same_bytes(call, expected, &shown.text);
     group.same_bytes(|| format!("{}, error output", call()), b"", &shown.errors);
     group.same(|| format!("{}, ended by itself", call()), true, shown.ended);

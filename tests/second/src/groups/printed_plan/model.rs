@@ -2,8 +2,17 @@
 
 use std::collections::HashSet;
 
+use crate::ffi::Text;
 use crate::harness::answer::ACCEPTED;
 use crate::harness::model::{cells_read, our_steps, refuse};
+
+/// The printed text as the library's call gives it.
+pub fn plan_text(input: &[u8]) -> Text {
+    let printed = printed(input);
+    let mut bytes = [0; 458];
+    bytes[..printed.len()].copy_from_slice(&printed);
+    Text { bytes, length: printed.len() }
+}
 
 /// What the plan program prints for an input.
 pub fn printed(input: &[u8]) -> Vec<u8> {
