@@ -1,10 +1,11 @@
 # Builds the library and hands it to its users. What computes is the proved archive alone; nothing here is proved.
 #
 #   make                         build/libcuzhaveli.a, proved and compiled by the Rattle kit, and build/libcuzhaveli_plans.a,
-#                                planner and judge alone, for programs that move no bytes of a stripe
+#                                planner and judge alone, for programs that move no bytes of a stripe; with cargo also
+#                                build/cuzhaveli, the command
 #   make LIB=FILE                the same from a ready libcuzhaveli.a with the other one beside it, without the kit
 #   make examples                builds and runs examples/ from a scratch install, and compares their output
-#   make install PREFIX= DESTDIR=   header, archives and cuzhaveli.pc (PREFIX is /usr/local if not given)
+#   make install PREFIX= DESTDIR=   header, archives, cuzhaveli.pc, command and manual (PREFIX is /usr/local if not given)
 #   make uninstall PREFIX= DESTDIR=
 #   make dist                    build/cuzhaveli-VERSION-x86_64-linux.tar.gz, after .ci/run
 #   make clean                   removes build/
@@ -15,8 +16,10 @@ DESTDIR =
 LIB =
 CFLAGS = -O2
 PKG_CONFIG = pkg-config
+comma = ,
 
 archives = build/libcuzhaveli.a build/libcuzhaveli_plans.a
+tool = $(if $(shell command -v cargo),build/cuzhaveli)
 scratch = $(CURDIR)/build/scratch
 warnings = -std=c99 -Wall -Wextra -pedantic -Werror
 dist = cuzhaveli-$(VERSION)-x86_64-linux
@@ -24,7 +27,8 @@ dist = cuzhaveli-$(VERSION)-x86_64-linux
 .PHONY: all examples install uninstall dist clean FORCE
 .DELETE_ON_ERROR:
 
-all: $(archives)
+all: $(archives) $(tool)
+	@[ -n "$(tool)" ] || echo "make: no cargo on PATH, so the command cuzhaveli is not built; the archives are"
 
 ifeq ($(LIB),)
 $(shell [ ! -e build/from-lib ] || rm -f $(archives) build/from-lib) # archives that LIB= brought are not built ones
@@ -44,23 +48,34 @@ build/lib%.a: FORCE
 	@touch build/from-lib
 endif
 
-install: $(archives)
+build/cuzhaveli: build/libcuzhaveli.a $(shell find rust/cuzhaveli rust/tool -name '*.rs' -o -name Cargo.toml)
+	@command -v cargo >/dev/null || { echo "make: the command cuzhaveli is built by cargo, which is not on PATH; install Rust 1.89 or newer" >&2; exit 1; }
+	@CUZHAVELI_LIB_DIR="$(CURDIR)/build" CARGO_TARGET_DIR="$(CURDIR)/build/tool" cargo build -q --release --offline --manifest-path rust/tool/Cargo.toml
+	@cp build/tool/release/cuzhaveli $@
+	@echo "make: wrote $@"
+
+install: $(archives) $(tool)
 	@install -d "$(DESTDIR)$(PREFIX)/include" "$(DESTDIR)$(PREFIX)/lib/pkgconfig"
 	@install -m 644 include/cuzhaveli.h "$(DESTDIR)$(PREFIX)/include/"
 	@install -m 644 $(archives) "$(DESTDIR)$(PREFIX)/lib/"
+ifneq ($(tool),)
+	@install -d "$(DESTDIR)$(PREFIX)/bin" "$(DESTDIR)$(PREFIX)/share/man/man1"
+	@install -m 755 $(tool) "$(DESTDIR)$(PREFIX)/bin/"
+	@install -m 644 docs/cuzhaveli.1 "$(DESTDIR)$(PREFIX)/share/man/man1/"
+endif
 	@sed 's|@PREFIX@|$(PREFIX)|; s|@VERSION@|$(VERSION)|' cuzhaveli.pc.in >"$(DESTDIR)$(PREFIX)/lib/pkgconfig/cuzhaveli.pc"
-	@echo "make: installed header, archives and cuzhaveli.pc under $(DESTDIR)$(PREFIX)"
+	@echo "make: installed header, archives, cuzhaveli.pc$(if $(tool),$(comma) command and manual) under $(DESTDIR)$(PREFIX)"
 
 uninstall:
-	rm -f "$(DESTDIR)$(PREFIX)/include/cuzhaveli.h" "$(DESTDIR)$(PREFIX)/lib/libcuzhaveli.a" "$(DESTDIR)$(PREFIX)/lib/libcuzhaveli_plans.a" "$(DESTDIR)$(PREFIX)/lib/pkgconfig/cuzhaveli.pc"
+	rm -f "$(DESTDIR)$(PREFIX)/include/cuzhaveli.h" "$(DESTDIR)$(PREFIX)/lib/libcuzhaveli.a" "$(DESTDIR)$(PREFIX)/lib/libcuzhaveli_plans.a" "$(DESTDIR)$(PREFIX)/lib/pkgconfig/cuzhaveli.pc" "$(DESTDIR)$(PREFIX)/bin/cuzhaveli" "$(DESTDIR)$(PREFIX)/share/man/man1/cuzhaveli.1"
 
 examples: $(archives)
 	@rm -rf "$(scratch)" && mkdir -p "$(scratch)"
 	@$(MAKE) -s install PREFIX="$(scratch)/usr" DESTDIR=
 	@CC="$(CC)" CFLAGS="$(CFLAGS) $(warnings)" PKG_CONFIG="$(PKG_CONFIG)" examples/run "$(scratch)"
 
-# The archive and what belongs to it, with the sums, the kit's identity and the gate's log.
-dist: $(archives)
+# The archive, the command and what belongs to them, with the sums, the kit's identity and the gate's log.
+dist: $(archives) build/cuzhaveli
 	@[ -f build/gate.log ] || { echo "make: no build/gate.log, which goes into the archive; run .ci/run first" >&2; exit 1; }
 	@for one in $(archives); do grep -q "$$(sha256sum <$$one | cut -d ' ' -f 1)" build/gate.log || { echo "make: $$one is not the one that build/gate.log tells of; run .ci/run again" >&2; exit 1; }; done
 	@command -v rt >/dev/null || { echo "make: the kit's identity goes into the archive, and its command rt is not on PATH" >&2; exit 1; }

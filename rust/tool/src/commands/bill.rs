@@ -1,0 +1,29 @@
+//! `bill`: the price of bytes read.
+
+use crate::args::{number, usage, Form, Given};
+use crate::commands::Command;
+use crate::fault::Fault;
+use crate::say;
+
+pub const COMMAND: Command = Command {
+    name: "bill",
+    usage: "--rates A,B,C --bytes N",
+    about: "the bill of N bytes at A cents a GiB for the first 64 GiB, B up to 1,024 GiB, C for the rest",
+    options: &[Form::Value("--rates"), Form::Value("--bytes")],
+    operands: 0..=0,
+    run,
+};
+
+fn run(given: &Given) -> Result<(), Fault> {
+    let rates = given.value("--rates").ok_or_else(|| usage("--rates is missing".into()))?;
+    let fields = rates.to_string_lossy();
+    let rates: Vec<u64> = fields
+        .split(',')
+        .map(|field| number("--rates", field.as_ref()))
+        .collect::<Result<_, _>>()?;
+    let rates: [u64; 3] =
+        rates.try_into().map_err(|_| usage(format!("--rates {fields}: not three numbers")))?;
+    let bill = cuzhaveli::bill(given.needed("--bytes")?, rates)?;
+    let [first, second, third] = bill.bands;
+    say::line(format!("first,{first},second,{second},third,{third},cents,{}", bill.cents))
+}

@@ -1,0 +1,166 @@
+//! A plan as a picture: which cells it reads, and for what.
+
+use std::fmt::Write;
+
+use cuzhaveli::{Set, Shape};
+
+use crate::fault::Fault;
+
+/// What happens to a cell.
+#[derive(Clone, Copy, Debug, PartialEq, Eq)]
+pub enum Mark {
+    Lost,
+    Row,
+    Diagonal,
+    Both,
+    Unread,
+}
+
+impl Mark {
+    pub const ALL: [Mark; 5] = [Mark::Lost, Mark::Row, Mark::Diagonal, Mark::Both, Mark::Unread];
+
+    pub fn letter(self) -> char {
+        match self {
+            Mark::Lost => 'x',
+            Mark::Row => '-',
+            Mark::Diagonal => '/',
+            Mark::Both => '#',
+            Mark::Unread => '.',
+        }
+    }
+
+    pub fn meaning(self) -> &'static str {
+        match self {
+            Mark::Lost => "lost",
+            Mark::Row => "read for a row",
+            Mark::Diagonal => "for a diagonal",
+            Mark::Both => "for both",
+            Mark::Unread => "not read",
+        }
+    }
+}
+
+/// The picture of our plan for a lost disk.
+pub struct Picture {
+    pub shape: Shape,
+    lost: usize,
+    reads: u32,
+    /// Row by row, disk by disk.
+    pub marks: Vec<Vec<Mark>>,
+    /// The set that rebuilds each row's lost cell.
+    pub sets: Vec<String>,
+}
+
+/// Whether a set holds a cell.
+fn holds(shape: Shape, set: Set, row: usize, disk: usize) -> bool {
+    let (p, k) = (shape.width(), shape.disks());
+    match set {
+        Set::Row(i) => row == usize::from(i) && disk <= k,
+        Set::Diagonal(i) => {
+            let i = usize::from(i);
+            let ordinary = disk < k && row == (i + disk) % p;
+            let extra = i > 0 && disk < k && row == p - 1 - i && disk == p - 2 * i % p;
+            ordinary || extra || (disk == k + 1 && row == i)
+        }
+    }
+}
+
+impl Picture {
+    /// Draws the plan from its sets, and holds the drawing to the library's read list.
+    pub fn of(shape: Shape, lost: usize) -> Result<Picture, Fault> {
+        let (plan, list) = (shape.plan(lost)?, shape.read_list(lost)?);
+        let mut sets = vec![String::new(); shape.width()];
+        for step in plan.steps() {
+            sets[usize::from(step.row)] = match step.set {
+                Set::Row(i) => format!("R {i}"),
+                Set::Diagonal(i) => format!("D {i}"),
+            };
+        }
+        let used: Vec<Set> = plan.steps().map(|step| step.set).collect();
+        let disks = 0..shape.disks() + 2;
+        let mark = |row| disks.clone().map(|disk| mark(shape, &used, lost, row, disk)).collect();
+        let marks: Vec<Vec<Mark>> = (0..shape.width()).map(mark).collect();
+        let agrees = |row: usize, disk: usize| {
+            list.contains(row, disk) != matches!(marks[row][disk], Mark::Lost | Mark::Unread)
+        };
+        if !(0..shape.width()).all(|row| disks.clone().all(|disk| agrees(row, disk))) {
+            return Err(Fault::Failed(
+                "a defect: picture and read list differ; please report it".into(),
+            ));
+        }
+        Ok(Picture { shape, lost, reads: plan.reads(), marks, sets })
+    }
+
+    /// The line above the picture.
+    pub fn title(&self) -> String {
+        let (p, k, reads) = (self.shape.width(), self.shape.disks(), self.reads);
+        let disks = if k == p { String::new() } else { format!(", {k} data disks") };
+        let parity = match self.lost.checked_sub(k) {
+            Some(0) => " (P)",
+            Some(_) => " (Q)",
+            None => "",
+        };
+        let (lost, survivors, rows) = (self.lost, p * (k + 1), p * k);
+        format!(
+            "width {p}{disks}, lost disk {lost}{parity}: {reads} of {survivors} surviving cells read (all rows: {rows})"
+        )
+    }
+
+    /// The name of a disk at the head of its column.
+    pub fn disk_name(&self, disk: usize) -> String {
+        match disk.checked_sub(self.shape.disks()) {
+            Some(0) => "P".into(),
+            Some(_) => "Q".into(),
+            None => disk.to_string(),
+        }
+    }
+
+    /// The picture for a terminal.
+    pub fn text(&self) -> String {
+        let mut text = format!("{}\n\n     ", self.title());
+        for disk in 0..self.shape.disks() + 2 {
+            let _ = write!(text, "{:>3}", self.disk_name(disk));
+        }
+        text.push('\n');
+        for (row, (marks, set)) in self.marks.iter().zip(&self.sets).enumerate() {
+            let cells: String = marks.iter().map(|mark| format!("  {}", mark.letter())).collect();
+            let _ = writeln!(text, "{row:>4} {cells}   {set}");
+        }
+        let legend = Mark::ALL.map(|mark| format!("{} {}", mark.letter(), mark.meaning()));
+        text + "\n  " + &legend.join("   ") + "\n"
+    }
+}
+
+fn mark(shape: Shape, used: &[Set], lost: usize, row: usize, disk: usize) -> Mark {
+    let by = |is: fn(&Set) -> bool| used.iter().any(|set| is(set) && holds(shape, *set, row, disk));
+    let by_row = by(|set| matches!(set, Set::Row(_)));
+    let by_diagonal = by(|set| matches!(set, Set::Diagonal(_)));
+    match (disk == lost, by_row, by_diagonal) {
+        (true, ..) => Mark::Lost,
+        (_, true, true) => Mark::Both,
+        (_, true, false) => Mark::Row,
+        (_, false, true) => Mark::Diagonal,
+        (_, false, false) => Mark::Unread,
+    }
+}
+
+#[cfg(test)]
+mod tests {
+    use super::*;
+
+    #[test]
+    fn every_plan_has_a_picture_that_its_read_list_agrees_with() {
+        for p in [3, 5, 7, 11, 13, 17, 19, 23, 29, 31] {
+            for k in 2..=p {
+                let shape = Shape::new(p, k, 1).unwrap();
+                for lost in 0..k + 2 {
+                    let picture = Picture::of(shape, lost).unwrap();
+                    let read = |mark: &&Mark| !matches!(mark, Mark::Lost | Mark::Unread);
+                    let reads = picture.marks.iter().flatten().filter(read).count();
+                    assert_eq!(reads, picture.reads as usize);
+                    assert!(picture.sets.iter().all(|set| !set.is_empty()));
+                }
+            }
+        }
+    }
+}

@@ -1,0 +1,71 @@
+//! A plan's picture as SVG.
+
+use std::fmt::Write;
+
+use crate::picture::{Mark, Picture};
+
+/// The side of a cell, and the room left of the first one and above it.
+const SIDE: usize = 34;
+const LEFT: usize = 44;
+const TOP: usize = 70;
+
+fn fill(mark: Mark) -> &'static str {
+    match mark {
+        Mark::Lost => "#d9534f",
+        Mark::Row => "#9ec5e8",
+        Mark::Diagonal => "#f3c677",
+        Mark::Both => "#8fce9f",
+        Mark::Unread => "#f4f4f4",
+    }
+}
+
+/// Text at a place, its middle there or its start.
+fn words(svg: &mut String, x: usize, y: usize, anchor: &str, text: &str) {
+    let _ = writeln!(svg, r#"<text x="{x}" y="{y}" text-anchor="{anchor}">{text}</text>"#);
+}
+
+fn square(svg: &mut String, x: usize, y: usize, mark: Mark) {
+    let (side, color) = (SIDE - 4, fill(mark));
+    let _ = writeln!(
+        svg,
+        r##"<rect x="{x}" y="{y}" width="{side}" height="{side}" rx="4" fill="{color}" stroke="#888"/>"##
+    );
+    words(svg, x + side / 2, y + side / 2 + 5, "middle", &mark.letter().to_string());
+}
+
+/// The picture: a square for each cell, the set of each row beside it, what the colours mean below.
+pub fn draw(picture: &Picture) -> String {
+    let (p, disks) = (picture.shape.width(), picture.shape.disks() + 2);
+    let width = (LEFT + disks * SIDE + 70).max(560);
+    let height = TOP + p * SIDE + 60;
+    let mut svg = format!(
+        "<svg xmlns=\"http://www.w3.org/2000/svg\" width=\"{width}\" height=\"{height}\" \
+         font-family=\"sans-serif\" font-size=\"14\">\n\
+         <rect width=\"{width}\" height=\"{height}\" fill=\"#fff\"/>\n"
+    );
+    words(&mut svg, 12, 24, "start", &picture.title());
+    for disk in 0..disks {
+        words(
+            &mut svg,
+            LEFT + disk * SIDE + SIDE / 2 - 2,
+            TOP - 10,
+            "middle",
+            &picture.disk_name(disk),
+        );
+    }
+    for (row, (marks, set)) in picture.marks.iter().zip(&picture.sets).enumerate() {
+        let y = TOP + row * SIDE;
+        words(&mut svg, LEFT - 12, y + SIDE / 2 + 3, "end", &row.to_string());
+        for (disk, mark) in marks.iter().enumerate() {
+            square(&mut svg, LEFT + disk * SIDE, y, *mark);
+        }
+        words(&mut svg, LEFT + disks * SIDE + 12, y + SIDE / 2 + 3, "start", set);
+    }
+    let mut x = 12;
+    for mark in Mark::ALL {
+        square(&mut svg, x, TOP + p * SIDE + 14, mark);
+        words(&mut svg, x + SIDE + 2, TOP + p * SIDE + 34, "start", mark.meaning());
+        x += SIDE + 20 + 7 * mark.meaning().len();
+    }
+    svg + "</svg>\n"
+}

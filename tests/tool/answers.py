@@ -1,0 +1,96 @@
+"""Answers: info, check, judge, space, bill, and files that cannot be read."""
+
+from harness import expect, noise
+
+
+def checks(setting):
+    """check names each dirty stripe and the disk that explains it."""
+    images = setting.encoded(noise(5 * 5 * 16 * 10), 5, s=16, group=4)
+    good = images.images()
+    done = setting.call("check", images.folder, status=0)
+    stripe = images.disks * images.p * images.s
+    expect(done.out == f"checked,10,dirty,0,read,{10 * stripe}\n".encode(), done.told())
+    for disk in range(images.disks):
+        image = bytearray(good[disk])
+        image[images.offset(7, 3) + 5] ^= 1
+        images.path(disk).write_bytes(image)
+        done = setting.call("check", images.folder, status=1)
+        expect(done.out.startswith(f"dirty,7,{disk}\nchecked,10,dirty,1,".encode()), done.told())
+        images.path(disk).write_bytes(good[disk])
+    for disk in (0, 1):
+        image = bytearray(good[disk])
+        image[images.offset(2, 0)] ^= disk + 1
+        images.path(disk).write_bytes(image)
+    done = setting.call("check", images.folder, status=1)
+    expect(done.out.startswith(b"dirty,2,several\nchecked,10,dirty,1,"), done.told())
+    done = setting.call("rebuild", "--test", "--disk", 3, images.folder, status=3)
+    expect(done.err.startswith(b"cuzhaveli: refused,19: ") and done.err.endswith(b", stripe 2\n"), done.told())
+    for disk in (0, 1):
+        images.path(disk).write_bytes(good[disk])
+    setting.call("rebuild", images.folder, status=0)
+    expect(images.images() == good, "gone on after a refused test: other bytes")
+    images.lose(4, 6)
+    done = setting.call("check", images.folder, status=1)
+    expect(done.out == b"lost,4+6\n" and b"rebuild" in done.err, done.told())
+    images.path(4).write_bytes(good[4])
+    images.path(6).write_bytes(good[6][:5000])
+    done = setting.call("check", images.folder, status=4)
+    expect(b"disk-06.img, byte " in done.err, done.told())
+    return "12 checks"
+
+
+def infos(setting):
+    images = setting.encoded(noise(7000), 7, 5, 16, 4)
+    lines = setting.call("info", images.folder, status=0).out.decode().splitlines()
+    wanted = ["width,7", "disks,5", "cell,16", "group,4", "stripes,13", "length,7000", "lost,none"]
+    expect(lines[1:] == wanted and len(lines[0]) == 4 + 32, f"info says {lines}")
+    images.lose(2)
+    expect(setting.call("info", images.folder, status=1).out.endswith(b"lost,2\n"), "one lost")
+    images.lose(5)
+    expect(setting.call("info", images.folder, status=1).out.endswith(b"lost,2+5\n"), "two lost")
+    images.lose(6)
+    expect(setting.call("info", images.folder, status=5).out.endswith(b"lost,2+5+6\n"), "three lost")
+    setting.call("info", setting.new(), status=4)
+    setting.call("info", images.path(0), status=4)
+    done = setting.call("rebuild", "-n", setting.encoded(noise(10), 3).folder, status=0)
+    expect(done.out == b"would,none,stripes,0,read,0,rows,0\n", done.told())
+    return "7 calls"
+
+
+def judged(setting):
+    """The judge's verdicts on a host's plan, in every form of the text that is allowed."""
+    plan = setting.call("plan", "-p", 5, "-d", 1, "--csv", status=0).out.decode().splitlines()[1:]
+    ours = "row,set,number\n" + "".join(",".join(line.split(",")[1:4]) + "\n" for line in plan)
+    rows = "row,set,number\n" + "".join(f"{row},R,{row}\n" for row in range(5))
+    early = "row,set,number\n3,D,2\n" + "".join(f"{row},R,{row}\n" for row in (0, 1, 2, 4))
+    texts = [(0, b"accepted,19\n", ours), (0, b"accepted,25\n", rows), (0, b"accepted,19\n", ours.replace("\n", "\r\n").lower()),
+             (0, b"accepted,25\n", rows.replace("3,R,3", "003,r,03")), (1, b"refused,8,1\n", rows.replace("1,R,1", "0,R,0")),
+             (1, b"refused,9,0\n", early), (1, b"refused,7,2\n", rows.replace("2,R,2", "2,R,3")), (1, b"refused,6,4\n", rows.replace("4,R,4", "4,R,5")),
+             (1, b"refused,22,0\n", rows[:-1]), (1, b"refused,22,0\n", ""), (1, b"refused,22,0\n", rows + "5,R,5\n"),
+             (1, b"refused,22,0\n", rows.replace("4,R,4", "4,R,256")), (1, b"refused,22,0\n", rows.replace("row", "ROW"))]
+    for status, answer, text in texts:
+        file = setting.new()
+        file.write_bytes(text.encode())
+        for name in (file, "-"):
+            done = setting.call("judge", "-p", 5, "-d", 1, name, input=text.encode(), status=status)
+            expect(done.out == answer, f"{answer} expected: {done.told()}")
+    setting.call("judge", "-p", 5, "-d", 1, setting.new(), status=4)
+    return f"{2 * len(texts) + 1} plans"
+
+
+def spaces_and_bills(setting):
+    film = setting.new()
+    film.write_bytes(noise(102_401))
+    for words, status, answer in [(["--free", 40960, "--bytes", 102_401], 0, b"stripes,2,bytes,40960,fits,yes\n"),
+                                  (["--free", "40959", film], 1, b"stripes,2,bytes,40960,fits,no\n"),
+                                  (["--free", "1T", "--bytes", "256T"], 1, b"stripes,2748779070,bytes,56294995353600,fits,no\n"),
+                                  (["--free", 0, "--bytes", 0], 0, b"stripes,0,bytes,0,fits,yes\n")]:
+        done = setting.call("space", "-p", 5, *words, status=status)
+        expect(done.out == answer, f"{answer} expected: {done.told()}")
+    setting.call("space", "-p", 5, "--free", 1, setting.new(), status=4)
+    done = setting.call("bill", "--rates", "10,5,1", "--bytes", "65G", status=0)
+    expect(done.out == b"first,68719476736,second,1073741824,third,0,cents,645\n", done.told())
+    return "6 calls"
+
+
+CHECKS = [checks, infos, judged, spaces_and_bills]
