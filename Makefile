@@ -4,6 +4,7 @@
 #                                planner and judge alone, for programs that move no bytes of a stripe; with cargo also
 #                                build/cuzhaveli, the command
 #   make LIB=FILE                the same from a ready libcuzhaveli.a with the other one beside it, without the kit
+#   make demo                    shows the command at work on a film that it makes: encodes, loses disks, rebuilds, plays
 #   make examples                builds and runs examples/ from a scratch install, and compares their output
 #   make install PREFIX= DESTDIR=   header, archives, cuzhaveli.pc, command and manual (PREFIX is /usr/local if not given)
 #   make uninstall PREFIX= DESTDIR=
@@ -24,7 +25,7 @@ scratch = $(CURDIR)/build/scratch
 warnings = -std=c99 -Wall -Wextra -pedantic -Werror
 dist = cuzhaveli-$(VERSION)-x86_64-linux
 
-.PHONY: all examples install uninstall dist clean FORCE
+.PHONY: all demo examples install uninstall dist clean FORCE
 .DELETE_ON_ERROR:
 
 all: $(archives) $(tool)
@@ -53,6 +54,9 @@ build/cuzhaveli: build/libcuzhaveli.a $(shell find rust/cuzhaveli rust/tool -nam
 	@CUZHAVELI_LIB_DIR="$(CURDIR)/build" CARGO_TARGET_DIR="$(CURDIR)/build/tool" cargo build -q --release --offline --manifest-path rust/tool/Cargo.toml
 	@cp build/tool/release/cuzhaveli $@
 	@echo "make: wrote $@"
+
+demo: build/cuzhaveli
+	@examples/demo "$(CURDIR)/build/cuzhaveli" "$(CURDIR)/build/demo"
 
 install: $(archives) $(tool)
 	@install -d "$(DESTDIR)$(PREFIX)/include" "$(DESTDIR)$(PREFIX)/lib/pkgconfig"

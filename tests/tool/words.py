@@ -109,4 +109,34 @@ def numbers(setting):
     return "8 calls"
 
 
-CHECKS = [usage_lines, usage_errors, refusals, numbers]
+def walk_through(setting):
+    """The four commands of README.md under 'By hand', as written, one after the other."""
+    readme = (TOP / "README.md").read_text().split("## By hand")[1].split("\n## ")[0]
+    commands = re.findall(r"^    (\S.*)$", readme, re.M)
+    expect(len(commands) == 4, f"README.md has {len(commands)} commands by hand")
+    folder = setting.new()
+    (folder / "build").mkdir(parents=True)
+    for name in ("cuzhaveli", "libcuzhaveli.a"):
+        (folder / "build" / name).symlink_to(setting.program.parent / name)
+    told = []
+    for command in commands:
+        done = subprocess.run(["bash", "-o", "pipefail", "-c", command], cwd=folder, capture_output=True, text=True)
+        expect(done.returncode == 0 and done.stderr == "", f"{command}: {done}")
+        told.append(done.stdout)
+    read, rows = map(int, re.search(r"read,(\d+),rows,(\d+)", told[2]).groups())
+    expect(read * 25 == rows * 19, f"the rebuild told {told[2]}")
+    return f"{len(commands)} commands"
+
+
+def demo(setting):
+    """`make demo` comes to its end, tells what was read at each step, and leaves nothing."""
+    folder = setting.new(setting.on_disk)
+    done = subprocess.run([TOP / "examples/demo", setting.program, folder], capture_output=True, text=True)
+    expect(done.returncode == 0 and done.stderr == "", f"examples/demo: {done}")
+    told = re.findall(r"read: (\d+) bytes", done.stdout)
+    expect(len(told) == 3 and "24 % less" in done.stdout and "frame 96 of 96" in done.stdout, f"examples/demo says {done.stdout}")
+    expect(not folder.exists(), "examples/demo left its folder")
+    return f"{len(told)} steps with what they read"
+
+
+CHECKS = [usage_lines, usage_errors, refusals, numbers, walk_through, demo]
