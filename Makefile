@@ -56,7 +56,8 @@ build/cuzhaveli: build/libcuzhaveli.a $(shell find rust/cuzhaveli rust/tool -nam
 	@echo "make: wrote $@"
 
 demo: build/cuzhaveli
-	@examples/demo "$(CURDIR)/build/cuzhaveli" "$(CURDIR)/build/demo"
+	@rm -rf build/demo
+	@examples/demo build/cuzhaveli build/demo
 
 install: $(archives) $(tool)
 	@install -d "$(DESTDIR)$(PREFIX)/include" "$(DESTDIR)$(PREFIX)/lib/pkgconfig"

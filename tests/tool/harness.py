@@ -11,6 +11,7 @@ import subprocess
 import tempfile
 
 LABEL = 4096
+MEMORY = pathlib.Path("/dev/shm")
 
 
 class Wrong(Exception):
@@ -37,13 +38,20 @@ class Done:
         return {words[i]: words[i + 1] for i in range(0, len(words) - 1)}
 
 
+def has_room(folder):
+    """Whether a folder can be written to and has a GiB free."""
+    if not os.access(folder, os.W_OK):
+        return False
+    free = os.statvfs(folder)
+    return free.f_bavail * free.f_frsize >= 1 << 30
+
+
 class Setting:
     """The program under test and a scratch folder, in memory if the machine has such a folder."""
 
     def __init__(self, folder):
         self.program, self.plan_program = folder / "cuzhaveli", folder / "plan"
-        memory = pathlib.Path("/dev/shm")
-        self.scratch = pathlib.Path(tempfile.mkdtemp(prefix="cuzhaveli-", dir=memory if os.access(memory, os.W_OK) else folder))
+        self.scratch = pathlib.Path(tempfile.mkdtemp(prefix="cuzhaveli-", dir=MEMORY if has_room(MEMORY) else folder))
         self.on_disk = pathlib.Path(tempfile.mkdtemp(prefix="tool-", dir=folder))
         self.number = 0
 
@@ -53,6 +61,11 @@ class Setting:
     def __exit__(self, *_):
         shutil.rmtree(self.scratch, ignore_errors=True)
         shutil.rmtree(self.on_disk, ignore_errors=True)
+
+    def clear(self):
+        """Empties the scratch folders."""
+        for path in [*self.scratch.iterdir(), *self.on_disk.iterdir()]:
+            shutil.rmtree(path) if path.is_dir() else path.unlink()
 
     def new(self, where=None):
         """A name in the scratch folder that nothing has."""
@@ -105,7 +118,7 @@ class Set:
         label = dict(line.split(" ", 1) for line in lines[1:])
         self.p, self.k, self.s = int(label["width"]), int(label["disks"]), int(label["cell"])
         self.group, self.stripes, self.length = int(label["group"]), int(label["stripes"]), int(label["length"])
-        self.disks = self.k + 2
+        self.set, self.disks = label["set"], self.k + 2
 
     def path(self, disk):
         return self.folder / f"disk-{disk:02}.img"
@@ -163,12 +176,10 @@ class Traced:
     def calls(self):
         """Each system call before it is made, of files opened to be read no opening: its name and three arguments."""
         entering = True
-        while True:
+        while self.status is None:
             LIBC.ptrace(SYSCALL, self.pid, None, None)
             self.wait()
-            if self.status is not None:
-                return
-            if entering:
+            if entering and self.status is None:
                 registers = ctypes.create_string_buffer(27 * 8)
                 LIBC.ptrace(GET_REGS, self.pid, None, registers)
                 values = struct.unpack("27Q", registers.raw)

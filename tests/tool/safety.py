@@ -112,6 +112,11 @@ def nothing_overwritten(setting):
     return "6 calls"
 
 
+def record(images, lost, next_stripe):
+    """The record of a rebuild under way."""
+    return f"cuzhaveli run 1\nset {images.set}\nlost {lost}\nnext {next_stripe}\n"
+
+
 def foreign_parts(setting):
     """Files of other rebuilds in the folder: a .part, a record, a record of another loss."""
     images, other = small(setting), small(setting, seed=3)
@@ -121,14 +126,12 @@ def foreign_parts(setting):
     part.write_bytes(other.path(1).read_bytes())
     stands(setting, images, 5, "rebuild", images.folder, says=b"is not of this rebuild")
     part.unlink()
-    record = images.folder / "rebuild.run"
-    label = dict(line.split(" ") for line in images.path(0).read_bytes()[:LABEL].rstrip(b"\0").decode().splitlines()[1:])
-    for lines in ("", "x", f"cuzhaveli run 1\nset {label['set']}\nlost 1\nnext 07\n", f"cuzhaveli run 1\nset {'0' * 32}\nlost 1\nnext 2\n",
-                  f"cuzhaveli run 1\nset {label['set']}\nlost 2\nnext 0\n", f"cuzhaveli run 1\nset {label['set']}\nlost 1\nnext 10\n"):
-        record.write_text(lines)
+    kept = images.folder / "rebuild.run"
+    for lines in ("", "x", record(images, 1, "07"), record(other, 1, 2), record(images, 2, 0), record(images, 1, 10)):
+        kept.write_text(lines)
         stands(setting, images, 5, "rebuild", images.folder, says=b"rebuild.run")
-    # a record whose image is gone, and one that an image without a record belongs to: begun anew
-    record.write_text(f"cuzhaveli run 1\nset {label['set']}\nlost 1\nnext 4\n")
+    # a record whose image is gone: begun anew
+    kept.write_text(record(images, 1, 4))
     setting.call("rebuild", images.folder, status=0)
     expect(images.images() == good, "a record without its image was gone on with")
     return "8 foreign files"
@@ -168,6 +171,12 @@ def drives(setting):
         expect(images.path(2).is_symlink(), "the link to the drive was replaced")
         expect(images.path(2).read_bytes()[:len(good[2])] == good[2], "other bytes on the drive")
         setting.call("check", images.folder, status=0)
+        # a new drive in the place of one that was rebuilt in part: the record is not gone on with
+        with open(drive, "r+b") as bytes_of:
+            bytes_of.write(bytes(len(good[2])))
+        (images.folder / "rebuild.run").write_text(record(images, 2, images.stripes - 1))
+        setting.call("rebuild", images.folder, status=0)
+        expect(images.path(2).read_bytes()[:len(good[2])] == good[2], "a new drive was gone on with as if it were the old one")
         second = setting.new()
         second.mkdir()
         (second / "disk-02.img").symlink_to(drive)

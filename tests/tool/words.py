@@ -54,7 +54,7 @@ def usage_errors(setting):
              ["encode", "-p", 5, "-p", 5, film, folder], ["encode", "-p", 5, "-g", 0, film, folder],
              ["encode", "-p", 5, "-g", 65537, film, folder], ["encode", "-p", 5, "-q", "-q", film, folder],
              ["encode", "-p", 5, film, folder, "-s"], ["encode", "--", "-p", 5, film, folder], ["decode", images],
-             ["info"], ["info", images, images], ["check", "-n", images], ["rebuild"], ["rebuild", "--disk", images],
+             ["info"], ["info", "--images"], ["info", images, images], ["check", "-n", images], ["rebuild"], ["rebuild", "--disk", images],
              ["rebuild", "--test", "--by-rows", images], ["rebuild", "--test", "--disk", 0, "--disk", 1, images],
              ["plan", "-p", 5], ["plan", "-d", 1], ["plan", "-p", 5, "-d", 1, "x"], ["plan", "-p", 5, "-d", 1, "--csv", "--svg"],
              ["plan", "-p", 5, "-k", 4, "-d", 1, "--csv"], ["judge", "-p", 5, "-d", 1], ["space", "-p", 5, "--free", 1],
