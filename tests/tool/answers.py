@@ -83,6 +83,7 @@ def spaces_and_bills(setting):
     film.write_bytes(noise(102_401))
     for words, status, answer in [(["--free", 40960, "--bytes", 102_401], 0, b"stripes,2,bytes,40960,fits,yes\n"),
                                   (["--free", "40959", film], 1, b"stripes,2,bytes,40960,fits,no\n"),
+                                  (["--free", "1M", film, film], 0, b"stripes,4,bytes,81920,fits,yes\n"),
                                   (["--free", "1T", "--bytes", "256T"], 1, b"stripes,2748779070,bytes,56294995353600,fits,no\n"),
                                   (["--free", 0, "--bytes", 0], 0, b"stripes,0,bytes,0,fits,yes\n")]:
         done = setting.call("space", "-p", 5, *words, status=status)
@@ -90,7 +91,7 @@ def spaces_and_bills(setting):
     setting.call("space", "-p", 5, "--free", 1, setting.new(), status=4)
     done = setting.call("bill", "--rates", "10,5,1", "--bytes", "65G", status=0)
     expect(done.out == b"first,68719476736,second,1073741824,third,0,cents,645\n", done.told())
-    return "6 calls"
+    return "7 calls"
 
 
 CHECKS = [checks, infos, judged, spaces_and_bills]

@@ -12,7 +12,7 @@ ghost use Rattle.rebuild_two.specs.Says.{TwoSays};
 ghost use Rattle.update.specs.Says.{UpdateSays};
 ghost use Rattle.scrub.specs.Says.{ScrubSays};
 ghost use Rattle.rebuild_tested.specs.Says.{TestedSays};
-ghost use Rattle.servers.specs.Says.{WriteSays, RebuildSays};
+ghost use Rattle.servers.specs.Says.{WriteServerSays, RebuildServerSays};
 ghost use Rattle.runs.specs.Runs.{OpenSays, StepSays, SkipSays, ProgressSays, resumed, resumedDisks};
 ghost use Rattle.billing.specs.Bills.{BillSays, RunBillSays};
 ghost use Rattle.states.specs.States.{ReportSays};
@@ -205,7 +205,7 @@ pub extern "C" fn cuzhaveli_update_cell(
 // Writes the stripe of a parity server: the last of `servers` + 1 lent stripes becomes the XOR of the others.
 #[no_mangle]
 pub extern "C" fn cuzhaveli_write_server(shape: Shape, servers: usize, stripes: &mut [u8]) -> Answer
-    ensures { λ r. ⌜ WriteSays (shape .width) (shape .disks) (shape .«cell_size») servers (now (stripes .entry)) (now (stripes .exit)) r ⌝ }
+    ensures { λ r. ⌜ WriteServerSays (shape .width) (shape .disks) (shape .«cell_size») servers (now (stripes .entry)) (now (stripes .exit)) r ⌝ }
 {
     servers::write_server(shape, servers, stripes)
 }
@@ -219,7 +219,7 @@ pub extern "C" fn cuzhaveli_rebuild_server(
     stripes: &mut [u8],
     losses: &[u8],
 ) -> Answer
-    ensures { λ r. ⌜ RebuildSays (shape .width) (shape .disks) (shape .«cell_size») servers lost (now (stripes .entry)) (now (losses .entry)) (now (stripes .exit)) r ⌝ }
+    ensures { λ r. ⌜ RebuildServerSays (shape .width) (shape .disks) (shape .«cell_size») servers lost (now (stripes .entry)) (now (losses .entry)) (now (stripes .exit)) r ⌝ }
 {
     servers::rebuild_server(shape, servers, lost, stripes, losses)
 }

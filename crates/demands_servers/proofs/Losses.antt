@@ -13,11 +13,11 @@ use Rattle.refusals.proofs.AnswerLaws.{answers-none}
 use Rattle.rebuild_one.specs.Says.{oneFault, OneSays}
 use Rattle.rebuild_two.specs.Says.{twoFault, TwoSays}
 use Rattle.server_losses.proofs.Turning.{none-lost, second-lost, first-lost, both-lost}
-use Rattle.servers.specs.Says.{RebuildSays}
+use Rattle.servers.specs.Says.{RebuildServerSays}
 use Rattle.demands_servers.proofs.Servers.{rebuilds}
 
 -- an accepted rebuild of server j, and another server i of it
-module _ (p k s m j : ℕ) (ts ls ts′ : List ℕ) (r : Answer) (q : RebuildSays p k s m j ts ls ts′ r) (z : r .refusal ≡ 0) (i : ℕ) (l : i < suc m) (n : i ≡ j → ⊥) where
+module _ (p k s m j : ℕ) (ts ls ts′ : List ℕ) (r : Answer) (q : RebuildServerSays p k s m j ts ls ts′ r) (z : r .refusal ≡ 0) (i : ℕ) (l : i < suc m) (n : i ≡ j → ⊥) where
   others : serverAt p k s ts′ i ≡ mended p k s (firstLoss ls i) (secondLoss ls i) (serverAt p k s ts i)
   others = rebuilds p k s m j ts ls ts′ r q z .others i l n
 

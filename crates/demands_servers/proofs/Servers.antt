@@ -18,7 +18,7 @@ use Rattle.liberation_servers.proofs.ServerBack.{rebuilt-servers, rebuilt-other
 use Rattle.liberation_servers.proofs.Unread.{fault-unread, rebuilt-unread}
 use Rattle.refusals.specs.declared.Answer.{Answer}
 use Rattle.refusals.proofs.AnswerLaws.{answers-none}
-use Rattle.servers.specs.Says.{WriteSays, RebuildSays}
+use Rattle.servers.specs.Says.{WriteServerSays, RebuildServerSays}
 
 -- An accepted call that writes the extra stripe of ts leaves ts′.
 pub record Writes (p k s m : ℕ) (ts ts′ : List ℕ) : Type 0 where
@@ -32,7 +32,7 @@ pub record Writes (p k s m : ℕ) (ts ts′ : List ℕ) : Type 0 where
   pub is-clean : ((i : ℕ) → i < m → clean p k s (serverAt p k s ts i) ≡ true) → clean p k s (serverAt p k s ts′ m) ≡ true
   pub all-clean : ((i : ℕ) → i < m → clean p k s (serverAt p k s ts i) ≡ true) → CleanServers p k s m ts′
 
-module _ (p k s m : ℕ) (ts ts′ : List ℕ) (r : Answer) (q : WriteSays p k s m ts ts′ r) where
+module _ (p k s m : ℕ) (ts ts′ : List ℕ) (r : Answer) (q : WriteServerSays p k s m ts ts′ r) where
   pub write-stands : (r .refusal ≡ 0 → ⊥) → ts′ ≡ ts
   write-stands z = q .stripes ∙ sym (pick-refused (r .refusal) (writeFault p k s m ts) (written p k s m ts) ts (q .answer .refusal) z)
 
@@ -69,7 +69,7 @@ pub record Rebuilds (p k s m j : ℕ) (ls ts ts′ : List ℕ) : Type 0 where
   -- "the lost server comes back exact, provided all m + 1 stripes were clean and the extra the XOR of the rest before the losses", and so does every other
   pub back : (us : List ℕ) → CleanServers p k s m us → AlikeOff p k s m j ls ts us → ts′ ≡ us
 
-module _ (p k s m j : ℕ) (ts ls ts′ : List ℕ) (r : Answer) (q : RebuildSays p k s m j ts ls ts′ r) where
+module _ (p k s m j : ℕ) (ts ls ts′ : List ℕ) (r : Answer) (q : RebuildServerSays p k s m j ts ls ts′ r) where
   pub rebuild-stands : (r .refusal ≡ 0 → ⊥) → ts′ ≡ ts
   rebuild-stands z = q .stripes ∙ sym (pick-refused (r .refusal) (rebuildFault p k s m j ls ts) (serverRebuilt p k s m j ls ts) ts (q .answer .refusal) z)
 
@@ -92,7 +92,7 @@ module _ (p k s m j : ℕ) (ts ls ts′ : List ℕ) (r : Answer) (q : RebuildSay
         }
 
     -- what server j and the lost disks held does not matter, on dirty stripes too
-    pub never-used : (vs vs′ : List ℕ) (o : Answer) → RebuildSays p k s m j vs ls vs′ o → o .refusal ≡ 0 → AlikeOff p k s m j ls ts vs → ts′ ≡ vs′
+    pub never-used : (vs vs′ : List ℕ) (o : Answer) → RebuildServerSays p k s m j vs ls vs′ o → o .refusal ≡ 0 → AlikeOff p k s m j ls ts vs → ts′ ≡ vs′
     never-used vs vs′ o w y same =
         let av : rebuildFault p k s m j ls vs ≡ 0 = answers-none (rebuildFault p k s m j ls vs) o (w .answer) y in
         rebuild-done
@@ -100,7 +100,7 @@ module _ (p k s m j : ℕ) (ts ls ts′ : List ℕ) (r : Answer) (q : RebuildSay
         ∙ sym (w .stripes ∙ ap (λ (n : ℕ). pick (eqb n 0) (serverRebuilt p k s m j ls vs) vs) av)
 
   -- "the lost server's own pair is not read": neither the answer nor the stripes depend on it
-  pub pair-unread : (ms us : List ℕ) (o : Answer) → RebuildSays p k s m j ts ms us o → length ls ≡ length ms → ((i : ℕ) → i < suc m → (i ≡ j → ⊥) → (firstLoss ls i ≡ firstLoss ms i) × (secondLoss ls i ≡ secondLoss ms i)) → (r .refusal ≡ o .refusal) × (ts′ ≡ us)
+  pub pair-unread : (ms us : List ℕ) (o : Answer) → RebuildServerSays p k s m j ts ms us o → length ls ≡ length ms → ((i : ℕ) → i < suc m → (i ≡ j → ⊥) → (firstLoss ls i ≡ firstLoss ms i) × (secondLoss ls i ≡ secondLoss ms i)) → (r .refusal ≡ o .refusal) × (ts′ ≡ us)
   pair-unread ms us o w long same =
       let e : rebuildFault p k s m j ls ts ≡ rebuildFault p k s m j ms ts = fault-unread p k s m j ls ms same ts long in (
         q .answer .refusal ∙ e ∙ sym (w .answer .refusal),
@@ -109,8 +109,8 @@ module _ (p k s m j : ℕ) (ts ls ts′ : List ℕ) (r : Answer) (q : RebuildSay
 
 -- both calls together: what was written over clean stripes comes back after the losses
 pub written-back :
-    (p k s m j : ℕ) (ts ts′ vs ls vs′ : List ℕ) (r o : Answer) → WriteSays p k s m ts ts′ r → r .refusal ≡ 0
+    (p k s m j : ℕ) (ts ts′ vs ls vs′ : List ℕ) (r o : Answer) → WriteServerSays p k s m ts ts′ r → r .refusal ≡ 0
     → ((i : ℕ) → i < m → clean p k s (serverAt p k s ts i) ≡ true)
-    → RebuildSays p k s m j vs ls vs′ o → o .refusal ≡ 0 → AlikeOff p k s m j ls vs ts′ → vs′ ≡ ts′
+    → RebuildServerSays p k s m j vs ls vs′ o → o .refusal ≡ 0 → AlikeOff p k s m j ls vs ts′ → vs′ ≡ ts′
 written-back p k s m j ts ts′ vs ls vs′ r o w z cleans q y same =
     rebuilds p k s m j vs ls vs′ o q y .back ts′ (writes p k s m ts ts′ r w z .all-clean cleans) same

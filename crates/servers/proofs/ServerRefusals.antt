@@ -22,7 +22,7 @@ use Rattle.liberation_servers.proofs.RefusalLaws.{count-of, server-of, server-l
 use Rattle.refusals.specs.declared.Answer.{Answer}
 use Rattle.refusals.specs.Answers.{Answers}
 use Rattle.refusals.proofs.AnswerLaws.{answers-as}
-use Rattle.servers.specs.Says.{rebuildTests, WriteSays, RebuildSays}
+use Rattle.servers.specs.Says.{rebuildTests, WriteServerSays, RebuildServerSays}
 
 -- 18, by the tests of a number of servers and of a server
 module _ (m j : ℕ) where
@@ -69,10 +69,10 @@ module _ (p k s m : ℕ) (ts : List ℕ) where
   unfolding writeFault
   write-tests n e = e ∙ ap (λ (x : ℕ). firstOf (shapeFault p k s) (firstOf x (when (not (eqb (length ts) (serversLong p k s m))) 5))) (server-last m)
 
-  pub write-refused : (n : ℕ) (r : Answer) → n ≡ writeFault p k s m ts → (n ≡ 0 → ⊥) → Answers n r → allBytes ts ≡ true → WriteSays p k s m ts ts r
+  pub write-refused : (n : ℕ) (r : Answer) → n ≡ writeFault p k s m ts → (n ≡ 0 → ⊥) → Answers n r → allBytes ts ≡ true → WriteServerSays p k s m ts ts r
   write-refused n r e z a b = record { answer = answers-as n (writeFault p k s m ts) r e a; stripes = pick-refused n (writeFault p k s m ts) (written p k s m ts) ts e z; bytes = b }
 
-  pub write-done : (us : List ℕ) (r : Answer) → writeFault p k s m ts ≡ 0 → us ≡ solved (stripeLong p k s) m (upTo (m + 1)) ts → Answers 0 r → allBytes ts ≡ true → WriteSays p k s m ts us r
+  pub write-done : (us : List ℕ) (r : Answer) → writeFault p k s m ts ≡ 0 → us ≡ solved (stripeLong p k s) m (upTo (m + 1)) ts → Answers 0 r → allBytes ts ≡ true → WriteServerSays p k s m ts us r
   write-done us r z e a b =
       record {
         answer = answers-as 0 (writeFault p k s m ts) r (sym z) a;
@@ -86,7 +86,7 @@ module _ (p k s m : ℕ) (ts : List ℕ) where
     unfolding rebuildFault
     rebuild-tests n e = e
 
-    pub rebuild-refused : (n : ℕ) (r : Answer) → n ≡ rebuildFault p k s m j ls ts → (n ≡ 0 → ⊥) → Answers n r → allBytes ts ≡ true → allBytes ls ≡ true → RebuildSays p k s m j ts ls ts r
+    pub rebuild-refused : (n : ℕ) (r : Answer) → n ≡ rebuildFault p k s m j ls ts → (n ≡ 0 → ⊥) → Answers n r → allBytes ts ≡ true → allBytes ls ≡ true → RebuildServerSays p k s m j ts ls ts r
     rebuild-refused n r e z a b d =
         record {
           answer = answers-as n (rebuildFault p k s m j ls ts) r e a;
@@ -100,7 +100,7 @@ module _ (p k s m : ℕ) (ts : List ℕ) where
     unfolding serverRebuilt
     both-done us vs e q = q ∙ ap (solved (stripeLong p k s) j (upTo (m + 1))) e ∙ ap (λ (n : ℕ). solved (stripeLong p k s) j (upTo n) (mendedAll n p k s j ls ts)) (add-one m)
 
-    pub rebuild-done : (us vs : List ℕ) (r : Answer) → rebuildFault p k s m j ls ts ≡ 0 → us ≡ mendedAll (m + 1) p k s j ls ts → vs ≡ solved (stripeLong p k s) j (upTo (m + 1)) us → Answers 0 r → allBytes ts ≡ true → allBytes ls ≡ true → RebuildSays p k s m j ts ls vs r
+    pub rebuild-done : (us vs : List ℕ) (r : Answer) → rebuildFault p k s m j ls ts ≡ 0 → us ≡ mendedAll (m + 1) p k s j ls ts → vs ≡ solved (stripeLong p k s) j (upTo (m + 1)) us → Answers 0 r → allBytes ts ≡ true → allBytes ls ≡ true → RebuildServerSays p k s m j ts ls vs r
     rebuild-done us vs r z e q a b d =
         record {
           answer = answers-as 0 (rebuildFault p k s m j ls ts) r (sym z) a;

@@ -17,14 +17,14 @@ rebuildTests p k s m j n ls =
     firstOf (firstOf (shapeFault p k s) (firstOf (serverFault m j) (when (not (eqb n (serversLong p k s m))) 5))) (firstOf (longFault (2 * suc m) ls) (lossesFault (suc m) k j ls))
 
 -- the stripes ts become ts′: the extra one written, or all as they were on a refusal
-pub record WriteSays (p k s m : ℕ) (ts ts′ : List ℕ) (r : Answer) : Type 0 where
+pub record WriteServerSays (p k s m : ℕ) (ts ts′ : List ℕ) (r : Answer) : Type 0 where
   pub answer : Answers (writeFault p k s m ts) r
   pub stripes : ts′ ≡ pick (eqb (writeFault p k s m ts) 0) (written p k s m ts) ts
   -- what was lent are bytes
   pub bytes : allBytes ts ≡ true
 
 -- the stripes ts become ts′: all mended and server j rebuilt, or as they were on a refusal; ls are the losses
-pub record RebuildSays (p k s m j : ℕ) (ts ls ts′ : List ℕ) (r : Answer) : Type 0 where
+pub record RebuildServerSays (p k s m j : ℕ) (ts ls ts′ : List ℕ) (r : Answer) : Type 0 where
   pub answer : Answers (rebuildFault p k s m j ls ts) r
   pub stripes : ts′ ≡ pick (eqb (rebuildFault p k s m j ls ts) 0) (serverRebuilt p k s m j ls ts) ts
   -- what was lent are bytes

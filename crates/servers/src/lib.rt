@@ -10,7 +10,7 @@ ghost use Rattle.liberation.specs.Sets.{shapeFault};
 ghost use Rattle.liberation_stripes.specs.Stripes.{without, solved};
 ghost use Rattle.liberation_servers.specs.Servers.{upTo, serversLong, serverFault};
 ghost use Rattle.offsets.specs.Offsets.{scaled, Pushed};
-ghost use Rattle.servers.specs.Says.{rebuildTests, WriteSays, RebuildSays};
+ghost use Rattle.servers.specs.Says.{rebuildTests, WriteServerSays, RebuildServerSays};
 use refusals::Answer;
 use refusals::Shape;
 
@@ -117,7 +117,7 @@ fn rebuild_fault(
 
 // Writes the extra server's stripe. Refusals: 1, 13, 2, 18, 5; a refused call leaves the stripes as they were.
 pub fn write_server(shape: Shape, servers: usize, stripes: &mut [u8]) -> Answer
-    ensures { λ r. ⌜ WriteSays (shape .width) (shape .disks) (shape .«cell_size») servers (now (stripes .entry)) (now (stripes .exit)) r ⌝ }
+    ensures { λ r. ⌜ WriteServerSays (shape .width) (shape .disks) (shape .«cell_size») servers (now (stripes .entry)) (now (stripes .exit)) r ⌝ }
 {
     let width = shape.width;
     let disks = shape.disks;
@@ -139,7 +139,7 @@ pub fn rebuild_server(
     stripes: &mut [u8],
     losses: &[u8],
 ) -> Answer
-    ensures { λ r. ⌜ RebuildSays (shape .width) (shape .disks) (shape .«cell_size») servers lost (now (stripes .entry)) (now (losses .entry)) (now (stripes .exit)) r ⌝ }
+    ensures { λ r. ⌜ RebuildServerSays (shape .width) (shape .disks) (shape .«cell_size») servers lost (now (stripes .entry)) (now (losses .entry)) (now (stripes .exit)) r ⌝ }
 {
     let width = shape.width;
     let disks = shape.disks;

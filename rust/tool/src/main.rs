@@ -12,7 +12,6 @@ mod label;
 mod layout;
 mod output;
 mod picture;
-mod plan_file;
 mod progress;
 mod rebuild;
 mod record;

@@ -8,7 +8,6 @@ use cuzhaveli::{Refusal, Shape};
 use crate::args::{Form, Given};
 use crate::commands::Command;
 use crate::fault::Fault;
-use crate::plan_file;
 use crate::say;
 
 pub const COMMAND: Command = Command {
@@ -19,9 +18,6 @@ pub const COMMAND: Command = Command {
     operands: 1..=1,
     run,
 };
-
-/// The refusal of a text that is not of the form.
-const BAD_FORM: u8 = 22;
 
 /// What the judge says of a plan.
 enum Verdict {
@@ -50,11 +46,8 @@ fn run(given: &Given) -> Result<(), Fault> {
 
 /// Judges a plan's text.
 fn judge(shape: Shape, lost: usize, text: &[u8]) -> Result<Verdict, Refusal> {
-    shape.plan(lost)?; // 3 comes before the text
-    let Some(steps) = plan_file::steps(shape.width(), text) else {
-        return Ok(Verdict::Refused(BAD_FORM, 0));
-    };
-    Ok(match shape.judge_bytes(lost, &steps) {
+    shape.plan(lost)?; // a disk that the array lacks is no verdict on the plan
+    Ok(match shape.judge_text(lost, text) {
         Ok(reads) => Verdict::Accepted(reads),
         Err(refusal) => Verdict::Refused(refusal.number(), refusal.place()),
     })

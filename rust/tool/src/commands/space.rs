@@ -3,7 +3,7 @@
 use std::fs;
 use std::path::Path;
 
-use cuzhaveli::{Refusal, Shape, Space};
+use cuzhaveli::Space;
 
 use crate::args::{usage, Form, Given};
 use crate::commands::Command;
@@ -13,7 +13,7 @@ use crate::say;
 pub const COMMAND: Command = Command {
     name: "space",
     usage: "-p WIDTH [-k DISKS] [-s CELL] --free BYTES (--bytes N | FILE...)",
-    about: "the stripes that a package takes, the bytes of each disk, and whether these are free",
+    about: "the stripes that a package of files takes, the bytes of each disk, and whether these are free",
     options: &[
         Form::Value("-p"),
         Form::Value("-k"),
@@ -32,7 +32,7 @@ fn run(given: &Given) -> Result<(), Fault> {
         None if !given.operands.is_empty() => file_lengths(given)?,
         _ => return Err(usage("give --bytes or files, one of the two".into())),
     };
-    let Space { stripes, bytes_per_disk, fits } = space(shape, &lengths, free)?;
+    let Space { stripes, bytes_per_disk, fits } = shape.space(&lengths, free)?;
     let answer = if fits { "yes" } else { "no" };
     say::line(format!("stripes,{stripes},bytes,{bytes_per_disk},fits,{answer}"))?;
     if fits {
@@ -48,9 +48,4 @@ fn file_lengths(given: &Given) -> Result<Vec<u64>, Fault> {
         fs::metadata(path).map(|data| data.len()).map_err(|error| Fault::path(path, error))
     };
     given.operands.iter().map(length).collect()
-}
-
-/// The space of a package of these files.
-fn space(shape: Shape, lengths: &[u64], free: u64) -> Result<Space, Refusal> {
-    shape.space(lengths.iter().fold(0, |sum: u64, length| sum.saturating_add(*length)), free)
 }
