@@ -1,4 +1,4 @@
--- A line at a place from its parts, the loop over the lines: after i lines their steps stand in the plan's bytes, with zeros after them, and the next line begins behind them. Then the whole text.
+-- A line at a place from its parts. The loop over the lines: after i lines their steps stand in the plan's bytes, with zeros after them, and the next line begins behind them. The whole text from its names, their line end and the lines.
 use mathlib.Core.Path.{_≡_, refl, sym, ap, ap₂, _∙_}
 use mathlib.Core.Bool.{Bool, true, false, _&&_, and-false}
 use mathlib.Core.List.{List, [], _∷_, _++_}
@@ -23,7 +23,7 @@ use Rattle.plan_reader.specs.declared.Parsed.{Parsed}
 use Rattle.plan_reader.specs.Says.{NumberAt, LineAt, planBytes, Reads, LinesSay, ParseSays}
 use Rattle.plan_reader.proofs.TestLaws.{after}
 
--- where a number ends, and a line end
+-- where a number ends
 pub number-ends : {t : List ℕ} {at : ℕ} {r : Number} → NumberAt t at r → r .next ≤ at + 3
 number-ends {t} {at} a = omega (arith, a .next, digits-few 3 (drop at t))
 

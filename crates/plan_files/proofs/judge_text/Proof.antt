@@ -5,12 +5,12 @@ use native.Mathlib.Omega.{arith}
 use lib.ListN.{length, take}
 use lib.Seq.{length-take-le}
 use borrow.Author.Tests.{not-true, not-false}
+use borrow.Author.Needs.{needs}
 use Rattle.laws.proofs.ChoiceLaws.{first-kept, first-next}
 use Rattle.liberation.specs.Sets.{planFault}
 use Rattle.liberation_texts.specs.Reading.{stepsRead}
 use Rattle.plan_files.specs.Says.{textFault, judgeFirst}
 use Rattle.plan_files.proofs.FileLaws.{not-read, is-read, read-steps, plan-small, judges-refused, judges-steps}
-use borrow.Author.Needs.{needs}
 use Rattle.plan_files.proofs.judge_text.Statement.{statement}
 use Rattle.plan_files.proofs.judge_text.Tie as tie
 

@@ -5,6 +5,7 @@ use native.Mathlib.Omega.{arith}
 use lib.ListN.{length, take}
 use lib.Seq.{length-take-le}
 use borrow.Author.Tests.{not-true, not-false}
+use borrow.Author.Needs.{needs}
 use Rattle.laws.proofs.ChoiceLaws.{first-kept, first-next, first-none}
 use Rattle.liberation.specs.Sets.{planFault, longFault}
 use Rattle.liberation.specs.Judging.{stepsIn}
@@ -12,7 +13,6 @@ use Rattle.liberation.proofs.FaultLaws.{long-of}
 use Rattle.liberation_texts.specs.Reading.{stepsRead}
 use Rattle.plan_files.specs.Says.{textFault, roomFault, plainFirst}
 use Rattle.plan_files.proofs.FileLaws.{not-read, is-read, read-steps, plan-small, writes-refused, writes-steps}
-use borrow.Author.Needs.{needs}
 use Rattle.plan_files.proofs.plain_text.Statement.{statement}
 use Rattle.plan_files.proofs.plain_text.Tie as tie
 

@@ -2,9 +2,9 @@
 use mathlib.Core.Path.{sym, _∙_}
 use mathlib.Core.Bool.{not}
 use lib.Dec.{eqb}
+use borrow.Author.Needs.{needs}
 use Rattle.laws.specs.Choice.{when}
 use Rattle.laws.proofs.ChoiceLaws.{first-kept, first-next}
-use borrow.Author.Needs.{needs}
 use Rattle.plan_files.proofs.room_fault.Statement.{statement}
 use Rattle.plan_files.proofs.room_fault.Tie as tie
 

@@ -2,13 +2,13 @@
 use mathlib.Core.Path.{_≡_, refl, sym, _∙_}
 use Prim.Native.Nat.{_*_}
 use native.Mathlib.Omega.{arith}
+use borrow.Author.Needs.{needs}
 use Rattle.laws.proofs.ChoiceLaws.{first-kept, first-next, first-none}
 use Rattle.liberation.specs.Sets.{planFault, longFault}
 use Rattle.liberation.specs.Judging.{stepsIn}
 use Rattle.liberation.proofs.FaultLaws.{long-of}
 use Rattle.plan_files.specs.Says.{roomFault, writeFirst}
 use Rattle.plan_files.proofs.FileLaws.{plan-small, writes-refused, writes-steps}
-use borrow.Author.Needs.{needs}
 use Rattle.plan_files.proofs.write_plan.Statement.{statement}
 use Rattle.plan_files.proofs.write_plan.Tie as tie
 

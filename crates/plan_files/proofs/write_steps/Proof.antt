@@ -1,10 +1,10 @@
 -- `write_steps`: the judge decides; an accepted plan has numbers of at most two digits, and 263 bytes have room for its plain form.
 use mathlib.Core.Path.{refl}
 use native.Mathlib.Omega.{arith}
+use borrow.Author.Needs.{needs}
 use Rattle.liberation.specs.Judging.{stepsIn, accepted}
 use Rattle.plan_files.specs.Says.{Judges}
 use Rattle.plan_files.proofs.FileLaws.{plan-small, judges-steps, steps-refused, steps-accepted, steps-written, writable-steps}
-use borrow.Author.Needs.{needs}
 use Rattle.plan_files.proofs.write_steps.Statement.{statement}
 use Rattle.plan_files.proofs.write_steps.Tie as tie
 

@@ -1,6 +1,6 @@
 -- `end_at`: the byte at the place, and after CR the one behind it.
-use Rattle.plan_reader.proofs.TestLaws.{end-lf, end-none, end-cr-lf, end-cr}
 use borrow.Author.Needs.{needs}
+use Rattle.plan_reader.proofs.TestLaws.{end-lf, end-none, end-cr-lf, end-cr}
 use Rattle.plan_reader.proofs.end_at.Statement.{statement}
 use Rattle.plan_reader.proofs.end_at.Tie as tie
 

@@ -1,8 +1,8 @@
 -- `has_names`: fewer than 14 bytes are not the names; else the first 14 are compared.
 use mathlib.Core.Path.{sym}
 use lib.Seq.{length-take-le}
-use Rattle.plan_reader.proofs.TestLaws.{names-short, names-same}
 use borrow.Author.Needs.{needs}
+use Rattle.plan_reader.proofs.TestLaws.{names-short, names-same}
 use Rattle.plan_reader.proofs.has_names.Statement.{statement}
 use Rattle.plan_reader.proofs.has_names.Tie as tie
 

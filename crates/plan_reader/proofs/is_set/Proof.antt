@@ -1,8 +1,8 @@
 -- `is_set`: the three bytes from the place on, one after the other.
 use mathlib.Core.Path.{sym, _∙_}
 use borrow.Author.Tests.{not-true, not-false}
-use Rattle.plan_reader.proofs.TestLaws.{set-no-comma, set-no-letter, set-last}
 use borrow.Author.Needs.{needs}
+use Rattle.plan_reader.proofs.TestLaws.{set-no-comma, set-no-letter, set-last}
 use Rattle.plan_reader.proofs.is_set.Statement.{statement}
 use Rattle.plan_reader.proofs.is_set.Tie as tie
 

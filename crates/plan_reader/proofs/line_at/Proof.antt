@@ -1,10 +1,10 @@
 -- `line_at`: the parts one behind the other, each from the place where the one before it ends.
-use native.Mathlib.Omega.{arith}
-use Rattle.plan_reader.proofs.LineLaws.{number-ends, line-is}
-use Rattle.liberation_texts.proofs.StepwiseLaws.{end-few}
-use lib.ListN.{drop}
 use mathlib.Core.Path.{refl}
+use native.Mathlib.Omega.{arith}
+use lib.ListN.{drop}
 use borrow.Author.Needs.{needs}
+use Rattle.liberation_texts.proofs.StepwiseLaws.{end-few}
+use Rattle.plan_reader.proofs.LineLaws.{number-ends, line-is}
 use Rattle.plan_reader.proofs.line_at.Statement.{statement}
 use Rattle.plan_reader.proofs.line_at.Tie as tie
 

@@ -1,8 +1,8 @@
 -- `lines_at`: each turn reads a line and puts its step into the plan. The invariant: the lines so far are lines, their steps are the plan's bytes, and the next line begins behind them.
-use Prim.Native.Nat.{_-_}
-use native.Mathlib.Omega.{arith}
 use mathlib.Core.Path.{_≡_, refl}
 use mathlib.Core.Bool.{true}
+use Prim.Native.Nat.{_-_}
+use native.Mathlib.Omega.{arith}
 use borrow.Author.Tests.{not-true, not-false}
 use borrow.Author.Needs.{needs}
 use Rattle.liberation.specs.Plans.{step}

@@ -2,8 +2,8 @@
 use mathlib.Core.Path.{refl, sym, ap₂, _∙_}
 use Prim.Native.Nat.{ℕ, _+_, _*_}
 use borrow.Author.Tests.{not-true, not-false}
-use Rattle.plan_reader.proofs.TestLaws.{no-number, one-digit, two-digits, three-digits}
 use borrow.Author.Needs.{needs}
+use Rattle.plan_reader.proofs.TestLaws.{no-number, one-digit, two-digits, three-digits}
 use Rattle.plan_reader.proofs.number_at.Statement.{statement}
 use Rattle.plan_reader.proofs.number_at.Tie as tie
 

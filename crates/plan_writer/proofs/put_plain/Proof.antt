@@ -1,7 +1,7 @@
 -- `put_plain`: the names line and the steps' lines, one behind the other, are the plain form.
 use borrow.Author.Needs.{needs}
-use Rattle.liberation_texts.specs.Plain.{plain}
 use Rattle.text.proofs.WriteLaws.{wrote-more}
+use Rattle.liberation_texts.specs.Plain.{plain}
 use Rattle.plan_writer.proofs.put_plain.Statement.{statement}
 use Rattle.plan_writer.proofs.put_plain.Tie as tie
 
