@@ -9,4 +9,3 @@ pub mod StartLaws
 pub mod FirstCell
 pub mod Restoring
 pub mod PairLaws
-pub mod PairColumns

@@ -1,20 +1,19 @@
 -- "Any contents of the other p disks belong to exactly one clean stripe. The two columns of the lent stripe become that stripe's; the rest is untouched." For every width p, every number k ≤ p of data disks and any two different disks.
 -- Also: at each step after the first cell every lost cell of its set but the one written stands.
-use mathlib.Core.Path.{_≡_, refl, sym, ap, ap₂, subst, _∙_}
+use mathlib.Core.Path.{_≡_, refl, sym, ap, subst, _∙_}
 use mathlib.Core.Bool.{Bool, true, false, _||_, not, or-comm}
 use mathlib.Core.List.{List, [], _∷_}
 use Prim.Native.Nat.{ℕ, suc, _+_, _%_, _≤_, _<_}
 use native.Mathlib.Omega.{arith}
 use lib.Dec.{eqb, ltb}
-use borrow.Author.Tests.{ltb-true, ltb-false, eqb-true, eqb-false, le-ltb, lt-ltb, ne-eqb}
+use borrow.Author.Tests.{ltb-true, ltb-false, eqb-true, eqb-false}
 use Rattle.laws.specs.Choice.{pick}
 use Rattle.laws.specs.Lists.{isIn}
 use Rattle.laws.proofs.Primes.{Prime}
 use Rattle.liberation.specs.Sets.{isWidth, diskAt}
-use Rattle.liberation.specs.Plans.{Step, allOf}
+use Rattle.liberation.specs.Plans.{allOf}
 use Rattle.liberation.proofs.Widths.{width-prime, width-odd}
-use Rattle.liberation.proofs.ParityPlans.{plan-row-parity, plan-diagonal-parity}
-use Rattle.liberation_stripes.specs.Stripes.{cellAt, isStripe, clean, followed, encoded}
+use Rattle.liberation_stripes.specs.Stripes.{cellAt, isStripe, clean, followed}
 use Rattle.liberation_pairs.specs.Pairs.{firstCell, started, walked, forward, upDiagonals, withRowParity, withDiagonalParity, orderedSolved, pairSolved}
 use Rattle.liberation_pairs.specs.PairSteps.{CellStep, stepsDone, onDisk, dataSteps, rowParitySteps, diagonalParitySteps, orderedSteps, orderedFirst, orderedStart, pairSteps, pairFirst, pairStart, isKnown, stepsStand}
 use Rattle.liberation_pairs.proofs.Standing.{Standing, none, next, standing-true}
@@ -151,11 +150,3 @@ module _ (p k s a b : ℕ) (width : isWidth p ≡ true) (most : k ≤ p) (ha : a
   -- and these are the steps that rebuild the pair, once the first cell is written
   pub pair-steps : (t : List ℕ) → pairSolved p k s a b t ≡ stepsDone p k s (pairSteps p k a b) (pairStart p k s a b t)
   pair-steps = whole .steps
-
--- P and Q: encoding
-pub pair-encoded : (p k s : ℕ) (t : List ℕ) → pairSolved p k s k (suc k) t ≡ encoded p k s t
-unfolding pairSolved orderedSolved encoded
-pair-encoded p k s t =
-    ap (λ (b : Bool). pick b (orderedSolved p k s k (suc k) t) (orderedSolved p k s (suc k) k t)) (lt-ltb k (suc k) (omega arith))
-    ∙ ap₂ (λ (b c : Bool). pick b (pick (forward p k (suc k)) (walked p k s k (suc k) t) (walked p k s (suc k) k t)) (pick c (withRowParity p k s k t) (withDiagonalParity p k s k t))) (le-ltb (suc k) k (omega arith)) (ne-eqb (suc k) k (λ e. omega arith))
-    ∙ sym (ap₂ (λ (q r : List Step). followed p k s (suc k) q (followed p k s k r t)) (plan-diagonal-parity p k) (plan-row-parity p k))
