@@ -7,7 +7,7 @@ use mathlib.Core.List.{List, [], _∷_, _++_, append-assoc}
 use Prim.Native.Nat.{ℕ, zero, suc, _+_, _-_, _*_, _%_, _≤_, _<_}
 use native.Mathlib.Nat.{mod-lt}
 use native.Mathlib.Omega.{arith}
-use lib.Dec.{eqb, ltb, leb}
+use lib.Dec.{ltb, leb}
 use lib.ListN.{length, take, drop, replicate, length-append, length-drop, length-replicate}
 use lib.Seq.{length-take-le, take-at, drop-at, drop-drop, take-append-le, drop-append-le}
 use borrow.Author.Tests.{ltb-true, ltb-false}
@@ -206,14 +206,6 @@ module _ (p k s : ℕ) (t : List ℕ) (most : k ≤ p) (stripe : isStripe p k s 
     where
       ends : (n : ℕ) → diagonalSet p n i ≡ diagonalFrom n p i 0 ++ (place p i (suc n) ∷ pick (hasExtra p n i) (extraOf p i ∷ []) [])
       ends n = append-assoc (diagonalFrom n p i 0) (place p i (suc n) ∷ []) (pick (hasExtra p n i) (extraOf p i ∷ []) [])
-
-  -- "their cells leave every set and count as zero": each set's XOR is the same
-  pub widened-set : (kind i : ℕ) → i < p → xorOver s (cellAt s (widened p k s t)) (setOf p p kind i) ≡ xorOver s (cellAt s t) (setOf p k kind i)
-  widened-set kind i l = go (eqb kind 0)
-    where
-      go : (b : Bool) → xorOver s full (pick b (rowSet p p i) (diagonalSet p p i)) ≡ xorOver s part (pick b (rowSet p k i) (diagonalSet p k i))
-      go true = row-kept i l
-      go false = diagonal-kept i l
 
   -- so one is clean exactly if the other is
   pub widened-clean : clean p k s t ≡ clean p p s (widened p k s t)
