@@ -2,7 +2,7 @@
 use mathlib.Core.Path.{_≡_, refl, ap, ap₂, _∙_}
 use mathlib.Core.Bool.{Bool, true, false}
 use mathlib.Core.Logic.{_⊎_, inl, inr, ⊎-elim}
-use mathlib.Core.List.{List, [], _∷_, _++_}
+use mathlib.Core.List.{List, [], _∷_, _++_, append-nil}
 use Prim.Native.Nat.{ℕ, suc, _+_, _*_, _≤_, _<_}
 use native.Mathlib.Nat.{mod-lt}
 use native.Mathlib.Omega.{arith}
@@ -15,7 +15,7 @@ use Rattle.laws.proofs.ListLaws.{below-append}
 use Rattle.laws.proofs.OrderLaws.{lt-or-le}
 use Rattle.liberation.specs.Sets.{rowAt, diskAt, rowSet, diagonalSet, lostIn}
 use Rattle.liberation.proofs.SetLaws.{set-below}
-use Rattle.liberation.proofs.LostLaws.{lost-append, lost-row, lost-row-Q}
+use Rattle.liberation.proofs.LostLaws.{lost-append, lost-row, lost-row-Q, lost-diagonal-P}
 use Rattle.liberation_survivors.specs.Survivors.{rowSets, balance}
 
 -- the rows of a list on a disk are below p
@@ -52,6 +52,14 @@ balance-last p k i = ap (λ (b : Bool). pick b (rowSet p k i) (diagonalSet p k i
 pub balance-other : (p k d i : ℕ) → d ≤ k → balance p k d i ≡ diagonalSet p k i ++ rowSets p k (lostIn p d (diagonalSet p k i))
 unfolding balance
 balance-other p k d i h = ap (λ (b : Bool). pick b (rowSet p k i) (diagonalSet p k i ++ rowSets p k (lostIn p d (diagonalSet p k i)))) (ne-eqb d (suc k) (λ e. omega arith))
+
+-- on P it is the diagonal alone
+pub balance-row-parity : (p k i : ℕ) → i < p → balance p k k i ≡ diagonalSet p k i
+unfolding rowSets
+balance-row-parity p k i l =
+    balance-other p k k i (omega arith)
+    ∙ ap (λ (rs : List ℕ). diagonalSet p k i ++ rowSets p k rs) (lost-diagonal-P p k i l)
+    ∙ append-nil (diagonalSet p k i)
 
 -- Q, or a disk before it
 pub last-or : (k d : ℕ) → d < k + 2 → (d ≡ suc k) ⊎ (d ≤ k)

@@ -39,66 +39,55 @@ module _ (p k s d : ℕ) (disk : d < k + 2) (t : List ℕ) (stripe : isStripe p 
     pub column-explains : clean p k s (withColumn p s d col t) ≡ true → Explains p k s d t (withColumn p s d col t)
     column-explains h = record { stripe = column-stripe; cleans = h; alike = λ x l n. sym (cell-off p s d col t long column-room x (some-row p (k + 2) x l) n) }
 
-  -- our plan for it is accepted
-  module _ (ok : accepted p k d (planOf p k d) ≡ true) where
-    fits-then : fits p k s d t ≡ true → Explains p k s d t (withRebuilt p k s d t)
-    unfolding fits
-    fits-then h = column-explains (rebuilt p k s d t) (rebuilt-long p k s d ok disk t stripe) (rebuilt-bytes p k s d ok disk t stripe) h
-
-    module _ (u : List ℕ) (e : Explains p k s d t u) where
-      column-is : columnOf p s d u ≡ rebuilt p k s d t
-      column-is = sym (one-back p k s d ok disk t u stripe (e .stripe) (e .cleans) (e .alike))
-
-      stripe-is : u ≡ withRebuilt p k s d t
-      stripe-is = cells-equal (p * (k + 2)) s u v (stripe-long p k s u (e .stripe)) (stripe-long p k s v (column-stripe (rebuilt p k s d t) long (rebuilt-bytes p k s d ok disk t stripe))) (λ x l. ⊎-elim (λ q. on x l (eqb-true (diskAt p x) d q)) (λ q. off x l (eqb-false (diskAt p x) d q)) (flag (eqb (diskAt p x) d)))
-        where
-          v : List ℕ
-          v = withRebuilt p k s d t
-
-          long : length (rebuilt p k s d t) ≡ p * s
-          long = rebuilt-long p k s d ok disk t stripe
-
-          off : (x : ℕ) → x < p * (k + 2) → (diskAt p x ≡ d → ⊥) → cellAt s u x ≡ cellAt s v x
-          off x l n = sym (e .alike x l n) ∙ sym (cell-off p s d (rebuilt p k s d t) t long column-room x (some-row p (k + 2) x l) n)
-
-          on : (x : ℕ) → x < p * (k + 2) → diskAt p x ≡ d → cellAt s u x ≡ cellAt s v x
-          on x l q =
-              ap (cellAt s u) (sym (place-of p x) ∙ ap (place p (rowAt p x)) q)
-              ∙ sym (column-cell p s d (rowAt p x) u (mod-lt x (some-row p (k + 2) x l)))
-              ∙ ap (λ (c : List ℕ). cellAt s c (rowAt p x)) column-is
-              ∙ sym (cell-on p s d (rebuilt p k s d t) t long column-room x (some-row p (k + 2) x l) q)
-
-      fits-if : fits p k s d t ≡ true
-      unfolding fits
-      fits-if = ap (clean p k s) (sym stripe-is) ∙ e .cleans
-
--- one disk of a width
+-- one disk of a width: our plan for it is accepted
 module _ (p k s d : ℕ) (width : isWidth p ≡ true) (most : k ≤ p) (disk : d < k + 2) (t : List ℕ) (stripe : isStripe p k s t ≡ true) where
+  ok : accepted p k d (planOf p k d) ≡ true
+  ok = plan-accepted p k d width most (omega arith)
+
+  long : length (rebuilt p k s d t) ≡ p * s
+  long = rebuilt-long p k s d ok disk t stripe
+
+  bytes : allBytes (rebuilt p k s d t) ≡ true
+  bytes = rebuilt-bytes p k s d ok disk t stripe
+
   -- it fits: the stripe with the disk rebuilt explains t
   pub fits-explains : fits p k s d t ≡ true → Explains p k s d t (withRebuilt p k s d t)
-  fits-explains = fits-then p k s d disk t stripe (plan-accepted p k d width most (omega arith))
+  unfolding fits
+  fits-explains h = column-explains p k s d disk t stripe (rebuilt p k s d t) long bytes h
 
-  -- and wherever some stripe does, it fits
-  pub explains-fits : (u : List ℕ) → Explains p k s d t u → fits p k s d t ≡ true
-  explains-fits = fits-if p k s d disk t stripe (plan-accepted p k d width most (omega arith))
-
-  -- that stripe's column is the rebuilt one, and the stripe is t with it
+  -- where some stripe explains t, its column is the rebuilt one
   pub explains-column : (u : List ℕ) → Explains p k s d t u → columnOf p s d u ≡ rebuilt p k s d t
-  explains-column = column-is p k s d disk t stripe (plan-accepted p k d width most (omega arith))
+  explains-column u e = sym (one-back p k s d ok disk t u stripe (e .stripe) (e .cleans) (e .alike))
 
-  pub explains-only : (u : List ℕ) → Explains p k s d t u → u ≡ withRebuilt p k s d t
-  explains-only = stripe-is p k s d disk t stripe (plan-accepted p k d width most (omega arith))
+  -- so it is t with that column, and the disk fits
+  pub explains-fits : (u : List ℕ) → Explains p k s d t u → fits p k s d t ≡ true
+  unfolding fits
+  explains-fits u e = ap (clean p k s) (sym same) ∙ e .cleans
+    where
+      v : List ℕ
+      v = withRebuilt p k s d t
 
-  -- it does not fit: no stripe does
-  pub unfit-none : fits p k s d t ≡ false → (u : List ℕ) → Explains p k s d t u → ⊥
-  unfit-none h u e = clash (fits p k s d t) (explains-fits u e) h
+      room : d * (p * s) + p * s ≤ length t
+      room = column-room p k s d disk t stripe
 
+      off : (x : ℕ) → x < p * (k + 2) → (diskAt p x ≡ d → ⊥) → cellAt s u x ≡ cellAt s v x
+      off x l n = sym (e .alike x l n) ∙ sym (cell-off p s d (rebuilt p k s d t) t long room x (some-row p (k + 2) x l) n)
+
+      on : (x : ℕ) → x < p * (k + 2) → diskAt p x ≡ d → cellAt s u x ≡ cellAt s v x
+      on x l q =
+          ap (cellAt s u) (sym (place-of p x) ∙ ap (place p (rowAt p x)) q)
+          ∙ sym (column-cell p s d (rowAt p x) u (mod-lt x (some-row p (k + 2) x l)))
+          ∙ ap (λ (c : List ℕ). cellAt s c (rowAt p x)) (explains-column u e)
+          ∙ sym (cell-on p s d (rebuilt p k s d t) t long room x (some-row p (k + 2) x l) q)
+
+      same : u ≡ v
+      same =
+          cells-equal (p * (k + 2)) s u v (stripe-long p k s u (e .stripe)) (stripe-long p k s v (column-stripe p k s d disk t stripe (rebuilt p k s d t) long bytes))
+          (λ x l. ⊎-elim (λ q. on x l (eqb-true (diskAt p x) d q)) (λ q. off x l (eqb-false (diskAt p x) d q)) (flag (eqb (diskAt p x) d)))
+
+  -- no stripe does: it does not fit
   pub none-unfit : ((u : List ℕ) → Explains p k s d t u → ⊥) → fits p k s d t ≡ false
   none-unfit n = ⊎-elim (λ h. absurd (n (withRebuilt p k s d t) (fits-explains h))) (λ h. h) (flag (fits p k s d t))
-
-  -- the same by columns: some column of p × s bytes put in makes t clean
-  pub column-fits : (col : List ℕ) → length col ≡ p * s → allBytes col ≡ true → clean p k s (withColumn p s d col t) ≡ true → fits p k s d t ≡ true
-  column-fits col long bytes h = explains-fits (withColumn p s d col t) (column-explains p k s d disk t stripe col long bytes h)
 
 -- a stripe explained by two different disks is clean
 module _ (p k s a b : ℕ) (width : isWidth p ≡ true) (most : k ≤ p) (ha : a < k + 2) (hb : b < k + 2) (t : List ℕ) (stripe : isStripe p k s t ≡ true) where
@@ -116,7 +105,3 @@ module _ (p k s a b : ℕ) (width : isWidth p ≡ true) (most : k ≤ p) (ha : a
 
   pub explains-once : clean p k s t ≡ false → (u v : List ℕ) → Explains p k s a t u → Explains p k s b t v → a ≡ b
   explains-once dirty u v eu ev = ⊎-elim (λ q. eqb-true a b q) (λ q. clash (clean p k s t) (two-clean (eqb-false a b q) u v eu ev) dirty) (flag (eqb a b))
-
-  -- at most one disk fits a dirty stripe
-  pub fits-once : clean p k s t ≡ false → fits p k s a t ≡ true → fits p k s b t ≡ true → a ≡ b
-  fits-once dirty fa fb = explains-once dirty (withRebuilt p k s a t) (withRebuilt p k s b t) (fits-explains p k s a width most ha t stripe fa) (fits-explains p k s b width most hb t stripe fb)

@@ -1,6 +1,5 @@
 -- Theorems: the disk that explains a stripe, the balances of its survivors, the verdict.
 pub mod Explaining
 pub mod BalanceCells
-pub mod BalanceForms
 pub mod Balancing
 pub mod Verdicts

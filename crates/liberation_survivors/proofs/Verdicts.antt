@@ -8,15 +8,13 @@ use native.Mathlib.Omega.{arith}
 use lib.Dec.{ltb}
 use borrow.Author.Tests.{ltb-true, lt-ltb}
 use Rattle.laws.specs.Choice.{pick}
-use Rattle.laws.specs.Sums.{firstFit}
 use Rattle.laws.proofs.Flags.{flag, clash}
 use Rattle.liberation.specs.Sets.{isWidth}
 use Rattle.liberation_stripes.specs.Stripes.{isStripe, clean}
-use Rattle.liberation_survivors.specs.Survivors.{withRebuilt, fits, suspect, verdict, allBalanced}
+use Rattle.liberation_survivors.specs.Survivors.{withRebuilt, fits, suspect, verdict}
 use Rattle.liberation_survivors.specs.Explained.{Explains, OneDisk, NoDisk, VerdictMeans}
-use Rattle.laws.proofs.FirstLaws.{first-passes, first-least, first-same}
+use Rattle.laws.proofs.FirstLaws.{first-passes, first-least}
 use Rattle.liberation_survivors.proofs.Explaining.{fits-explains, explains-fits, explains-once}
-use Rattle.liberation_survivors.proofs.Balancing.{fits-balanced}
 
 -- what the two flags give, and what each verdict says of them
 abbrev verdictBy : Bool → Bool → ℕ
@@ -97,12 +95,3 @@ module _ (p k s : ℕ) (width : isWidth p ≡ true) (most : k ≤ p) (t : List �
         if-none = none-given;
         few = rw verdict-is (by-few (clean p k s t) (ltb (suspect p k s t) (k + 2)));
       }
-
-  -- the same by flags: a disk that fits a dirty stripe is the suspect
-  pub fits-suspect : (d : ℕ) → d < k + 2 → clean p k s t ≡ false → fits p k s d t ≡ true → (verdict p k s t ≡ 1) × (suspect p k s t ≡ d)
-  fits-suspect d l dirty h = one-given d (withRebuilt p k s d t) l dirty (fits-explains p k s d width most l t stripe h)
-
-  -- the suspect by the balances alone
-  pub suspect-balanced : suspect p k s t ≡ firstFit (k + 2) (λ d. allBalanced p k s d t)
-  unfolding suspect
-  suspect-balanced = first-same (k + 2) 0 (λ d. fits p k s d t) (λ d. allBalanced p k s d t) (λ d l m. fits-balanced p k s d width most (omega arith) t stripe)

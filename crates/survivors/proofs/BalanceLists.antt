@@ -22,8 +22,7 @@ use Rattle.liberation_stripes.specs.Stripes.{stripeLong}
 use Rattle.liberation_stripes.proofs.CellLaws.{cell-fits}
 use Rattle.liberation_stripes.proofs.Solving.{stripe-of}
 use Rattle.liberation_survivors.specs.Survivors.{rowSets, balance, balanced, allBalanced, fits}
-use Rattle.liberation_survivors.proofs.BalanceCells.{balance-last, balance-other, balance-below}
-use Rattle.liberation_survivors.proofs.BalanceForms.{balance-row-parity}
+use Rattle.liberation_survivors.proofs.BalanceCells.{balance-last, balance-other, balance-row-parity, balance-below}
 use Rattle.liberation_survivors.proofs.Balancing.{fits-balanced}
 use Rattle.xor.specs.Parts.{xorOffsets}
 use Rattle.xor.specs.Reach.{Reached}
