@@ -17,7 +17,7 @@ use Rattle.laws.proofs.TestLaws.{eqb-same}
 use Rattle.liberation.specs.Sets.{place, rowAt, diskAt, extraRow, extraDisk, extraOf, diagonalSet}
 use Rattle.liberation.specs.Plans.{diagonalOf}
 use Rattle.liberation.proofs.SetLaws.{disk-place, row-place, diagonal-of, extra-range, extra-diagonal}
-use Rattle.liberation.proofs.LostLaws.{extraOn, on-data, extra-none}
+use Rattle.liberation.proofs.LostLaws.{extraOn, on-data}
 use Rattle.liberation_updates.specs.Updates.{isExtra, holders}
 
 -- a list of one number or none
@@ -115,11 +115,6 @@ holders-count p r c = go (isExtra p r c)
     go : (b : Bool) → length (diagonalOf p c r ∷ pick b (extraRow p r ∷ []) []) ≡ 1 + when b 1
     go true = refl
     go false = refl
-
--- disk 0 has no extra cell
-pub holders-first : (p r : ℕ) → p % 2 ≡ 1 → r < p → holders p r 0 ≡ diagonalOf p 0 r ∷ []
-unfolding holders
-holders-first p r odd h = ap (λ (b : Bool). diagonalOf p 0 r ∷ pick b (extraRow p r ∷ []) []) (extra-none p (extraRow p r) odd (omega arith))
 
 -- the holders by the first of them: d, and d + 1 where d + 1 = p - 1 - r
 pub holders-next : (p r c : ℕ) → p % 2 ≡ 1 → r < p → c < p → holders p r c ≡ diagonalOf p c r ∷ pick (eqb (suc (diagonalOf p c r)) (extraRow p r)) (suc (diagonalOf p c r) ∷ []) []

@@ -8,9 +8,8 @@ use Prim.Native.Nat.{ℕ, suc, _+_, _*_, _%_, _≤_, _<_}
 use native.Mathlib.Nat.{mod-lt}
 use native.Mathlib.Omega.{arith}
 use lib.Dec.{eqb, ltb, leb}
-use lib.ListN.{length}
 use borrow.Author.Tests.{eqb-true, eq-eqb, ne-eqb, le-leb, ltb-true, lt-ltb, not-true}
-use Rattle.laws.specs.Choice.{pick, when}
+use Rattle.laws.specs.Choice.{pick}
 use Rattle.laws.specs.Lists.{isIn, distinct, allBelow}
 use Rattle.laws.proofs.Flags.{flag, and-l, and-r, and-i, or-cases}
 use Rattle.laws.proofs.TestLaws.{eqb-sym}
@@ -18,8 +17,8 @@ use Rattle.liberation.specs.Sets.{place, rowAt, diskAt, extraRow, rowSet, diago
 use Rattle.liberation.specs.Plans.{diagonalOf}
 use Rattle.liberation.proofs.SetLaws.{disk-place, place-of, place-eq, place-below, in-row, in-diagonal-parity}
 use Rattle.liberation.proofs.PlaceLaws.{disk-below, row-disk}
-use Rattle.liberation_updates.specs.Updates.{isExtra, holders, cellsOn, parityOf}
-use Rattle.liberation_updates.proofs.HolderLaws.{in-holders, holders-below, holders-distinct, holders-count, holders-next}
+use Rattle.liberation_updates.specs.Updates.{holders, cellsOn, parityOf}
+use Rattle.liberation_updates.proofs.HolderLaws.{in-holders, holders-below, holders-distinct, holders-next}
 
 -- cells of one disk, by their rows
 module _ (p c : ℕ) where
@@ -46,11 +45,6 @@ module _ (p c : ℕ) where
       and-i (not (isIn (place p j c) (cellsOn p c is))) (distinct (cellsOn p c is))
       (ap not (in-cells is rest j c (ltb-true j p (and-l (ltb j p) (allBelow p is) low)) ∙ ap (λ (b : Bool). b && eqb c c) (not-true (isIn j is) (and-l (not (isIn j is)) (distinct is) once))))
       (cells-distinct is rest (and-r (not (isIn j is)) (distinct is) once))
-
-  cells-count : (is : List ℕ) → length (cellsOn p c is) ≡ length is
-  unfolding cellsOn
-  cells-count [] = refl
-  cells-count (j ∷ is) = ap suc (cells-count is)
 
 -- the parity cells of (r, c)
 module _ (p k r c : ℕ) (h : r < p) where
@@ -109,11 +103,6 @@ module _ (p k r c : ℕ) (h : r < p) where
       and-i (not (isIn (place p r k) (cellsOn p (suc k) (holders p r c)))) (distinct (cellsOn p (suc k) (holders p r c)))
       (ap not (in-cells p (suc k) (holders p r c) (holders-below p r c h) r k h ∙ ap (λ (b : Bool). isIn r (holders p r c) && b) (ne-eqb k (suc k) (λ e. omega arith)) ∙ and-false (isIn r (holders p r c))))
       (cells-distinct p (suc k) (holders p r c) (holders-below p r c h) (holders-distinct p r c odd h))
-
-  -- two, or three for an extra cell
-  pub parity-count : length (parityOf p k r c) ≡ 2 + when (isExtra p r c) 1
-  unfolding parityOf
-  parity-count = omega (arith, cells-count p (suc k) (holders p r c), holders-count p r c)
 
   -- one by one: the P cell, the Q cell of the cell's own diagonal, and that of the next one where its extra cell is this cell
   pub parity-list :

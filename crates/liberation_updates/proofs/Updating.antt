@@ -8,21 +8,21 @@ use Prim.Native.Nat.{ℕ, suc, _+_, _*_, _/_, _%_, _≤_, _<_}
 use native.Mathlib.Nat.{mod-lt, div-add-mod'}
 use native.Mathlib.Omega.{arith}
 use lib.Dec.{eqb, leb}
-use lib.ListN.{length, replicate, getD}
+use lib.ListN.{length, getD}
 use lib.Seq.{getD-take, getD-drop}
 use borrow.Author.Tests.{eqb-true, eq-eqb, eqb-false, ne-eqb, le-leb}
 use Rattle.laws.specs.Choice.{pick}
 use Rattle.laws.specs.Lists.{isIn, distinct, allBelow}
 use Rattle.laws.specs.Xor.{xorL, allBytes}
 use Rattle.laws.proofs.Flags.{flag, and-i, clash, same-flag}
-use Rattle.laws.proofs.XorLaws.{xorL-self, xorL-twice, xorL-long, xorL-zeros}
+use Rattle.laws.proofs.XorLaws.{xorL-twice, xorL-long}
 use Rattle.liberation.specs.Sets.{place, rowSet, diagonalSet, setOf}
 use Rattle.liberation.proofs.SetLaws.{in-row, in-diagonal-parity, place-below, set-below}
 use Rattle.liberation.proofs.DistinctLaws.{distinct-set}
 use Rattle.liberation_stripes.specs.Stripes.{cellAt, withCell, xorOver, isStripe, clean, encoded}
 use Rattle.liberation_stripes.proofs.CellLaws.{cell-fits, cell-long, length-with, cell-with, cell-other, cells-equal}
 use Rattle.liberation_stripes.proofs.OverLaws.{over-ext}
-use Rattle.liberation_stripes.proofs.Solving.{cells-long, cell-bytes, bytes-with, stripe-long, stripe-bytes, stripe-of, SetZero, clean-at, clean-of}
+use Rattle.liberation_stripes.proofs.Solving.{cells-long, bytes-with, stripe-long, stripe-bytes, stripe-of, SetZero, clean-at, clean-of}
 use Rattle.liberation_stripes.proofs.Encoding.{encoded-only}
 use Rattle.liberation_updates.specs.Updates.{parityOf, addedEach, change, updated}
 use Rattle.liberation_updates.proofs.ParityCells.{parity-data, parity-below, parity-distinct, row-parity-held, diagonal-parity-held, row-parity-only, diagonal-parity-only}
@@ -203,24 +203,3 @@ module _ (p k s r c : ℕ) (odd : p % 2 ≡ 1) (h : r < p) (l : c < k) (new : Li
 
         there : (y : ℕ) → y < p * k → (y ≡ place p r c → ⊥) → cellAt s (updated p k s r c new t) y ≡ cellAt s put y
         there y m n = updated-data y m n ∙ sym (cell-other s (place p r c) new t nl (fits t long) y n)
-
--- the bytes that are there change nothing
-pub updated-same : (p k s r c : ℕ) → p % 2 ≡ 1 → r < p → c < k → (t : List ℕ) → isStripe p k s t ≡ true → updated p k s r c (cellAt s t (place p r c)) t ≡ t
-updated-same p k s r c odd h l t stripe =
-    sym
-    (updated-only p k s r c odd h l old ol t stripe t (stripe-long p k s t stripe)
-    (λ y m. sym (go y m (eqb y (place p r c)) refl (isIn y (parityOf p k r c)))))
-  where
-    room : (y : ℕ) → y < p * (k + 2) → length (cellAt s t y) ≡ s
-    room y m = cell-long s y t (omega (arith, stripe-long p k s t stripe, cell-fits (p * (k + 2)) s y m))
-
-    old : List ℕ
-    old = cellAt s t (place p r c)
-
-    ol : length old ≡ s
-    ol = room (place p r c) (place-below p (k + 2) r c h (omega arith))
-
-    go : (y : ℕ) → y < p * (k + 2) → (a : Bool) → eqb y (place p r c) ≡ a → (b : Bool) → became a b old (xorL old old) (cellAt s t y) ≡ cellAt s t y
-    go y m true e b = ap (cellAt s t) (sym (eqb-true y (place p r c) e))
-    go y m false e true = ap (xorL (cellAt s t y)) (xorL-self old ∙ ap (λ (n : ℕ). replicate n 0) ol) ∙ xorL-zeros s (cellAt s t y) (room y m) (cell-bytes s y t (stripe-bytes p k s t stripe))
-    go y m false e false = refl
