@@ -19,12 +19,6 @@ unfolding scaled
 length-scaled s [] = refl
 length-scaled s (x ∷ xs) = ap suc (length-scaled s xs)
 
-pub scaled-at : (s i : ℕ) (xs : List ℕ) → i < length xs → getD (scaled s xs) i 0 ≡ getD xs i 0 * s
-unfolding scaled
-scaled-at s i [] h = absurd (omega arith)
-scaled-at s zero (x ∷ xs) h = refl
-scaled-at s (suc i) (x ∷ xs) h = scaled-at s i xs (omega arith)
-
 pub scaled-append : (s : ℕ) (xs ys : List ℕ) → scaled s (xs ++ ys) ≡ scaled s xs ++ scaled s ys
 unfolding scaled
 scaled-append s [] ys = refl

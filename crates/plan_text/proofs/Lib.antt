@@ -1,6 +1,5 @@
 -- Laws of the printed plan.
 pub mod TextLaws
 pub mod FormLaws
-pub mod NewLaws
 pub mod LineLaws
 pub mod TextAnswers

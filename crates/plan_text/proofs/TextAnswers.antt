@@ -5,8 +5,7 @@ use mathlib.Core.List.{List}
 use Prim.Native.Nat.{ℕ, _+_, _-_, _≤_}
 use native.Mathlib.Omega.{arith}
 use lib.Dec.{ltb}
-use lib.ListN.{length, take, replicate, length-append}
-use lib.Seq.{take-at}
+use lib.ListN.{length, replicate, length-append}
 use Rattle.laws.specs.Choice.{when, firstOf}
 use Rattle.liberation.specs.Sets.{isWidth, widthFault, diskFault, planFault}
 use Rattle.liberation.proofs.FaultLaws.{array-same}
@@ -23,9 +22,6 @@ text-holds e w = let z = wrote-zeros 458 (rw e at w) in record { size = z .0; by
 -- the bytes that count are there, and they are the text
 pub holds-length : {t : List ℕ} {r : Text} → TextIs t r → r .length ≤ length (r .bytes)
 holds-length {t} h = omega (arith, h .size, ap length (h .bytes), length-append t (replicate (458 - length t) 0))
-
-pub holds-text : {t : List ℕ} {r : Text} → TextIs t r → take (r .length) (r .bytes) ≡ t
-holds-text {t} {r} h = ap (take (r .length)) (h .bytes) ∙ take-at t (replicate (458 - length t) 0) (r .length) (sym (h .size))
 
 holds-same : {t u : List ℕ} {r : Text} → t ≡ u → TextIs t r → TextIs u r
 holds-same e h = rw e at h

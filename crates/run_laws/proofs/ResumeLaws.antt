@@ -7,12 +7,11 @@ use lib.Dec.{eqb}
 use Rattle.laws.specs.Choice.{pick, firstOf}
 use Rattle.laws.proofs.ChoiceLaws.{first-zero}
 use Rattle.liberation.proofs.FaultLaws.{numbers-full}
-use Rattle.rebuild_one.specs.Says.{lengthsFault}
 use Rattle.runs.specs.declared.Run.{Run}
 use Rattle.runs.specs.declared.FullRun.{FullRun}
 use Rattle.runs.specs.declared.DisksRun.{DisksRun}
 use Rattle.runs.specs.declared.Progress.{Progress}
-use Rattle.runs.specs.Runs.{isOver, readsOf, cellsSoFar, runFault, readFault, nextFault, stepLengthsFault, resumed, resumedDisks, ProgressSays}
+use Rattle.runs.specs.Runs.{isOver, readsOf, cellsSoFar, runFault, readFault, resumed, resumedDisks, ProgressSays}
 use Rattle.runs.proofs.RunRefusals.{skipped-few}
 use Rattle.run_laws.specs.Claims.{Full-on, Disks-on, fullFault, Full-read, disksRunFault, Disks-read}
 use Rattle.run_laws.proofs.MadeLaws.{calls-on}
@@ -25,9 +24,6 @@ module _ (x : Run) (e : x .skipped ≡ 0) where
   -- its refusals are those without that of skipped stripes
   pub read-as-before : readFault x ≡ runFault x
   read-as-before = ap (firstOf (runFault x)) (skipped-few x below) ∙ first-zero (runFault x)
-
-  pub step-as-before : (i n m : ℕ) → stepLengthsFault x i n m ≡ firstOf (lengthsFault (x .shape .width) (x .shape .disks) (x .shape .«cell_size») (x .lost) n m) (nextFault x i)
-  step-as-before i n m = ap (λ (a : ℕ). firstOf (lengthsFault (x .shape .width) (x .shape .disks) (x .shape .«cell_size») (x .lost) n m) (firstOf a (nextFault x i))) (skipped-few x below)
 
   -- and every stripe that is past was read
   cells-as-before : cellsSoFar x ≡ x .next * readsOf x
