@@ -1,5 +1,5 @@
 -- The first number that passes a test: it passes where there is one, and no number that passes is before it.
-use mathlib.Core.Path.{_≡_, refl, sym, ap, ap₂, _∙_}
+use mathlib.Core.Path.{_≡_, refl, sym, ap, _∙_}
 use mathlib.Core.Bool.{Bool, true, false}
 use mathlib.Core.Logic.{⊎-elim}
 use Prim.Native.Nat.{ℕ, zero, suc, _+_, _≤_, _<_}
@@ -26,9 +26,3 @@ first-least (suc n) d c f l m h = go (f d) refl (λ q. first-least n (suc d) c f
     go : (b : Bool) → f d ≡ b → (suc d ≤ c → firstFrom n (suc d) f ≤ c) → pick b d (firstFrom n (suc d) f) ≤ c
     go true e rest = l
     go false e rest = ⊎-elim (λ q. rest q) (λ q. let w : d ≡ c = omega arith in clash (f c) h (ap f (sym w) ∙ e)) (lt-or-le d c)
-
--- it depends on the tests of those numbers alone
-pub first-same : (n d : ℕ) (f g : ℕ → Bool) → ((c : ℕ) → d ≤ c → c < d + n → f c ≡ g c) → firstFrom n d f ≡ firstFrom n d g
-unfolding firstFrom
-first-same zero d f g h = refl
-first-same (suc n) d f g h = ap₂ (λ (b : Bool) (m : ℕ). pick b d m) (h d (omega arith) (omega arith)) (first-same n (suc d) f g (λ c l m. h c (omega arith) (omega arith)))
