@@ -1,7 +1,7 @@
 -- The cells of a set as they are pushed: those on data disks, the parity cell, the extra cell, each but on the lost disks.
 use mathlib.Core.Path.{_≡_, refl, sym, subst, ap, ap₂, _∙_}
 use mathlib.Core.Bool.{Bool, true, false, _&&_, _||_, or-comm}
-use mathlib.Core.Logic.{_⊎_, ⊎-elim}
+use mathlib.Core.Logic.{⊎-elim}
 use mathlib.Core.List.{List, [], _∷_, _++_, append-nil}
 use Prim.Native.Nat.{ℕ, suc, _+_, _-_, _*_, _%_, _≤_, _<_}
 use native.Mathlib.Nat.{zero-add}
@@ -17,7 +17,7 @@ use Rattle.laws.proofs.KeptLaws.{Keeps, both-keep, kept-append, kept-below, kep
 use Rattle.liberation.specs.Sets.{place, diskAt, rowFrom, diagonalFrom, rowSet, diagonalSet, ordinary, hasExtra, extraDisk, extraRow, extraOf, setOf, survivingIn}
 use Rattle.liberation.proofs.SetLaws.{disk-place, in-row, in-ordinary, place-below, set-below}
 use Rattle.liberation.proofs.PlaceLaws.{disk-below}
-use Rattle.liberation_stripes.specs.Stripes.{without, stripeLong}
+use Rattle.liberation_stripes.specs.Stripes.{stripeLong}
 use Rattle.liberation_stripes.proofs.CellLaws.{cell-fits}
 use Rattle.xor.specs.Reach.{Reached}
 use Rattle.offsets.specs.Offsets.{scaled, cellsFrom, Pushed}
