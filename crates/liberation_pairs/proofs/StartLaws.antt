@@ -7,7 +7,7 @@ use mathlib.Core.List.{List, [], _∷_, _++_}
 use Prim.Native.Nat.{ℕ, zero, suc, _+_, _-_, _/_, _%_, _≤_, _<_}
 use native.Mathlib.Nat.{mod-lt}
 use native.Mathlib.Omega.{arith}
-use lib.Dec.{eqb, ltb}
+use lib.Dec.{ltb}
 use lib.ListN.{length, replicate, length-replicate}
 use borrow.Author.Tests.{eqb-true, eq-eqb, lt-ltb}
 use Rattle.laws.specs.Choice.{pick}
@@ -18,8 +18,9 @@ use Rattle.laws.proofs.ListLaws.{below-append}
 use Rattle.laws.proofs.MemberLaws.{in-below}
 use Rattle.laws.proofs.Primes.{Prime}
 use Rattle.laws.proofs.XorLaws.{xorL-comm, xorL-swap, xorL-zeros, xorL-twice, xorL-long, xorL-bytes, zero-xorL, zeros-bytes}
-use Rattle.liberation.specs.Sets.{rowAt, diskAt, rowSet, diagonalSet, extraRow, lostIn}
+use Rattle.liberation.specs.Sets.{rowSet, diagonalSet, extraRow, lostIn}
 use Rattle.liberation.specs.Plans.{secondRow, extraRowOn, diagonalOf}
+use Rattle.liberation.proofs.SetLaws.{lost-below}
 use Rattle.liberation.proofs.RowSteps.{ordinary-row, ordinary-diagonal}
 use Rattle.liberation.proofs.LostLaws.{extraOn, extraRows, extra-on, extra-row, extra-none, second-range, lost-append, lost-row, lost-diagonal}
 use Rattle.liberation_stripes.specs.Stripes.{xorOver}
@@ -35,15 +36,6 @@ pub record Cells (s p : ℕ) (h : ℕ → List ℕ) : Type 0 where
 
 rows-long : (s p : ℕ) (h : ℕ → List ℕ) → Cells s p h → (xs : List ℕ) → allBelow p xs ≡ true → Long s h xs
 rows-long s p h c xs b r m = c .long r (in-below p r xs b m)
-
-lost-below : (p c : ℕ) (xs : List ℕ) → 0 < p → allBelow p (lostIn p c xs) ≡ true
-unfolding lostIn
-lost-below p c [] h = refl
-lost-below p c (x ∷ xs) h = go (eqb (diskAt p x) c) (lost-below p c xs h)
-  where
-    go : (b : Bool) → allBelow p (lostIn p c xs) ≡ true → allBelow p (pick b (rowAt p x ∷ lostIn p c xs) (lostIn p c xs)) ≡ true
-    go true e = and-i (ltb (rowAt p x) p) (allBelow p (lostIn p c xs)) (lt-ltb (rowAt p x) p (mod-lt x h)) e
-    go false e = e
 
 extra-below : (p z c : ℕ) → 0 < p → allBelow p (extraRows p z c) ≡ true
 extra-below p z c h = go (extraOn p z c)

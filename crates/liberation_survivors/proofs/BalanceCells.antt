@@ -1,32 +1,21 @@
 -- The cells of a balance: they are cells of the stripe, and on the disk itself each row occurs twice or not at all.
 use mathlib.Core.Path.{_≡_, refl, ap, ap₂, _∙_}
-use mathlib.Core.Bool.{Bool, true, false}
+use mathlib.Core.Bool.{Bool, true}
 use mathlib.Core.Logic.{_⊎_, inl, inr, ⊎-elim}
 use mathlib.Core.List.{List, [], _∷_, _++_, append-nil}
 use Prim.Native.Nat.{ℕ, suc, _+_, _*_, _≤_, _<_}
-use native.Mathlib.Nat.{mod-lt}
 use native.Mathlib.Omega.{arith}
-use lib.Dec.{eqb, ltb}
-use borrow.Author.Tests.{eq-eqb, ne-eqb, ltb-true, lt-ltb}
+use lib.Dec.{ltb}
+use borrow.Author.Tests.{eq-eqb, ne-eqb, ltb-true}
 use Rattle.laws.specs.Choice.{pick}
 use Rattle.laws.specs.Lists.{allBelow}
-use Rattle.laws.proofs.Flags.{and-l, and-r, and-i}
+use Rattle.laws.proofs.Flags.{and-l, and-r}
 use Rattle.laws.proofs.ListLaws.{below-append}
 use Rattle.laws.proofs.OrderLaws.{lt-or-le}
-use Rattle.liberation.specs.Sets.{rowAt, diskAt, rowSet, diagonalSet, lostIn}
-use Rattle.liberation.proofs.SetLaws.{set-below}
+use Rattle.liberation.specs.Sets.{rowSet, diagonalSet, lostIn}
+use Rattle.liberation.proofs.SetLaws.{lost-below, set-below}
 use Rattle.liberation.proofs.LostLaws.{lost-append, lost-row, lost-row-Q, lost-diagonal-P}
 use Rattle.liberation_survivors.specs.Survivors.{rowSets, balance}
-
--- the rows of a list on a disk are below p
-pub lost-below : (p f : ℕ) (xs : List ℕ) → 0 < p → allBelow p (lostIn p f xs) ≡ true
-unfolding lostIn
-lost-below p f [] h = refl
-lost-below p f (x ∷ xs) h = go (eqb (diskAt p x) f) (lost-below p f xs h)
-  where
-    go : (b : Bool) → allBelow p (lostIn p f xs) ≡ true → allBelow p (pick b (rowAt p x ∷ lostIn p f xs) (lostIn p f xs)) ≡ true
-    go true rest = and-i (ltb (rowAt p x) p) (allBelow p (lostIn p f xs)) (lt-ltb (rowAt p x) p (mod-lt x h)) rest
-    go false rest = rest
 
 -- the row sets of several rows
 module _ (p k : ℕ) where

@@ -18,7 +18,7 @@ use Rattle.laws.proofs.XorLaws.{xorL-self, zero-xorL, xorL-zeros, zeros-bytes}
 use Rattle.liberation.specs.Sets.{isWidth, place, diskAt, rowSet, diagonalSet, lostIn, survivingIn}
 use Rattle.liberation.specs.Plans.{allOf}
 use Rattle.liberation.specs.Judging.{accepted}
-use Rattle.liberation.proofs.SetLaws.{in-surviving, set-below, surviving-below, place-below}
+use Rattle.liberation.proofs.SetLaws.{lost-below, in-surviving, set-below, surviving-below, place-below}
 use Rattle.liberation.proofs.AcceptedLaws.{Passes, accepted-passes}
 use Rattle.liberation.proofs.RowLaws.{uses-all}
 use Rattle.liberation.proofs.ParityPlans.{rows-accepted, diagonals-accepted}
@@ -30,7 +30,7 @@ use Rattle.liberation_stripes.proofs.Following.{followed-stripe, followed-off, 
 use Rattle.liberation_survivors.specs.Survivors.{withRebuilt, fits, rowSets, balance, balanced, allBalanced}
 use Rattle.liberation_survivors.specs.Explained.{Explains}
 use Rattle.liberation_survivors.proofs.Explaining.{fits-explains, explains-fits}
-use Rattle.liberation_survivors.proofs.BalanceCells.{lost-below, row-sets-below, last-or, balance-last, balance-other, balance-below, balance-lost}
+use Rattle.liberation_survivors.proofs.BalanceCells.{row-sets-below, last-or, balance-last, balance-other, balance-below, balance-lost}
 
 -- a list of cells twice over has XOR zero
 over-twice : (s : ℕ) (g : ℕ → List ℕ) (xs : List ℕ) → Long s g xs → xorOver s g (xs ++ xs) ≡ replicate s 0

@@ -13,24 +13,15 @@ use Rattle.laws.specs.Lists.{isIn}
 use Rattle.laws.proofs.Flags.{and-r, and-i, or-cases}
 use Rattle.laws.proofs.ListLaws.{isIn-append}
 use Rattle.laws.proofs.KeptLaws.{Keeps, kept-same}
-use Rattle.liberation.specs.Sets.{place, rowAt, diskAt, extraRow, extraDisk, extraOf, hasExtra, rowSet, diagonalSet, setOf, lostIn}
-use Rattle.liberation.proofs.SetLaws.{disk-place, in-lost, in-ordinary-data}
+use Rattle.laws.proofs.MemberLaws.{in-below}
+use Rattle.liberation.specs.Sets.{place, diskAt, extraRow, extraDisk, extraOf, hasExtra, rowSet, diagonalSet, setOf, lostIn}
+use Rattle.liberation.proofs.SetLaws.{disk-place, in-lost, lost-below, in-ordinary-data}
 use Rattle.liberation.proofs.DistinctLaws.{extra-apart}
 use Rattle.liberation.proofs.LostLaws.{lost-diagonal}
 use Rattle.liberation_stripes.specs.Stripes.{without}
 use Rattle.liberation_stripes.proofs.OverLaws.{without-keeps}
 use Rattle.set_offsets.specs.Cells.{ordinaryOf, extraIn}
 use Rattle.set_offsets.proofs.SetLists.{set-split, own-row, extra-row, extra-first}
-
--- the lost rows are rows
-pub lost-below : (p f r : ℕ) (xs : List ℕ) → 0 < p → isIn r (lostIn p f xs) ≡ true → r < p
-unfolding lostIn
-lost-below p f r [] h e = absurd (false≢true e)
-lost-below p f r (x ∷ xs) h e = go (eqb (diskAt p x) f) (λ t. lost-below p f r xs h t) e
-  where
-    go : (b : Bool) → (isIn r (lostIn p f xs) ≡ true → r < p) → isIn r (pick b (rowAt p x ∷ lostIn p f xs) (lostIn p f xs)) ≡ true → r < p
-    go true rest t = ⊎-elim (λ q. omega (arith, eqb-true r (rowAt p x) q, mod-lt x h)) rest (or-cases (eqb r (rowAt p x)) (isIn r (lostIn p f xs)) t)
-    go false rest t = rest t
 
 -- of rows that are all this one, no other is left
 only-row : (row : ℕ) (ys : List ℕ) → ((y : ℕ) → isIn y ys ≡ true → row ≡ y) → without row ys ≡ []
@@ -46,7 +37,7 @@ module _ (p k f row kind i : ℕ) (numbered : i < p) (rows : row < p) (own : isI
     where
       on : (r : ℕ) → isIn r (lostIn p f (setOf p k kind i)) ≡ true → r ≡ pick (eqb kind 0) i (pick (ltb f k) ((i + f) % p) i)
       on r h =
-          let b : r < p = lost-below p f r (setOf p k kind i) (omega arith) h in
+          let b : r < p = in-below p r (lostIn p f (setOf p k kind i)) (lost-below p f (setOf p k kind i) (omega arith)) h in
           own-row p k kind i numbered r f b
           (⊎-elim (λ e. e) (λ e. absurd (false≢true (sym (none r b) ∙ e)))
           (or-cases (isIn (place p r f) (ordinaryOf p k kind i)) (isIn (place p r f) (extraIn p k kind i))

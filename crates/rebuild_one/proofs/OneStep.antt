@@ -15,10 +15,11 @@ use Rattle.laws.specs.Choice.{pick}
 use Rattle.laws.specs.Lists.{isIn}
 use Rattle.laws.specs.Xor.{xorL}
 use Rattle.laws.proofs.Flags.{and-l, and-r}
+use Rattle.laws.proofs.MemberLaws.{in-below}
 use Rattle.laws.proofs.OrderLaws.{lt-or-le}
 use Rattle.laws.proofs.XorLaws.{xorL-zeros}
 use Rattle.liberation.specs.Sets.{place, rowAt, diskAt, setOf, lostIn, survivingIn}
-use Rattle.liberation.proofs.SetLaws.{disk-place, row-place, place-of, in-surviving, survivors-below}
+use Rattle.liberation.proofs.SetLaws.{disk-place, row-place, place-of, lost-below, in-surviving, survivors-below}
 use Rattle.liberation_stripes.specs.Stripes.{cellAt, withCell, withColumn, xorOver, without, solved}
 use Rattle.liberation_stripes.proofs.CellLaws.{cell-fits, cell-long, length-with, with-same, cell-with, with-with, cell-other, cell-on, cell-off, column-put}
 use Rattle.liberation_stripes.proofs.OverLaws.{over-long, over-bytes, over-ext, over-split, in-without}
@@ -32,7 +33,6 @@ use Rattle.offsets.proofs.OffsetLaws.{over-offsets}
 use Rattle.set_offsets.specs.Cells.{survivors}
 use Rattle.set_offsets.proofs.SetLists.{survivors-one, survivors-reached, size-fits}
 use Rattle.rebuild_one.specs.Cells.{Ready}
-use Rattle.rebuild_one.proofs.LostLaws.{lost-below}
 
 -- the cell of the step is on the lost disk, so no survivor is left out
 surviving-without : (p f row : ℕ) (xs : List ℕ) → row < p → survivingIn p f (without (place p row f) xs) ≡ survivingIn p f xs
@@ -105,7 +105,7 @@ module _ (p k s f row kind number : ℕ) (t col : List ℕ) (ready : Ready p k s
 
       on : (r : ℕ) → isIn r (without row (lostIn p f xs)) ≡ true → cellAt s whole (place p r f) ≡ cellAt s col r
       on r h =
-          let l : r < p = lost-below p f r xs some (and-l (isIn r (lostIn p f xs)) (not (eqb r row)) (kept-row r h)) in
+          let l : r < p = in-below p r (lostIn p f xs) (lost-below p f xs some) (and-l (isIn r (lostIn p f xs)) (not (eqb r row)) (kept-row r h)) in
           cell-on p s f col t (ready .column) disk-fits (place p r f) some (disk-place p r f l) ∙ ap (cellAt s col) (row-place p r f l)
 
   alive-long : length alive ≡ s
