@@ -13,10 +13,10 @@ use borrow.Author.Tests.{eq-eqb, ne-eqb, eqb-true, eqb-false, leb-false}
 use Rattle.laws.specs.Choice.{pick, when, firstOf}
 use Rattle.laws.specs.Lists.{isIn, added, allBelow}
 use Rattle.laws.proofs.Flags.{flag, or-false-l, or-false-r}
-use Rattle.liberation.specs.Sets.{diskAt, setOf, lostIn, survivingIn}
+use Rattle.liberation.specs.Sets.{setOf, survivingIn}
 use Rattle.liberation.specs.Plans.{Step, step, readFrom, cellsRead, readCount, marksFrom}
-use Rattle.liberation.specs.Judging.{Judged, judged, judge, judgeFrom, othersThere, stepFault, stepsIn}
-use Rattle.liberation.proofs.SetLaws.{survivors-below}
+use Rattle.liberation.specs.Judging.{Judged, judged, judge, judgeFrom, stepFault, stepsIn}
+use Rattle.liberation.proofs.SetLaws.{surviving-few, survivors-below}
 use Rattle.sets.specs.Marks.{Marked, markAll, freshIn}
 use Rattle.sets.proofs.MarkLaws.{marks-added, fresh-added, fresh-le}
 use Rattle.liberation.proofs.MarkLists.{length-marks, mark-set}
@@ -109,15 +109,6 @@ steps-next p i s bs h b = ap (λ (n : ℕ). stepsIn n (drop (3 * i) bs)) more �
     rest : drop 3 (drop (3 * i) bs) ≡ drop (3 * (i + 1)) bs
     rest = drop-drop 3 (3 * i) bs ∙ ap (λ (n : ℕ). drop n bs) after
 
-surviving-le : (p f : ℕ) (xs : List ℕ) → length (survivingIn p f xs) ≤ length xs
-unfolding survivingIn
-surviving-le p f [] = omega arith
-surviving-le p f (x ∷ xs) = go (eqb (diskAt p x) f) (surviving-le p f xs)
-  where
-    go : (b : Bool) → length (survivingIn p f xs) ≤ length xs → length (pick b (survivingIn p f xs) (x ∷ survivingIn p f xs)) ≤ suc (length xs)
-    go true h = omega arith
-    go false h = omega arith
-
 -- The loop's state before step i: `d` has a byte a row rebuilt, `m` a byte a cell read.
 pub record Halfway (p k f : ℕ) (bs d m : List ℕ) (reads i : ℕ) : Type 0 where
   pub within : i ≤ p
@@ -175,7 +166,7 @@ halfway-turn p k f bs d m m′ s reads i fault fresh w g h b q z v r =
       done = ap (λ (l : List ℕ). set l (s .row) 1) (v .done) ∙ mark-set 31 0 (s .row) (v .rows) (omega (arith, form .row)) ∙ ap (λ (n : ℕ). marksFrom 31 0 (n ∷ v .rows)) row;
       marks = r .marks ∙ ap (λ (l : List ℕ). markAll l xs) (v .marks) ∙ marks-added (p * (k + 2)) xs (v .cells) below;
       count = omega (arith, r .fresh, ap (λ (l : List ℕ). freshIn l xs) (v .marks), fresh-added (p * (k + 2)) xs (v .cells) below, v .count);
-      few = omega (arith, r .fresh, fresh-le m xs, surviving-le p f (setOf p k (s .kind) (s .number)), size-most p k (s .kind) (s .number), v .few);
+      few = omega (arith, r .fresh, fresh-le m xs, surviving-few p f (setOf p k (s .kind) (s .number)), size-most p k (s .kind) (s .number), v .few);
       verdict = ap (λ (n : ℕ). judgeFrom n p k f (s .row ∷ v .rows) (stepsFrom p (i + 1) bs)) (add-one i) ∙ sym (judge-next i p k f (v .rows) s (stepsFrom p (i + 1) bs) none) ∙ sym (ap (judgeFrom i p k f (v .rows)) next) ∙ v .verdict;
       read = sym (ap (λ (ss : List Step). readFrom p k f ss (v .cells)) next) ∙ v .read;
     }

@@ -9,7 +9,7 @@ use lib.ListN.{length, getD, drop, length-append, drop-of-length-le}
 use Rattle.laws.specs.Lists.{added, allBelow}
 use Rattle.liberation.specs.Sets.{isWidth, setOf, survivingIn}
 use Rattle.liberation.specs.Plans.{Step, planOf, marksFrom}
-use Rattle.liberation.proofs.SetLaws.{survivors-below}
+use Rattle.liberation.proofs.SetLaws.{surviving-few, survivors-below}
 use Rattle.liberation.proofs.AcceptedLaws.{Passes, none, next, accepted-passes}
 use Rattle.liberation.proofs.PartPlans.{plan-accepted}
 use Rattle.sets.specs.Marks.{Marked, markAll, freshIn}
@@ -17,7 +17,6 @@ use Rattle.sets.proofs.MarkLaws.{marks-added, fresh-added, fresh-le}
 use Rattle.liberation.proofs.SetSizes.{size-most}
 use Rattle.planner.specs.declared.Steps.{Steps}
 use Rattle.planner.specs.Records.{Holds}
-use Rattle.planner.proofs.MarkingLoop.{surviving-few}
 use Rattle.liberation.proofs.RecordLaws.{StepAt, step-at, plan-length, plan-number}
 use Rattle.plan_text.specs.Text.{lineOf, newFrom, linesFrom}
 use Rattle.text.specs.Writing.{Wrote}

@@ -1,17 +1,14 @@
 -- Marking the cells that the steps of a plan read, step by step.
 use mathlib.Core.Path.{_≡_, refl, sym, ap, _∙_}
-use mathlib.Core.Bool.{Bool, true, false}
-use mathlib.Core.List.{List, [], _∷_}
-use Prim.Native.Nat.{ℕ, suc, _+_, _*_, _≤_, _<_}
+use mathlib.Core.List.{List, []}
+use Prim.Native.Nat.{ℕ, _+_, _*_, _≤_, _<_}
 use native.Mathlib.Numerals.{add-one}
 use native.Mathlib.Omega.{arith}
-use lib.Dec.{eqb}
 use lib.ListN.{length, drop, drop-of-length-le}
-use Rattle.laws.specs.Choice.{pick}
 use Rattle.laws.specs.Lists.{added}
-use Rattle.liberation.specs.Sets.{diskAt, setOf, survivingIn}
+use Rattle.liberation.specs.Sets.{setOf, survivingIn}
 use Rattle.liberation.specs.Plans.{Step, readFrom, cellsRead, readCount, marksFrom}
-use Rattle.liberation.proofs.SetLaws.{survivors-below}
+use Rattle.liberation.proofs.SetLaws.{surviving-few, survivors-below}
 use Rattle.liberation.proofs.SetSizes.{size-most}
 use Rattle.liberation.proofs.RecordLaws.{StepAt}
 use Rattle.sets.specs.Marks.{Marked, markAll, freshIn}
@@ -28,15 +25,6 @@ pub record Reading (p k f : ℕ) (ss : List Step) (m : List ℕ) (reads i : ℕ)
 
 pub reading-start : (p k f : ℕ) (ss : List Step) (m : List ℕ) → m ≡ marksFrom (p * (k + 2)) 0 [] → Reading p k f ss m 0 0
 reading-start p k f ss m e = record { within = omega arith; cells = []; marks = e; count = refl; few = omega arith; rest = refl }
-
-pub surviving-few : (p f : ℕ) (xs : List ℕ) → length (survivingIn p f xs) ≤ length xs
-unfolding survivingIn
-surviving-few p f [] = omega arith
-surviving-few p f (x ∷ xs) = go (eqb (diskAt p x) f) (surviving-few p f xs)
-  where
-    go : (b : Bool) → length (survivingIn p f xs) ≤ length xs → length (pick b (survivingIn p f xs) (x ∷ survivingIn p f xs)) ≤ suc (length xs)
-    go true h = omega arith
-    go false h = omega arith
 
 pub reading-turn : (p k f : ℕ) (ss : List Step) (m m′ : List ℕ) (reads i r : ℕ) (a : StepAt ss i) → i < length ss → a .this .number < p → Reading p k f ss m reads i → Marked m m′ (survivingIn p f (setOf p k (a .this .kind) (a .this .number))) r → Reading p k f ss m′ (reads + r) (i + 1)
 unfolding readFrom
