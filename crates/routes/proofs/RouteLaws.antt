@@ -1,14 +1,14 @@
 -- Routes in an array of 31 places, the first p of which count, and their word: what the functions leave there is what the definitions say.
-use mathlib.Core.Path.{_≡_, refl, sym, ap, ap₂, _∙_}
-use mathlib.Core.Bool.{Bool, true, false, _||_, true≢false, false≢true}
+use mathlib.Core.Path.{_≡_, sym, ap, ap₂, _∙_}
+use mathlib.Core.Bool.{Bool, true, false, _||_}
 use mathlib.Core.List.{List}
-use Prim.Native.Nat.{ℕ, zero, suc, _+_, _-_, _*_, _/_, _^_, _≤_, _<_}
+use Prim.Native.Nat.{ℕ, suc, _+_, _-_, _*_, _/_, _^_, _≤_, _<_}
 use native.Mathlib.Nat.{mod-lt}
 use native.Mathlib.Numerals.{add-one}
 use native.Mathlib.Omega.{arith}
 use lib.Bits.{bitOr}
 use lib.Count.{ones, ones-le}
-use lib.Dec.{eqb, leb}
+use lib.Dec.{eqb}
 use lib.ListN.{length, getD, take, set, replicate, length-take, length-set, length-replicate}
 use lib.Seq.{length-take-le, take-set-lt, getD-take, getD-set-other}
 use borrow.Author.Tests.{eq-eqb, ne-eqb, le-leb, lt-leb}
@@ -16,6 +16,7 @@ use Rattle.laws.specs.Choice.{pick}
 use Rattle.laws.proofs.Flags.{or-l, or-r}
 use Rattle.laws.proofs.ListLaws.{take-replicate}
 use Rattle.liberation.specs.Plans.{diagonals, zeroRoutes, secondRow, firstRoutes, partner, decided, turned, routesFrom, routes, wordFrom}
+use Rattle.liberation.proofs.RouteLaws.{partner-lt, routes-stop, routes-on}
 use Rattle.liberation.proofs.WordLaws.{ones-word, word-lt, set-word, word-none, word-same}
 use Rattle.routes.specs.Records.{RoutesAre}
 
@@ -55,9 +56,6 @@ row-are p f j w R h k l q z t =
     let here : set rs j 1 ≡ decided p f j rs = ap (λ (b : Bool). pick b (set rs j 1) (set (set rs j 2) (partner p f j) 1)) (sym t) in
     let at : getD rs j 0 ≡ 0 = getD-take p R j 0 l ∙ z in
     record { long = length-set R j 1 ∙ k; routes = take-set-lt p R j 1 l ∙ here; word = q ∙ sym (word-same rs j 1 (λ e. omega arith) (λ e. omega arith)) ∙ ap (wordFrom 0) here }
-
-partner-lt : (p f j : ℕ) → j < p → partner p f j < p
-partner-lt p f j h = omega arith
 
 pub self-are : (p f j w : ℕ) (R : List ℕ) → p ≤ 31 → length R ≡ 31 → j < p → w ≡ wordFrom 0 (take p R) → getD R j 0 ≡ 0 → partner p f j ≡ j → RoutesAre p (decided p f j (take p R)) (set R j 1) (w)
 self-are p f j w R h k l q z e = row-are p f j w R h k l q z (or-l (eqb (partner p f j) j) (eqb (getD (take p R) (partner p f j) 0) 2) (eq-eqb (partner p f j) j e))
@@ -115,25 +113,6 @@ under-start p f R w a =
     let z : p - 0 ≡ p = omega arith in
     record { within = omega arith; long = a .long; word = a .word ∙ ap (wordFrom 0) (sym (a .routes)); rest = ap₂ (λ (n : ℕ) (rs : List ℕ). routesFrom n p f 0 rs) z (a .routes) }
 
--- enough diagonals: the loop stops
-stop : (n p f j : ℕ) (rs : List ℕ) → leb ((p - 1) / 2) (diagonals rs) ≡ true → routesFrom n p f j rs ≡ rs
-unfolding routesFrom
-stop zero p f j rs t = refl
-stop (suc n) p f j rs t = go (leb ((p - 1) / 2) (diagonals rs)) t
-  where
-    go : (b : Bool) → b ≡ true → elim b [ true ↦ rs | false ↦ routesFrom n p f (suc j) (turned p f j rs) ] ≡ rs
-    go true e = refl
-    go false e = absurd (false≢true e)
-
--- too few: one more row
-more : (n p f j : ℕ) (rs : List ℕ) → leb ((p - 1) / 2) (diagonals rs) ≡ false → routesFrom (suc n) p f j rs ≡ routesFrom n p f (suc j) (turned p f j rs)
-unfolding routesFrom
-more n p f j rs t = go (leb ((p - 1) / 2) (diagonals rs)) t
-  where
-    go : (b : Bool) → b ≡ false → elim b [ true ↦ rs | false ↦ routesFrom n p f (suc j) (turned p f j rs) ] ≡ routesFrom n p f (suc j) (turned p f j rs)
-    go true e = absurd (true≢false e)
-    go false e = refl
-
 -- the ones of the word are the diagonals
 counted : (p f j : ℕ) (R : List ℕ) (w : ℕ) → Under p f j R w → ones (w) ≡ diagonals (take p R)
 counted p f j R w u = ap ones (u .word) ∙ ones-word (take p R)
@@ -146,7 +125,7 @@ ones-few p f j R w u =
 
 pub under-stop : (p f j h : ℕ) (R : List ℕ) (w : ℕ) → h ≡ (p - 1) / 2 → h ≤ ones (w) → Under p f j R w → RoutesAre p (routes p f) R w
 under-stop p f j h R w e l u =
-    let all : take p R ≡ routes p f = sym (stop (p - j) p f j (take p R) (le-leb ((p - 1) / 2) (diagonals (take p R)) (omega (arith, counted p f j R w u)))) ∙ u .rest in
+    let all : take p R ≡ routes p f = sym (routes-stop (p - j) p f j (take p R) (le-leb ((p - 1) / 2) (diagonals (take p R)) (omega (arith, counted p f j R w u)))) ∙ u .rest in
     record { long = u .long; routes = all; word = u .word ∙ ap (wordFrom 0) all }
 
 pub under-turn : (p f j h : ℕ) (R N : List ℕ) (w v : ℕ) → j < p → h ≡ (p - 1) / 2 → ones (w) < h → Under p f j R w → RoutesAre p (turned p f j (take p R)) N v → Under p f (j + 1) N v
@@ -159,7 +138,7 @@ under-turn p f j h R N w v l e m u a =
       word = a .word ∙ ap (wordFrom 0) (sym (a .routes));
       rest =
           ap₂ (λ (i : ℕ) (x : List ℕ). routesFrom (p - (j + 1)) p f i x) (add-one j) (a .routes)
-          ∙ sym (more (p - (j + 1)) p f j rs (lt-leb ((p - 1) / 2) (diagonals rs) (omega (arith, counted p f j R w u))))
+          ∙ sym (routes-on (p - (j + 1)) p f j rs (lt-leb ((p - 1) / 2) (diagonals rs) (omega (arith, counted p f j R w u))))
           ∙ ap (λ (i : ℕ). routesFrom i p f j rs) (sym s)
           ∙ u .rest;
     }
