@@ -1,11 +1,10 @@
 -- Steps put into the record one by one, and the definition's list of steps taken row by row.
 use mathlib.Core.Path.{_≡_, refl, sym, ap, subst, _∙_}
-use mathlib.Core.Bool.{Bool, true, false}
+use mathlib.Core.Bool.{Bool}
 use mathlib.Core.List.{List, [], _∷_, _++_, append-assoc, append-nil}
 use Prim.Native.Nat.{ℕ, zero, suc, _+_, _-_, _≤_, _<_}
 use native.Mathlib.Numerals.{add-one}
 use native.Mathlib.Omega.{arith}
-use lib.Dec.{eqb}
 use lib.ListN.{length, getD, drop, set, replicate, length-append, drop-of-length-le}
 use lib.Seq.{drop-cons, set-at}
 use borrow.Author.Tests.{eq-eqb, ne-eqb}
@@ -122,20 +121,3 @@ all-some p t j h =
 pub all-last : (p t j : ℕ) → p ≤ j → allOf (p - j) t j ≡ []
 unfolding allOf
 all-last p t j h = let z : p - j ≡ 0 = omega arith in ap (λ (n : ℕ). allOf n t j) z
-
-pub length-all : (n t j : ℕ) → length (allOf n t j) ≡ n
-unfolding allOf
-length-all zero t j = refl
-length-all (suc n) t j = ap suc (length-all n t (suc j))
-
--- each row gives one step
-pub length-rows : (p f j : ℕ) (rs : List ℕ) → length (rowSteps j rs) + length (diagonalSteps p f j rs) ≡ length rs
-unfolding rowSteps diagonalSteps
-length-rows p f j [] = refl
-length-rows p f j (r ∷ rs) = go (eqb r 2) (length-rows p f (suc j) rs)
-  where
-    go :
-        (b : Bool) → length (rowSteps (suc j) rs) + length (diagonalSteps p f (suc j) rs) ≡ length rs
-        → length (pick b (rowSteps (suc j) rs) (step j 0 j ∷ rowSteps (suc j) rs)) + length (pick b (step j 1 (diagonalOf p f j) ∷ diagonalSteps p f (suc j) rs) (diagonalSteps p f (suc j) rs)) ≡ suc (length rs)
-    go true e = omega (arith, e)
-    go false e = omega (arith, e)

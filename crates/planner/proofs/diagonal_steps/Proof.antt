@@ -8,7 +8,8 @@ use native.Mathlib.Omega.{arith}
 use lib.ListN.{length, take, drop, length-append}
 use lib.Seq.{length-take-le, getD-take}
 use Rattle.liberation.specs.Plans.{step, diagonalOf, rowSteps, diagonalSteps}
-use Rattle.planner.proofs.StepRecord.{Collected, collect-push, collect-skip, collect-end, collect-room, diagonal-some, diagonal-none, diagonal-last, length-rows}
+use Rattle.liberation.proofs.RowSteps.{steps-long}
+use Rattle.planner.proofs.StepRecord.{Collected, collect-push, collect-skip, collect-end, collect-room, diagonal-some, diagonal-none, diagonal-last}
 use borrow.Author.Needs.{needs}
 use Rattle.planner.proofs.diagonal_steps.Statement.{statement}
 use Rattle.planner.proofs.diagonal_steps.Tie as tie
@@ -33,7 +34,7 @@ room c =
     let rs = take (a .width) (a .t3) in
     let at = getD-take (a .width) (a .t3) (l .row) 0 (c .before .loop-test .taken) in
     collect-room (rowSteps 0 rs ++ diagonalSteps (a .width) (a .disk) 0 rs) (diagonalSteps (a .width) (a .disk) (l .row + 1) (drop (l .row + 1) rs)) (diagonalSteps (a .width) (a .disk) (l .row) (drop (l .row) rs)) (step (l .row) 1 (diagonalOf (a .width) (a .disk) (l .row))) (l .rows) (l .kinds) (l .numbers) (l .count)
-    (diagonal-some (a .width) (a .disk) (l .row) rs (omega (arith, long q)) (at ∙ c .if1 .taken)) (omega (arith, long q, length-append (rowSteps 0 rs) (diagonalSteps (a .width) (a .disk) 0 rs), length-rows (a .width) (a .disk) 0 rs)) (l .inv .1)
+    (diagonal-some (a .width) (a .disk) (l .row) rs (omega (arith, long q)) (at ∙ c .if1 .taken)) (omega (arith, long q, length-append (rowSteps 0 rs) (diagonalSteps (a .width) (a .disk) 0 rs), steps-long (a .width) (a .disk) 0 rs)) (l .inv .1)
 
 loop-holds : tie.Need-loop-holds Inv-loop μ-loop
 loop-holds c =

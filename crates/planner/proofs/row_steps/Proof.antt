@@ -7,7 +7,8 @@ use native.Mathlib.Omega.{arith}
 use lib.ListN.{length, getD, take, drop, set, replicate}
 use lib.Seq.{length-take-le, getD-take}
 use Rattle.liberation.specs.Plans.{step, rowSteps}
-use Rattle.planner.proofs.StepRecord.{Collected, collect-start, collect-push, collect-skip, collect-end, collect-room, zero-again, row-some, row-none, row-last, length-rows}
+use Rattle.liberation.proofs.RowSteps.{steps-long}
+use Rattle.planner.proofs.StepRecord.{Collected, collect-start, collect-push, collect-skip, collect-end, collect-room, zero-again, row-some, row-none, row-last}
 use borrow.Author.Needs.{needs}
 use Rattle.planner.proofs.row_steps.Statement.{statement}
 use Rattle.planner.proofs.row_steps.Tie as tie
@@ -30,7 +31,7 @@ room c =
     let rs = take (q .args .width) (q .args .t2) in
     let n : (getD rs (l .row) 0 ≡ 2 → ⊥) = λ e. c .if1 .taken (sym (getD-take (q .args .width) (q .args .t2) (l .row) 0 (c .before .loop-test .taken)) ∙ e) in
     collect-room (rowSteps 0 rs) (rowSteps (l .row + 1) (drop (l .row + 1) rs)) (rowSteps (l .row) (drop (l .row) rs)) (step (l .row) 0 (l .row)) (l .rows) (replicate 31 0) (l .rows) (l .count)
-    (row-some (l .row) rs (omega (arith, long q)) n) (omega (arith, long q, length-rows 0 0 0 rs)) (l .inv .1)
+    (row-some (l .row) rs (omega (arith, long q)) n) (omega (arith, long q, steps-long 0 0 0 rs)) (l .inv .1)
 
 loop-holds : tie.Need-loop-holds Inv-loop μ-loop
 loop-holds c = (omega arith, collect-start _)
