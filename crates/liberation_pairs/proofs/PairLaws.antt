@@ -15,9 +15,12 @@ use Rattle.liberation.specs.Plans.{allOf}
 use Rattle.liberation.proofs.Widths.{width-prime, width-odd}
 use Rattle.liberation_stripes.specs.Stripes.{cellAt, isStripe, clean, followed}
 use Rattle.liberation_pairs.specs.Pairs.{firstCell, started, walked, forward, upDiagonals, withRowParity, withDiagonalParity, orderedSolved, pairSolved}
-use Rattle.liberation_pairs.specs.PairSteps.{CellStep, stepsDone, onDisk, dataSteps, rowParitySteps, diagonalParitySteps, orderedSteps, orderedFirst, orderedStart, pairSteps, pairFirst, pairStart, isKnown, stepsStand}
-use Rattle.liberation_pairs.proofs.Standing.{Standing, none, next, standing-true}
-use Rattle.liberation_pairs.proofs.ParityPairs.{followed-steps, steps-append, row-parity-complete, diagonal-parity-complete}
+use Rattle.liberation_stripes.specs.Steps.{CellStep, stepsDone, onDisk}
+use Rattle.liberation_pairs.specs.PairSteps.{dataSteps, rowParitySteps, diagonalParitySteps, orderedSteps, orderedFirst, orderedStart, pairSteps, pairFirst, pairStart, isKnown, stepsStand, isLost}
+use Rattle.liberation_stripes.proofs.Following.{followed-steps}
+use Rattle.liberation_stripes.proofs.Standing.{Standing, none, next}
+use Rattle.liberation_pairs.proofs.StandTests.{standing-true}
+use Rattle.liberation_pairs.proofs.ParityPairs.{steps-append, row-parity-complete, diagonal-parity-complete}
 use Rattle.liberation_pairs.proofs.Roles.{roles-forward, roles-backward}
 use Rattle.liberation_pairs.proofs.WalkLaws.{data-standing}
 use Rattle.liberation_pairs.proofs.Restoring.{Alike, Restores, restores-swap, complete-restores, walked-steps, walked-restores}
@@ -26,7 +29,7 @@ use Rattle.liberation_pairs.proofs.Restoring.{Alike, Restores, restores
 known-swap : (p a b y : ℕ) (done : List ℕ) → isKnown p a b done y ≡ isKnown p b a done y
 known-swap p a b y done = ap (λ (t : Bool). not t || isIn y done) (or-comm (eqb (diskAt p y) a) (eqb (diskAt p y) b))
 
-standing-swap : (p k a b : ℕ) {done : List ℕ} {cs : List CellStep} → Standing p k a b done cs → Standing p k b a done cs
+standing-swap : (p k a b : ℕ) {done : List ℕ} {cs : List CellStep} → Standing p k (isLost p a b) done cs → Standing p k (isLost p b a) done cs
 standing-swap p k a b none = none
 standing-swap p k a b (next {done} {c} {cs} g ok) =
     next
@@ -42,14 +45,14 @@ standing-swap p k a b (next {done} {c} {cs} g ok) =
 -- a rebuild and its steps: the steps stand, and done on the stripe with the first cell they are the rebuild, which restores
 record Rebuild (p k s a b : ℕ) (f : List ℕ → List ℕ) (first : List ℕ) (cs : List CellStep) (start : List ℕ → List ℕ) : Type 0 where
   restores : Restores p k s a b f
-  standing : Standing p k a b first cs
+  standing : Standing p k (isLost p a b) first cs
   steps : (t : List ℕ) → f t ≡ stepsDone p k s cs (start t)
 
 swapped : (p k s a b : ℕ) (f : List ℕ → List ℕ) (first : List ℕ) (cs : List CellStep) (start : List ℕ → List ℕ) → Rebuild p k s a b f first cs start → Rebuild p k s b a f first cs start
 swapped p k s a b f first cs start r = record { restores = restores-swap p k s a b f (r .restores); standing = standing-swap p k a b (r .standing); steps = r .steps }
 
 -- by steps from the surviving cells alone
-plain : (p k s a b : ℕ) (f : List ℕ → List ℕ) (cs : List CellStep) → ((t : List ℕ) → f t ≡ stepsDone p k s cs t) → Restores p k s a b (stepsDone p k s cs) → Standing p k a b [] cs → Rebuild p k s a b f [] cs (λ t. t)
+plain : (p k s a b : ℕ) (f : List ℕ → List ℕ) (cs : List CellStep) → ((t : List ℕ) → f t ≡ stepsDone p k s cs t) → Restores p k s a b (stepsDone p k s cs) → Standing p k (isLost p a b) [] cs → Rebuild p k s a b f [] cs (λ t. t)
 plain p k s a b f cs e r st =
     record {
       restores = record {

@@ -13,15 +13,15 @@ use Rattle.laws.specs.Lists.{isIn}
 use Rattle.laws.proofs.Flags.{and-l, and-r, and-i, or-l}
 use Rattle.laws.proofs.Residues.{sub-small}
 use Rattle.liberation.specs.Sets.{place, rowSet, diagonalSet, extraRow}
-use Rattle.liberation.specs.Plans.{Step, secondRow, extraRowOn, diagonalOf, allOf}
+use Rattle.liberation.specs.Plans.{secondRow, extraRowOn, diagonalOf, allOf}
 use Rattle.liberation.proofs.SetLaws.{in-row, in-diagonal-parity}
 use Rattle.liberation.proofs.RouteLaws.{second-row}
 use Rattle.liberation.proofs.RowSteps.{ordinary-row, ordinary-diagonal}
 use Rattle.liberation.proofs.LostLaws.{extraOn, on-data, on-cases}
-use Rattle.liberation_stripes.specs.Stripes.{followed}
 use Rattle.liberation_pairs.specs.Pairs.{upDiagonals}
-use Rattle.liberation_pairs.specs.PairSteps.{CellStep, cellStep, stepsDone, onDisk, isKnown, rowParitySteps, diagonalParitySteps}
-use Rattle.liberation_pairs.proofs.Standing.{Standing, doneAfter, names, names-append}
+use Rattle.liberation_stripes.specs.Steps.{CellStep, cellStep, stepsDone, onDisk}
+use Rattle.liberation_pairs.specs.PairSteps.{isKnown, rowParitySteps, diagonalParitySteps, isLost}
+use Rattle.liberation_stripes.proofs.Standing.{Standing, doneAfter, names, names-append}
 use Rattle.liberation_pairs.proofs.Upward.{upSteps, Upward, up-names, both-standing, both-full}
 
 -- R i on a data disk or P
@@ -77,12 +77,6 @@ unfolding onDisk upDiagonals upSteps
 diagonals-are zero p f j = refl
 diagonals-are (suc n) p f j = ap (λ (l : List CellStep). cellStep (place p j f) 1 (diagonalOf p f j) ∷ l) (diagonals-are n p f (suc j))
 
--- a plan's steps on a stripe
-pub followed-steps : (p k s f : ℕ) (ss : List Step) (t : List ℕ) → followed p k s f ss t ≡ stepsDone p k s (onDisk p f ss) t
-unfolding followed onDisk stepsDone
-followed-steps p k s f [] t = refl
-followed-steps p k s f (st ∷ ss) t = followed-steps p k s f ss _
-
 pub steps-append : (p k s : ℕ) (cs ds : List CellStep) (t : List ℕ) → stepsDone p k s ds (stepsDone p k s cs t) ≡ stepsDone p k s (cs ++ ds) t
 unfolding stepsDone
 steps-append p k s [] ds t = refl
@@ -90,7 +84,7 @@ steps-append p k s (c ∷ cs) ds t = steps-append p k s cs ds _
 
 -- steps that stand one after the other, after which every cell is known, and that name every set
 pub record Complete (p k a b : ℕ) (cs : List CellStep) : Type 0 where
-  pub standing : Standing p k a b [] cs
+  pub standing : Standing p k (isLost p a b) [] cs
   pub full : (y : ℕ) → y < p * (k + 2) → isKnown p a b (doneAfter [] cs) y ≡ true
   pub rows : (i : ℕ) → i < p → names 0 i cs ≡ true
   pub diagonals : (i : ℕ) → i < p → names 1 i cs ≡ true

@@ -22,8 +22,9 @@ use Rattle.liberation_stripes.specs.Stripes.{cellAt, xorOver, isStripe, clean}
 use Rattle.liberation_stripes.proofs.OverLaws.{over-ext}
 use Rattle.liberation_stripes.proofs.Solving.{SetZero, clean-of}
 use Rattle.liberation_pairs.specs.Pairs.{nextRow, startCount, firstDisk, firstCell, startCells, started, filled, diagonalWalk, rowWalk, walked}
-use Rattle.liberation_pairs.specs.PairSteps.{CellStep, stepsDone, walkSteps, dataSteps, isLost, isKnown}
-use Rattle.liberation_pairs.proofs.Standing.{Standing, known-cases, steps-stripe, steps-kept, steps-zero, steps-back}
+use Rattle.liberation_stripes.specs.Steps.{CellStep, stepsDone}
+use Rattle.liberation_pairs.specs.PairSteps.{walkSteps, dataSteps, isLost, isKnown}
+use Rattle.liberation_stripes.proofs.Standing.{Standing, known-cases, steps-stripe, steps-kept, steps-zero, steps-back}
 use Rattle.liberation_pairs.proofs.Upward.{lost-first, lost-second, known-lost}
 use Rattle.liberation_pairs.proofs.ParityPairs.{Complete}
 use Rattle.liberation_pairs.proofs.WalkRows.{rowAfter, after-zero, after-suc, after-lt, comes-to, comes-once}
@@ -67,10 +68,10 @@ known-off p a b c h = (eqb-false (diskAt p c) a (or-false-l (eqb (diskAt p c) a)
 pub complete-restores : (p k s a b : ℕ) (cs : List CellStep) → Complete p k a b cs → Restores p k s a b (stepsDone p k s cs)
 complete-restores p k s a b cs g =
     record {
-      stripe = steps-stripe p k s a b (g .standing);
-      off = λ t h c m n. steps-kept p k s a b (g .standing) t h c (off-known p a b c [] (off-lost p a b c m n));
-      cleans = λ t h. clean-of p k s (stepsDone p k s cs t) (λ i l. steps-zero p k s a b (g .standing) t h 0 i (g .rows i l)) (λ i l. steps-zero p k s a b (g .standing) t h 1 i (g .diagonals i l));
-      back = λ t u ht hu cu same. steps-back p k s a b (g .standing) (g .full) t u ht hu cu (λ c l e. let w = known-off p a b c e in same c l (w .0) (w .1));
+      stripe = steps-stripe p k s (isLost p a b) (g .standing);
+      off = λ t h c m n. steps-kept p k s (isLost p a b) (g .standing) t h c (off-known p a b c [] (off-lost p a b c m n));
+      cleans = λ t h. clean-of p k s (stepsDone p k s cs t) (λ i l. steps-zero p k s (isLost p a b) (g .standing) t h 0 i (g .rows i l)) (λ i l. steps-zero p k s (isLost p a b) (g .standing) t h 1 i (g .diagonals i l));
+      back = λ t u ht hu cu same. steps-back p k s (isLost p a b) (g .standing) (g .full) t u ht hu cu (λ c l e. let w = known-off p a b c e in same c l (w .0) (w .1));
     }
 
 -- the walk as steps
@@ -93,7 +94,7 @@ module _ (p k s x y : ℕ) (ok : Prime p) (odd : p % 2 ≡ 1) (most : k ≤ p) (
   unfolding e
   e-lt = row-low p x y ok odd g
 
-  ok-steps : Standing p k x y (firstCell p x y ∷ []) (dataSteps p x y)
+  ok-steps : Standing p k (isLost p x y) (firstCell p x y ∷ []) (dataSteps p x y)
   ok-steps = data-standing p k x y ok odd most g hx hy
 
   -- the first cell is lost
@@ -117,28 +118,28 @@ module _ (p k s x y : ℕ) (ok : Prime p) (odd : p % 2 ≡ 1) (most : k ≤ p) (
 
     after-stripe : isStripe p k s after ≡ true
     unfolding after
-    after-stripe = steps-stripe p k s x y ok-steps (started p k s x y t) ready
+    after-stripe = steps-stripe p k s (isLost p x y) ok-steps (started p k s x y t) ready
 
     after-off : (c : ℕ) → isLost p x y c ≡ false → cellAt s after c ≡ cellAt s t c
     unfolding after
-    after-off c h = steps-kept p k s x y ok-steps (started p k s x y t) ready c (off-known p x y c (firstCell p x y ∷ []) h) ∙ started-other p k s x y ok odd g hx hy t ht c (not-first c h)
+    after-off c h = steps-kept p k s (isLost p x y) ok-steps (started p k s x y t) ready c (off-known p x y c (firstCell p x y ∷ []) h) ∙ started-other p k s x y ok odd g hx hy t ht c (not-first c h)
 
     -- the first cell is the XOR of the surviving cells of the start still
     first-found : cellAt s after (firstCell p x y) ≡ xorOver s (cellAt s after) (startCells p k x y)
     unfolding after
     first-found =
-        steps-kept p k s x y ok-steps (started p k s x y t) ready (firstCell p x y) (known-lost p x y (firstCell p x y) (firstCell p x y ∷ []) (λ w. in-head (firstCell p x y) []))
+        steps-kept p k s (isLost p x y) ok-steps (started p k s x y t) ready (firstCell p x y) (known-lost p x y (firstCell p x y) (firstCell p x y ∷ []) (λ w. in-head (firstCell p x y) []))
         ∙ started-cell p k s x y ok odd g hx hy t ht
         ∙ over-ext s (cellAt s t) (cellAt s after) (startCells p k x y) (λ c m. sym (after-off c (start-survives p k x y c (start-row p k s x y ok odd g hx hy) m .0)))
 
     rows-zero : (i : ℕ) → i < p → SetZero p k s after 0 i
     unfolding after
-    rows-zero i l = steps-zero p k s x y ok-steps (started p k s x y t) ready 0 i (data-rows p k x y ok odd most g hx hy i l)
+    rows-zero i l = steps-zero p k s (isLost p x y) ok-steps (started p k s x y t) ready 0 i (data-rows p k x y ok odd most g hx hy i l)
 
     -- the diagonal of every row of the walk but the last
     walk-zero : (q : ℕ) → suc q < p → SetZero p k s after 1 (diagonalOf p x (rowAfter q p x y e))
     unfolding after e
-    walk-zero q l = steps-zero p k s x y ok-steps (started p k s x y t) ready 1 (diagonalOf p x (rowAfter q p x y e)) (data-diagonals p k x y ok odd most g hx hy q l)
+    walk-zero q l = steps-zero p k s (isLost p x y) ok-steps (started p k s x y t) ready 1 (diagonalOf p x (rowAfter q p x y e)) (data-diagonals p k x y ok odd most g hx hy q l)
 
     -- the start's rows: n more after the first
     start : ℕ
@@ -213,8 +214,8 @@ module _ (p k s x y : ℕ) (ok : Prime p) (odd : p % 2 ≡ 1) (most : k ≤ p) (
 
   after-back : (t u : List ℕ) → isStripe p k s t ≡ true → isStripe p k s u ≡ true → clean p k s u ≡ true → Alike p k s x y t u → stepsDone p k s (dataSteps p x y) (started p k s x y t) ≡ u
   after-back t u ht hu cu same =
-      steps-back p k s x y ok-steps (data-full p k x y ok odd most g hx hy) (started p k s x y t) u (started-stripe p k s x y ok odd g hx hy t ht) hu cu
-      (λ c l h. ⊎-elim (λ q. first c q) (λ q. other c l q) (known-cases p x y (firstCell p x y) c [] h))
+      steps-back p k s (isLost p x y) ok-steps (data-full p k x y ok odd most g hx hy) (started p k s x y t) u (started-stripe p k s x y ok odd g hx hy t ht) hu cu
+      (λ c l h. ⊎-elim (λ q. first c q) (λ q. other c l q) (known-cases (isLost p x y) (firstCell p x y) c [] h))
     where
       survivors : (c : ℕ) → c < p * (k + 2) → isLost p x y c ≡ false → cellAt s t c ≡ cellAt s u c
       survivors c l h = let w = known-off p x y c (off-known p x y c [] h) in same c l (w .0) (w .1)

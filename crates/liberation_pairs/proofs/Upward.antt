@@ -17,8 +17,9 @@ use Rattle.laws.proofs.TestLaws.{ltb-next}
 use Rattle.liberation.specs.Sets.{place, rowAt, diskAt, setOf}
 use Rattle.liberation.proofs.SetLaws.{disk-place, place-of, place-eq}
 use Rattle.liberation.proofs.PlaceLaws.{some-row}
-use Rattle.liberation_pairs.specs.PairSteps.{CellStep, cellStep, isLost, isKnown}
-use Rattle.liberation_pairs.proofs.Standing.{Standing, none, next, doneAfter, names, standing-append, done-append}
+use Rattle.liberation_stripes.specs.Steps.{CellStep, cellStep}
+use Rattle.liberation_pairs.specs.PairSteps.{isLost, isKnown}
+use Rattle.liberation_stripes.proofs.Standing.{Standing, none, next, doneAfter, names, standing-append, done-append}
 
 -- n rows of disk f from row j on, row i by the set of this kind with the number num i
 unfoldable pub upSteps : ℕ → ℕ → ℕ → ℕ → (ℕ → ℕ) → ℕ → List CellStep
@@ -80,7 +81,7 @@ module _ (p k a b f kind : ℕ) (num : ℕ → ℕ) (up : Upward p k f kind num)
       → (n j : ℕ) (done : List ℕ) → n + j ≡ p
       → ((r : ℕ) → r < p → isIn (place p r f) done ≡ ltb r j)
       → ((i y : ℕ) → i < p → isIn y (setOf p k kind (num i)) ≡ true → isLost p a b y ≡ true → (diskAt p y ≡ f → ⊥) → isIn y done ≡ true)
-      → Standing p k a b done (upSteps n p f kind num j)
+      → Standing p k (isLost p a b) done (upSteps n p f kind num j)
   unfolding upSteps
   up-standing lost zero j done e rows other = none
   up-standing lost (suc n) j done e rows other =
@@ -146,10 +147,10 @@ module _ (p k a b kind kind2 : ℕ) (num num2 : ℕ → ℕ) (up : Upward p k a 
   first-cell : (y : ℕ) (done : List ℕ) → 0 < p → diskAt p y ≡ a → ((r : ℕ) → r < p → isIn (place p r a) done ≡ true) → isIn y done ≡ true
   first-cell y done h e all = ap (λ (z : ℕ). isIn z done) (sym (on-disk p y a e)) ∙ all (rowAt p y) (mod-lt y h)
 
-  pub both-standing : Standing p k a b [] (upSteps p p a kind num 0 ++ upSteps p p b kind2 num2 0)
+  pub both-standing : Standing p k (isLost p a b) [] (upSteps p p a kind num 0 ++ upSteps p p b kind2 num2 0)
   unfolding after
   both-standing =
-      standing-append p k a b
+      standing-append p k (isLost p a b)
       (up-standing p k a b a kind num up (lost-first p a b) p 0 [] (omega arith) (no-rows a) none-there)
       (up-standing p k a b b kind2 num2 up2 (lost-second p a b) p 0 after (omega arith) second-rows there)
     where

@@ -23,8 +23,9 @@ use Rattle.liberation.proofs.PlaceLaws.{some-row}
 use Rattle.liberation.proofs.RowSteps.{ordinary-row}
 use Rattle.liberation.proofs.LostLaws.{extraOn, on-data, on-cases}
 use Rattle.liberation_pairs.specs.Pairs.{otherDisk, firstCell}
-use Rattle.liberation_pairs.specs.PairSteps.{CellStep, cellStep, walkSteps, dataSteps, isLost, isKnown}
-use Rattle.liberation_pairs.proofs.Standing.{Stands, Standing, none, next, doneAfter, names}
+use Rattle.liberation_stripes.specs.Steps.{CellStep, cellStep}
+use Rattle.liberation_pairs.specs.PairSteps.{walkSteps, dataSteps, isLost, isKnown}
+use Rattle.liberation_stripes.proofs.Standing.{Stands, Standing, none, next, doneAfter, names}
 use Rattle.liberation_pairs.proofs.Upward.{on-disk, lost-cases, lost-first, lost-second, known-lost, unknown-lost, known-rows}
 use Rattle.liberation_pairs.proofs.WalkRows.{rowAfter, after-zero, after-suc, after-lt, comes-to, comes-once}
 use Rattle.liberation_pairs.proofs.Roles.{Roles, row-low, extra-stood}
@@ -100,7 +101,7 @@ module _ (p k x y : ℕ) (ok : Prime p) (odd : p % 2 ≡ 1) (most : k ≤ p) (g 
   walk-next n q = ap (λ (r : ℕ). cellStep (place p r y) 1 (diagonalOf p x (row q)) ∷ (cellStep (place p r x) 0 r ∷ walkSteps n p x y r)) (sym (after-suc q p x y (extraRowOn p x)))
 
   -- a step by the diagonal of the q-th row
-  diagonal-stands : (q : ℕ) (done : List ℕ) → suc q < p → Filled q done → Stands p k x y done (cellStep (place p (row (suc q)) y) 1 (diagonalOf p x (row q)))
+  diagonal-stands : (q : ℕ) (done : List ℕ) → suc q < p → Filled q done → Stands p k (isLost p x y) done (cellStep (place p (row (suc q)) y) 1 (diagonalOf p x (row q)))
   unfolding Filled
   diagonal-stands q done h f =
       record {
@@ -140,7 +141,7 @@ module _ (p k x y : ℕ) (ok : Prime p) (odd : p % 2 ≡ 1) (most : k ≤ p) (g 
           (on-cases p k z r y odd most l z-lt hy t)
 
   -- a step by a row set, where the row's cell on disk d stands and that on disk c does not
-  row-stands : (c d r : ℕ) (done : List ℕ) → c ≤ k → r < p → isLost p x y (place p r c) ≡ true → isIn (place p r c) (place p r d ∷ done) ≡ false → ((t : Bool) × (c ≡ pick t y x) × (d ≡ pick t x y)) → Stands p k x y (place p r d ∷ done) (cellStep (place p r c) 0 r)
+  row-stands : (c d r : ℕ) (done : List ℕ) → c ≤ k → r < p → isLost p x y (place p r c) ≡ true → isIn (place p r c) (place p r d ∷ done) ≡ false → ((t : Bool) × (c ≡ pick t y x) × (d ≡ pick t x y)) → Stands p k (isLost p x y) (place p r d ∷ done) (cellStep (place p r c) 0 r)
   row-stands c d r done h l lost new both =
       record {
         kind-below = omega arith;
@@ -166,11 +167,11 @@ module _ (p k x y : ℕ) (ok : Prime p) (odd : p % 2 ≡ 1) (most : k ≤ p) (g 
       go-y true a b = inl (sym a)
       go-y false a b = inr (sym b)
 
-  walk-standing : (n q : ℕ) (done : List ℕ) → q + n < p → Filled q done → Standing p k x y done (walkSteps n p x y (row q))
+  walk-standing : (n q : ℕ) (done : List ℕ) → q + n < p → Filled q done → Standing p k (isLost p x y) done (walkSteps n p x y (row q))
   unfolding walkSteps Filled
   walk-standing zero q done h f = none
   walk-standing (suc n) q done h f =
-      subst (Standing p k x y done) (sym (walk-next n q))
+      subst (Standing p k (isLost p x y) done) (sym (walk-next n q))
       (next (diagonal-stands q done (omega arith) f)
       (next
       (row-stands x y (row (suc q)) done (omega arith) (row-lt (suc q)) (lost-first p x y (row (suc q)) (row-lt (suc q)))
@@ -208,11 +209,11 @@ module _ (p k x y : ℕ) (ok : Prime p) (odd : p % 2 ≡ 1) (most : k ≤ p) (g 
       (eq-or-lt q l h)
 
   -- after the first cell: its row's other cell, then the walk
-  pub data-standing : Standing p k x y (firstCell p x y ∷ []) (dataSteps p x y)
+  pub data-standing : Standing p k (isLost p x y) (firstCell p x y ∷ []) (dataSteps p x y)
   unfolding dataSteps
   data-standing =
       next (go (eqb y 0))
-      (subst (λ (r : ℕ). Standing p k x y (place p (extraRowOn p x) (otherDisk x y) ∷ (firstCell p x y ∷ [])) (walkSteps (p - 1) p x y r)) (after-zero p x y (extraRowOn p x))
+      (subst (λ (r : ℕ). Standing p k (isLost p x y) (place p (extraRowOn p x) (otherDisk x y) ∷ (firstCell p x y ∷ [])) (walkSteps (p - 1) p x y r)) (after-zero p x y (extraRowOn p x))
       (walk-standing (p - 1) 0 (place p (extraRowOn p x) (otherDisk x y) ∷ (firstCell p x y ∷ [])) (omega (arith, ok .large)) (filled-first (eqb y 0))))
     where
       e : ℕ
@@ -221,7 +222,7 @@ module _ (p k x y : ℕ) (ok : Prime p) (odd : p % 2 ≡ 1) (most : k ≤ p) (g 
       e-lt : e < p
       e-lt = row-low p x y ok odd g
 
-      go : (t : Bool) → Stands p k x y (place p e (pick t x y) ∷ []) (cellStep (place p e (pick t y x)) 0 e)
+      go : (t : Bool) → Stands p k (isLost p x y) (place p e (pick t x y) ∷ []) (cellStep (place p e (pick t y x)) 0 e)
       go true = row-stands y x e [] (omega arith) e-lt (lost-second p x y e e-lt) (other-disk p e e y x [] e-lt e-lt (λ q. g .apart (sym q))) (true, refl, refl)
       go false = row-stands x y e [] (omega arith) e-lt (lost-first p x y e e-lt) (other-disk p e e x y [] e-lt e-lt (g .apart)) (false, refl, refl)
 

@@ -6,28 +6,9 @@ use lib.Dec.{eqb, ltb, leb}
 use Rattle.laws.specs.Choice.{pick}
 use Rattle.laws.specs.Lists.{isIn}
 use Rattle.liberation.specs.Sets.{place, diskAt, setOf}
-use Rattle.liberation.specs.Plans.{Step, extraRowOn, diagonalOf, allOf}
-use Rattle.liberation_stripes.specs.Stripes.{solved}
+use Rattle.liberation.specs.Plans.{extraRowOn, diagonalOf, allOf}
+use Rattle.liberation_stripes.specs.Steps.{CellStep, cellStep, onDisk, known}
 use Rattle.liberation_pairs.specs.Pairs.{nextRow, otherDisk, firstCell, started, forward, upDiagonals}
-
--- a step for two lost disks: the cell that it writes, by its place, and the kind and number of its set
-pub record CellStep : Type 0 where
-  pub cell : ℕ
-  pub kind : ℕ
-  pub number : ℕ
-
-abbrev pub cellStep : ℕ → ℕ → ℕ → CellStep
-cellStep x t n = record { cell = x; kind = t; number = n }
-
--- the steps, done in order on a stripe
-unfoldable pub stepsDone : ℕ → ℕ → ℕ → List CellStep → List ℕ → List ℕ
-stepsDone p k s [] t = t
-stepsDone p k s (c ∷ cs) t = stepsDone p k s cs (solved s (c .cell) (setOf p k (c .kind) (c .number)) t)
-
--- a plan's steps for disk f
-unfoldable pub onDisk : ℕ → ℕ → List Step → List CellStep
-onDisk p f [] = []
-onDisk p f (st ∷ ss) = cellStep (place p (st .row) f) (st .kind) (st .number) ∷ onDisk p f ss
 
 -- the walk from row r on: a diagonal step and a row step for each of n rows
 unfoldable pub walkSteps : ℕ → ℕ → ℕ → ℕ → ℕ → List CellStep
@@ -69,9 +50,9 @@ pairStart p k s a b t = pick (ltb a b) (orderedStart p k s a b t) (orderedStart 
 abbrev pub isLost : ℕ → ℕ → ℕ → ℕ → Bool
 isLost p a b x = eqb (diskAt p x) a || eqb (diskAt p x) b
 
--- it survives, or it stands: it is one of the cells written before
+-- it survives, or it stands
 abbrev pub isKnown : ℕ → ℕ → ℕ → List ℕ → ℕ → Bool
-isKnown p a b done x = not (isLost p a b x) || isIn x done
+isKnown p a b done x = known (isLost p a b) done x
 
 unfoldable pub allKnown : ℕ → ℕ → ℕ → List ℕ → List ℕ → Bool
 allKnown p a b done [] = true

@@ -18,7 +18,6 @@ use Rattle.liberation.proofs.Widths.{width-most}
 use Rattle.liberation.proofs.SetLaws.{place-of}
 use Rattle.liberation.proofs.PlaceLaws.{some-row, disk-below}
 use Rattle.liberation.proofs.AcceptedLaws.{Passes, accepted-passes}
-use Rattle.liberation.proofs.RowLaws.{holds-below}
 use Rattle.liberation_stripes.specs.Stripes.{cellAt, isStripe, clean, followed}
 use Rattle.liberation_stripes.proofs.CellLaws.{cells-equal}
 use Rattle.liberation_stripes.proofs.Solving.{stripe-long}
@@ -73,7 +72,7 @@ module _ (p k s d : ℕ) (ok : accepted p k d (planOf p k d) ≡ true) where
         on x l e =
             let q : x ≡ place p (rowAt p x) d = sym (place-of p x) ∙ ap (place p (rowAt p x)) e in
             ap (cellAt s (after t)) q
-            ∙ steps-agree p k s d (planOf p k d) ok t u ht hu (λ y n h. same y (holds-below p k d y passes h) n) (rowAt p x) (mod-lt x (some-row p (k + 2) x l))
+            ∙ steps-agree p k s d (planOf p k d) ok t u ht hu (λ y m n h. same y m n) (rowAt p x) (mod-lt x (some-row p (k + 2) x l))
             ∙ sym (ap (cellAt s (after u)) q)
 
     -- the one that is clean comes back

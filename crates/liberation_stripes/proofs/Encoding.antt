@@ -15,7 +15,7 @@ use Rattle.liberation.proofs.SetLaws.{place-of}
 use Rattle.liberation.proofs.PlaceLaws.{some-row, disk-below, below-disk, row-disk}
 use Rattle.liberation.proofs.ReadLaws.{holds}
 use Rattle.liberation.proofs.AcceptedLaws.{Passes, accepted-passes}
-use Rattle.liberation.proofs.RowLaws.{uses-all, holds-all, holds-below}
+use Rattle.liberation.proofs.RowLaws.{uses-all, holds-all}
 use Rattle.liberation.proofs.ParityPlans.{plan-row-parity, plan-diagonal-parity, row-parity-accepted, diagonal-parity-accepted}
 use Rattle.liberation_stripes.specs.Stripes.{cellAt, isStripe, clean, followed, encoded}
 use Rattle.liberation_stripes.proofs.CellLaws.{cells-equal}
@@ -89,7 +89,7 @@ module _ (p k s : ℕ) (t : List ℕ) (stripe : isStripe p k s t ≡ true) where
       by-disk v c x e = ap (cellAt s v) (sym (place-of p x) ∙ ap (place p (rowAt p x)) e)
 
       on-p : (r : ℕ) → r < p → cellAt s with-rows (place p r k) ≡ cellAt s u (place p r k)
-      on-p = steps-back p k s k (planOf p k k) (row-parity-accepted p k) t u stripe hu (λ x n h. sym (same x (rows-read p k x n h))) cu
+      on-p = steps-back p k s k (planOf p k k) (row-parity-accepted p k) t u stripe hu (λ x l n h. sym (same x (rows-read p k x n h))) cu
 
       -- data cells and P
       off : (x : ℕ) → x < p * (k + 2) → (diskAt p x ≡ suc k → ⊥) → cellAt s with-rows x ≡ cellAt s u x
@@ -101,7 +101,7 @@ module _ (p k s : ℕ) (t : List ℕ) (stripe : isStripe p k s t ≡ true) where
           (lt-or-le (diskAt p x) k)
 
       on-q : (r : ℕ) → r < p → cellAt s (encoded p k s t) (place p r (suc k)) ≡ cellAt s u (place p r (suc k))
-      on-q = steps-back p k s (suc k) (planOf p k (suc k)) (diagonal-parity-accepted p k) with-rows u rows-stripe hu (λ x n h. off x (holds-below p k (suc k) x (diagonal-steps p k) h) n) cu
+      on-q = steps-back p k s (suc k) (planOf p k (suc k)) (diagonal-parity-accepted p k) with-rows u rows-stripe hu (λ x l n h. off x l n) cu
 
       all-cells : (x : ℕ) → x < p * (k + 2) → cellAt s (encoded p k s t) x ≡ cellAt s u x
       all-cells x l = ⊎-elim others (λ m. let e : diskAt p x ≡ suc k = omega (arith, disk-below p (k + 2) x l) in by-disk (encoded p k s t) (suc k) x e ∙ on-q (rowAt p x) (mod-lt x (some-row p (k + 2) x l)) ∙ sym (by-disk u (suc k) x e)) (lt-or-le (diskAt p x) (suc k))

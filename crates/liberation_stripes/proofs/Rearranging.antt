@@ -42,7 +42,7 @@ bytes-same p k s f ss us a b r t h = cells-equal (p * (k + 2)) s (followed p k s
     cell y l true e =
         let q : place p (rowAt p y) f ≡ y = sym (ap (place p (rowAt p y)) (eqb-true (diskAt p y) f e)) ∙ place-of p y in
         ap (cellAt s (followed p k s f ss t)) (sym q)
-        ∙ steps-agree p k s f ss a t v h hv (λ x n m. sym (followed-off p k s f pb t h x n)) (rowAt p y) (mod-lt y (some-row p (k + 2) y l))
+        ∙ steps-agree p k s f ss a t v h hv (λ x l n m. sym (followed-off p k s f pb t h x n)) (rowAt p y) (mod-lt y (some-row p (k + 2) y l))
         ∙ ap (λ (u : List ℕ). cellAt s u (place p (rowAt p y) f)) stays
         ∙ ap (cellAt s v) q
     cell y l false e = followed-off p k s f pa t h y (eqb-false (diskAt p y) f e) ∙ sym (followed-off p k s f pb t h y (eqb-false (diskAt p y) f e))

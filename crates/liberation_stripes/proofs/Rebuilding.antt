@@ -1,7 +1,7 @@
 -- Rebuilding one lost disk by an accepted plan: every row is rebuilt, from surviving cells alone. So a clean stripe's column comes back whatever the stripe holds for the lost disk,
 -- and the rebuilt column depends only on the cells marked in the read list, none of them on the lost disk, on dirty stripes too.
 use mathlib.Core.Path.{_≡_, sym, ap, _∙_}
-use mathlib.Core.Bool.{true, false≢true}
+use mathlib.Core.Bool.{true}
 use mathlib.Core.List.{List}
 use Prim.Native.Nat.{ℕ, _+_, _*_, _<_}
 use native.Mathlib.Omega.{arith}
@@ -13,7 +13,7 @@ use Rattle.liberation.specs.Judging.{accepted}
 use Rattle.liberation.proofs.ReadLaws.{holds}
 use Rattle.liberation.proofs.ReadListLaws.{read-marked}
 use Rattle.liberation.proofs.AcceptedLaws.{accepted-passes}
-use Rattle.liberation.proofs.RowLaws.{every-row, holds-below}
+use Rattle.liberation.proofs.RowLaws.{every-row}
 use Rattle.liberation_stripes.specs.Stripes.{cellAt, isStripe, clean, followed, columnOf, rebuilt}
 use Rattle.liberation_stripes.proofs.CellLaws.{cell-fits, cell-long, cells-equal, column-cell}
 use Rattle.liberation_stripes.proofs.Solving.{cell-bytes, stripe-long, stripe-bytes}
@@ -28,10 +28,10 @@ columns-equal p k s c t u l ht hu h =
     cells-equal p s (columnOf p s c t) (columnOf p s c u) (column-long p k s c t l ht) (column-long p k s c u l hu) (λ r m. column-cell p s c r t m ∙ h r m ∙ sym (column-cell p s c r u m))
 
 -- an accepted plan, on two stripes
-module _ (p k s f : ℕ) (ss : List Step) (ok : accepted p k f ss ≡ true) (t u : List ℕ) (ht : isStripe p k s t ≡ true) (hu : isStripe p k s u ≡ true) (alive : (x : ℕ) → (diskAt p x ≡ f → ⊥) → holds p k x ss ≡ true → cellAt s t x ≡ cellAt s u x) where
+module _ (p k s f : ℕ) (ss : List Step) (ok : accepted p k f ss ≡ true) (t u : List ℕ) (ht : isStripe p k s t ≡ true) (hu : isStripe p k s u ≡ true) (alive : (x : ℕ) → x < p * (k + 2) → (diskAt p x ≡ f → ⊥) → holds p k x ss ≡ true → cellAt s t x ≡ cellAt s u x) where
   -- alike in the surviving cells of its sets, they give the same rows
   pub steps-agree : (r : ℕ) → r < p → cellAt s (followed p k s f ss t) (place p r f) ≡ cellAt s (followed p k s f ss u) (place p r f)
-  steps-agree r l = followed-agree p k s f (accepted-passes p k f ss ok) t u ht hu (λ i m e. absurd (false≢true e)) alive r l (every-row p k f ss ok r l)
+  steps-agree r l = followed-agree p k s f (accepted-passes p k f ss ok) t u ht hu alive r l (every-row p k f ss ok r l)
 
   -- and where one of them is clean, its rows
   pub steps-back : clean p k s u ≡ true → (r : ℕ) → r < p → cellAt s (followed p k s f ss t) (place p r f) ≡ cellAt s u (place p r f)
@@ -50,7 +50,7 @@ module _ (p k s f : ℕ) (ok : accepted p k f (planOf p k f) ≡ true) (disk : f
   one-back t u ht hu cu same =
       let passes = accepted-passes p k f (planOf p k f) ok in
       columns-equal p k s f (followed p k s f (planOf p k f) t) u disk (followed-stripe p k s f passes t ht) hu
-      (steps-back p k s f (planOf p k f) ok t u ht hu (λ x n e. same x (holds-below p k f x passes e) n) cu)
+      (steps-back p k s f (planOf p k f) ok t u ht hu (λ x l n e. same x l n) cu)
 
   -- stripes alike in the survivors that the plan's sets hold give one column
   alike :
@@ -61,7 +61,7 @@ module _ (p k s f : ℕ) (ok : accepted p k f (planOf p k f) ≡ true) (disk : f
   alike t u ht hu same =
       let passes = accepted-passes p k f (planOf p k f) ok in
       columns-equal p k s f (followed p k s f (planOf p k f) t) (followed p k s f (planOf p k f) u) disk (followed-stripe p k s f passes t ht) (followed-stripe p k s f passes u hu)
-      (steps-agree p k s f (planOf p k f) ok t u ht hu (λ x n e. same x (holds-below p k f x passes e) n e))
+      (steps-agree p k s f (planOf p k f) ok t u ht hu same)
 
   -- "What the stripe holds for the lost disk is never used": stripes alike off it give one column, dirty stripes too
   pub lost-unused :

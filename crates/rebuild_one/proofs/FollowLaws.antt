@@ -1,24 +1,22 @@
 -- The steps of our plan, one after another: the steps still to come, on the stripe with the column as it stands, give what all steps give. What the column held at first does not matter, since every row is rebuilt from surviving cells.
 use mathlib.Core.Path.{_≡_, refl, sym, ap, subst, _∙_}
 use mathlib.Core.Bool.{true}
-use mathlib.Core.List.{List, [], _∷_, _++_}
+use mathlib.Core.List.{List, [], _∷_}
 use Prim.Native.Nat.{ℕ, zero, suc, _+_, _*_, _≤_, _<_}
 use native.Mathlib.Numerals.{add-one}
 use native.Mathlib.Omega.{arith}
-use lib.ListN.{length, drop, take, drop-of-length-le}
+use lib.ListN.{length, drop, drop-of-length-le}
 use Rattle.laws.specs.Lists.{isIn}
 use Rattle.laws.specs.Xor.{allBytes}
-use Rattle.laws.proofs.ByteLaws.{bytes-append, bytes-take, bytes-drop}
-use Rattle.liberation.specs.Sets.{isWidth, place, diskAt, setOf, lostIn}
+use Rattle.liberation.specs.Sets.{isWidth, place, setOf, lostIn}
 use Rattle.liberation.specs.Plans.{Step, planOf}
 use Rattle.liberation.proofs.AcceptedLaws.{Passes, none, next, accepted-passes}
 use Rattle.liberation.proofs.PartPlans.{plan-accepted}
 use Rattle.liberation.proofs.Widths.{width-least}
-use Rattle.liberation_stripes.specs.Stripes.{cellAt, isStripe, solved, followed, columnOf, withColumn, stripeLong, rebuilt}
-use Rattle.liberation_stripes.proofs.CellLaws.{cell-fits, cells-equal, column-cell, length-column, column-with, cell-off}
-use Rattle.liberation_stripes.proofs.Solving.{stripe-of}
-use Rattle.liberation_stripes.proofs.Following.{followed-stripe}
-use Rattle.liberation_stripes.proofs.Rebuilding.{column-long, steps-agree}
+use Rattle.liberation_stripes.specs.Stripes.{solved, followed, columnOf, withColumn, stripeLong, rebuilt}
+use Rattle.liberation_stripes.proofs.CellLaws.{cell-fits, length-column, column-with, cell-off}
+use Rattle.liberation_stripes.proofs.Solving.{stripe-of, bytes-with}
+use Rattle.liberation_stripes.proofs.Rebuilding.{lost-unused}
 use Rattle.liberation.proofs.RecordLaws.{StepAt, plan-length}
 
 -- a step of an accepted plan passes the judge
@@ -60,37 +58,18 @@ stepping-turn p k s f t col₀ col col′ i a h l e st =
           ∙ st .rest;
     }
 
--- a stripe's column depends on the other disks alone
+-- all steps done: the column depends on the other disks alone
 module _ (p k s f : ℕ) (wide : isWidth p ≡ true) (most : k ≤ p) (disk : f ≤ k + 1) where
-  rebuilt-off : (t u : List ℕ) → isStripe p k s t ≡ true → isStripe p k s u ≡ true → ((x : ℕ) → (diskAt p x ≡ f → ⊥) → cellAt s t x ≡ cellAt s u x) → rebuilt p k s f t ≡ rebuilt p k s f u
-  unfolding rebuilt
-  rebuilt-off t u ht hu same =
-      cells-equal p s (columnOf p s f (after t)) (columnOf p s f (after u)) (column-long p k s f (after t) below (stripe t ht)) (column-long p k s f (after u) below (stripe u hu))
-      (λ r m. column-cell p s f r (after t) m ∙ steps-agree p k s f (planOf p k f) (plan-accepted p k f wide most disk) t u ht hu (λ x n e. same x n) r m ∙ sym (column-cell p s f r (after u) m))
-    where
-      after : List ℕ → List ℕ
-      after v = followed p k s f (planOf p k f) v
-
-      below : f < k + 2
-      below = omega arith
-
-      stripe : (v : List ℕ) → isStripe p k s v ≡ true → isStripe p k s (after v) ≡ true
-      stripe v h = followed-stripe p k s f (accepted-passes p k f (planOf p k f) (plan-accepted p k f wide most disk)) v h
-
-  -- all steps done
   pub stepping-end : (t col₀ col : List ℕ) (i : ℕ) → p ≤ i → length t ≡ stripeLong p k s → length col₀ ≡ p * s → allBytes t ≡ true → allBytes col₀ ≡ true → Stepping p k s f t col₀ col i → col ≡ rebuilt p k s f t
   unfolding rebuilt followed
   stepping-end t col₀ col i h lt lc bt bc st =
       sym (column-with p s f col t (st .long) fits)
       ∙ ap (columnOf p s f) (sym (ap (λ (y : List Step). followed p k s f y (withColumn p s f col t)) (drop-of-length-le (planOf p k f) few)) ∙ st .rest)
-      ∙ rebuilt-off (withColumn p s f col₀ t) t (stripe-of p k s (withColumn p s f col₀ t) (length-column p s f col₀ t lc fits ∙ lt ∙ omega arith) bytes) (stripe-of p k s t (lt ∙ omega arith) bt)
-      (λ x n. cell-off p s f col₀ t lc fits x (omega (arith, width-least p wide)) n)
+      ∙ lost-unused p k s f (plan-accepted p k f wide most disk) (omega arith) (withColumn p s f col₀ t) t (stripe-of p k s (withColumn p s f col₀ t) (length-column p s f col₀ t lc fits ∙ lt ∙ omega arith) (bytes-with (p * s) f col₀ t bc bt)) (stripe-of p k s t (lt ∙ omega arith) bt)
+      (λ x l n. cell-off p s f col₀ t lc fits x (omega (arith, width-least p wide)) n)
     where
       fits : f * (p * s) + p * s ≤ length t
       fits = let l : f < k + 2 = omega arith in omega (arith, cell-fits (k + 2) (p * s) f l)
 
       few : length (planOf p k f) ≤ i
       few = omega (arith, plan-length p k f wide most disk)
-
-      bytes : allBytes (withColumn p s f col₀ t) ≡ true
-      bytes = bytes-append (take (f * (p * s)) t) (col₀ ++ drop (f * (p * s) + p * s) t) (bytes-take (f * (p * s)) t bt) (bytes-append col₀ (drop (f * (p * s) + p * s) t) bc (bytes-drop (f * (p * s) + p * s) t bt))
