@@ -1,20 +1,17 @@
 -- Steps in a record of 31 places and in the judge's form: where a record that holds ss has step i, and that the form gives the recorded steps back.
-use mathlib.Core.Path.{_≡_, refl, sym, ap, ap₂, _∙_}
+use mathlib.Core.Path.{_≡_, refl, sym, ap, ap₂, subst, _∙_}
 use mathlib.Core.Bool.{true}
 use mathlib.Core.List.{List, [], _∷_, _++_}
 use Prim.Native.Nat.{ℕ, zero, suc, _+_, _-_, _*_, _≤_, _<_}
 use native.Mathlib.Omega.{arith}
-use lib.Dec.{ltb}
 use lib.ListN.{length, getD, drop, replicate, List·getD-append, drop-of-length-le}
-use borrow.Author.Tests.{ltb-true}
-use Rattle.laws.proofs.Flags.{and-l, and-r}
 use Rattle.liberation.specs.Sets.{isWidth}
 use Rattle.liberation.specs.Plans.{Step, step, planOf, readCount}
 use Rattle.liberation.specs.Records.{listed, padded, recorded, judgeForm}
 use Rattle.liberation.specs.Judging.{stepsIn}
-use Rattle.liberation.proofs.ReadLaws.{numbersBelow, reads-most}
+use Rattle.liberation.proofs.ReadLaws.{reads-most}
 use Rattle.liberation.proofs.UsedLaws.{named-numbers}
-use Rattle.liberation.proofs.AcceptedLaws.{accepted-length, accepted-named}
+use Rattle.liberation.proofs.AcceptedLaws.{Passed, Passes, none, next, accepted-length, accepted-named, accepted-passes}
 use Rattle.liberation.proofs.PartPlans.{plan-accepted}
 
 pub listed-append : (g : Step → ℕ) (ss ts : List Step) → listed g (ss ++ ts) ≡ listed g ss ++ listed g ts
@@ -45,33 +42,29 @@ step-at ss i h =
       held = λ g. List·getD-append (listed g ss) (replicate (31 - length (listed g ss)) 0) 0 i (omega (arith, length-listed g ss)) ∙ w .2 g;
     }
 
--- the set numbers of steps that are all below p
-number-below : (p : ℕ) (ss : List Step) (i : ℕ) (s : Step) → numbersBelow p ss ≡ true → drop i ss ≡ s ∷ drop (suc i) ss → i < length ss → s .number < p
-unfolding numbersBelow
-number-below p [] i s b e h = absurd (omega arith)
-number-below p (x ∷ ss) zero s b e h =
-    let q : x .number ≡ s .number = ap first e in
-    omega (arith, q, ltb-true (x .number) p (and-l (ltb (x .number) p) (numbersBelow p ss) b))
+-- step i of steps that pass does, some rows having been rebuilt before it
+passed-at : (p k f : ℕ) {done : List ℕ} {ss : List Step} (i : ℕ) (st : Step) → Passes p k f done ss → i < length ss → drop i ss ≡ st ∷ drop (suc i) ss → (ds : List ℕ) × Passed p k f ds st
+passed-at p k f i st none h e = absurd (omega arith)
+passed-at p k f {done} zero st (next g rest) h e = (done, subst (λ (y : Step). Passed p k f done y) (ap first e) g)
   where
-    first : List Step → ℕ
-    first [] = 0
-    first (y ∷ ys) = y .number
-number-below p (x ∷ ss) (suc i) s b e h = number-below p ss i s (and-r (ltb (x .number) p) (numbersBelow p ss) b) e (omega arith)
+    first : List Step → Step
+    first [] = st
+    first (y ∷ ys) = y
+passed-at p k f (suc i) st (next g rest) h e = passed-at p k f i st rest (omega arith) e
 
--- our plan has p steps, and its set numbers are below p
+-- our plan has p steps, and each passes
 pub plan-length : (p k f : ℕ) → isWidth p ≡ true → k ≤ p → f ≤ k + 1 → length (planOf p k f) ≡ p
 plan-length p k f w most h = accepted-length p k f (planOf p k f) (plan-accepted p k f w most h)
 
-plan-numbers : (p k f : ℕ) → isWidth p ≡ true → k ≤ p → f ≤ k + 1 → numbersBelow p (planOf p k f) ≡ true
-plan-numbers p k f w most h = named-numbers p (planOf p k f) (accepted-named p k f (planOf p k f) (plan-accepted p k f w most h))
+pub plan-passed : (p k f i : ℕ) → isWidth p ≡ true → k ≤ p → f ≤ k + 1 → (a : StepAt (planOf p k f) i) → i < p → (ds : List ℕ) × Passed p k f ds (a .this)
+plan-passed p k f i w most h a l = passed-at p k f i (a .this) (accepted-passes p k f (planOf p k f) (plan-accepted p k f w most h)) (omega (arith, plan-length p k f w most h)) (a .split)
 
 pub plan-number : (p k f i : ℕ) → isWidth p ≡ true → k ≤ p → f ≤ k + 1 → (a : StepAt (planOf p k f) i) → i < p → a .this .number < p
-plan-number p k f i w most h a l =
-    number-below p (planOf p k f) i (a .this) (plan-numbers p k f w most h) (a .split) (omega (arith, plan-length p k f w most h))
+plan-number p k f i w most h a l = plan-passed p k f i w most h a l .1 .number-below
 
--- so it reads no more cells than there are
+-- it reads no more cells than there are
 pub plan-reads-most : (p k f : ℕ) → isWidth p ≡ true → k ≤ p → f ≤ k + 1 → readCount p k f (planOf p k f) ≤ p * (k + 2)
-plan-reads-most p k f w most h = reads-most p k f (planOf p k f) (plan-numbers p k f w most h)
+plan-reads-most p k f w most h = reads-most p k f (planOf p k f) (named-numbers p (planOf p k f) (accepted-named p k f (planOf p k f) (plan-accepted p k f w most h)))
 
 -- three bytes a step
 pub length-form : (n i : ℕ) (rows kinds numbers : List ℕ) → length (judgeForm n i rows kinds numbers) ≡ 3 * n

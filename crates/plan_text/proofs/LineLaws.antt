@@ -1,8 +1,8 @@
 -- The loop that prints the steps of our plan: after i of them their lines are written and their cells marked, and with the lines still to come that is the whole text.
 use mathlib.Core.Path.{_≡_, refl, sym, ap, _∙_}
 use mathlib.Core.Bool.{true}
-use mathlib.Core.List.{List, [], _∷_, _++_, append-assoc, append-nil}
-use Prim.Native.Nat.{ℕ, zero, suc, _+_, _-_, _*_, _≤_, _<_}
+use mathlib.Core.List.{List, [], _++_, append-assoc, append-nil}
+use Prim.Native.Nat.{ℕ, suc, _+_, _-_, _*_, _≤_, _<_}
 use native.Mathlib.Numerals.{add-one}
 use native.Mathlib.Omega.{arith}
 use lib.ListN.{length, getD, drop, length-append, drop-of-length-le}
@@ -10,31 +10,16 @@ use Rattle.laws.specs.Lists.{added, allBelow}
 use Rattle.liberation.specs.Sets.{isWidth, setOf, survivingIn}
 use Rattle.liberation.specs.Plans.{Step, planOf, marksFrom}
 use Rattle.liberation.proofs.SetLaws.{surviving-few, survivors-below}
-use Rattle.liberation.proofs.AcceptedLaws.{Passes, none, next, accepted-passes}
-use Rattle.liberation.proofs.PartPlans.{plan-accepted}
 use Rattle.sets.specs.Marks.{Marked, markAll, freshIn}
 use Rattle.sets.proofs.MarkLaws.{marks-added, fresh-added, fresh-le}
 use Rattle.liberation.proofs.SetSizes.{size-most}
 use Rattle.planner.specs.declared.Steps.{Steps}
 use Rattle.planner.specs.Records.{Holds}
-use Rattle.liberation.proofs.RecordLaws.{StepAt, step-at, plan-length, plan-number}
+use Rattle.liberation.proofs.RecordLaws.{StepAt, step-at, plan-length, plan-passed, plan-number}
 use Rattle.plan_text.specs.Text.{lineOf, newFrom, linesFrom}
 use Rattle.text.specs.Writing.{Wrote}
 use Rattle.text.proofs.WriteLaws.{wrote-none, wrote-more}
 use Rattle.plan_text.proofs.TextLaws.{line-most}
-
--- the row of a step of our plan
-row-below : (p k f : ℕ) {done : List ℕ} {ss : List Step} (i : ℕ) (s : Step) → Passes p k f done ss → drop i ss ≡ s ∷ drop (suc i) ss → i < length ss → s .row < p
-row-below p k f i s none e h = absurd (omega arith)
-row-below p k f zero s (next {s = x} {ss} g rest) e h = let q : x .row ≡ s .row = ap first e in omega (arith, q, g .row-below)
-  where
-    first : List Step → ℕ
-    first [] = 0
-    first (y ∷ ys) = y .row
-row-below p k f (suc i) s (next g rest) e h = row-below p k f i s rest e (omega arith)
-
-plan-row : (p f i : ℕ) → isWidth p ≡ true → f ≤ p + 1 → (a : StepAt (planOf p p f) i) → i < p → a .this .row < p
-plan-row p f i w h a l = row-below p p f i (a .this) (accepted-passes p p f (planOf p p f) (plan-accepted p p f w (omega arith) h)) (a .split) (omega (arith, plan-length p p f w (omega arith) h))
 
 -- Step i of our plan, and where the plan record has its numbers.
 pub record PlanStep (p f i : ℕ) (r : Steps) : Type 0 where
@@ -52,7 +37,7 @@ plan-step p f i r w h k l =
       row = ap (λ (x : List ℕ). getD x i 0) (k .rows) ∙ a .held (λ s. s .row);
       kind = ap (λ (x : List ℕ). getD x i 0) (k .kinds) ∙ a .held (λ s. s .kind);
       number = ap (λ (x : List ℕ). getD x i 0) (k .numbers) ∙ a .held (λ s. s .number);
-      row-below = plan-row p f i w h a l;
+      row-below = plan-passed p p f i w (omega arith) h a l .1 .row-below;
       number-below = plan-number p p f i w (omega arith) h a l;
     }
   where

@@ -1,16 +1,14 @@
 -- The steps of our plan, one after another: the steps still to come, on the stripe with the column as it stands, give what all steps give. What the column held at first does not matter, since every row is rebuilt from surviving cells.
-use mathlib.Core.Path.{_≡_, refl, sym, ap, subst, _∙_}
+use mathlib.Core.Path.{_≡_, refl, sym, ap, _∙_}
 use mathlib.Core.Bool.{true}
-use mathlib.Core.List.{List, [], _∷_}
-use Prim.Native.Nat.{ℕ, zero, suc, _+_, _*_, _≤_, _<_}
+use mathlib.Core.List.{List}
+use Prim.Native.Nat.{ℕ, suc, _+_, _*_, _≤_, _<_}
 use native.Mathlib.Numerals.{add-one}
 use native.Mathlib.Omega.{arith}
 use lib.ListN.{length, drop, drop-of-length-le}
-use Rattle.laws.specs.Lists.{isIn}
 use Rattle.laws.specs.Xor.{allBytes}
-use Rattle.liberation.specs.Sets.{isWidth, place, setOf, lostIn}
+use Rattle.liberation.specs.Sets.{isWidth, place, setOf}
 use Rattle.liberation.specs.Plans.{Step, planOf}
-use Rattle.liberation.proofs.AcceptedLaws.{Passes, none, next, accepted-passes}
 use Rattle.liberation.proofs.PartPlans.{plan-accepted}
 use Rattle.liberation.proofs.Widths.{width-least}
 use Rattle.liberation_stripes.specs.Stripes.{solved, followed, columnOf, withColumn, stripeLong, rebuilt}
@@ -18,20 +16,6 @@ use Rattle.liberation_stripes.proofs.CellLaws.{cell-fits, length-column, column
 use Rattle.liberation_stripes.proofs.Solving.{stripe-of, bytes-with}
 use Rattle.liberation_stripes.proofs.Rebuilding.{lost-unused}
 use Rattle.liberation.proofs.RecordLaws.{StepAt, plan-length}
-
--- a step of an accepted plan passes the judge
-step-passed : (p k f : ℕ) {done : List ℕ} {ss : List Step} (i : ℕ) (st : Step) → Passes p k f done ss → i < length ss → drop i ss ≡ st ∷ drop (suc i) ss → (st .row < p) × (isIn (st .row) (lostIn p f (setOf p k (st .kind) (st .number))) ≡ true)
-step-passed p k f i st none h e = absurd (omega arith)
-step-passed p k f zero st (next {s = x} g rest) h e = subst (λ (y : Step). (y .row < p) × (isIn (y .row) (lostIn p f (setOf p k (y .kind) (y .number))) ≡ true)) (ap first e) (g .row-below, g .lost)
-  where
-    first : List Step → Step
-    first [] = st
-    first (y ∷ ys) = y
-step-passed p k f (suc i) st (next g rest) h e = step-passed p k f i st rest (omega arith) e
-
--- so each step of our plan names a row, and its set holds the lost cell of that row
-pub plan-passed : (p k f i : ℕ) → isWidth p ≡ true → k ≤ p → f ≤ k + 1 → (a : StepAt (planOf p k f) i) → i < p → (a .this .row < p) × (isIn (a .this .row) (lostIn p f (setOf p k (a .this .kind) (a .this .number))) ≡ true)
-plan-passed p k f i w most h a l = step-passed p k f i (a .this) (accepted-passes p k f (planOf p k f) (plan-accepted p k f w most h)) (omega (arith, plan-length p k f w most h)) (a .split)
 
 -- the loop over the steps: i of them done
 pub record Stepping (p k s f : ℕ) (t col₀ col : List ℕ) (i : ℕ) : Type 0 where

@@ -7,9 +7,9 @@ use lib.ListN.{getD}
 use borrow.Author.Needs.{needs}
 use Rattle.liberation.specs.Plans.{planOf}
 use Rattle.liberation.proofs.Widths.{width-most}
-use Rattle.liberation.proofs.RecordLaws.{StepAt, step-at, plan-length, plan-number}
+use Rattle.liberation.proofs.RecordLaws.{StepAt, step-at, plan-length, plan-passed}
 use Rattle.xor.proofs.SourceLaws.{bytes-all}
-use Rattle.rebuild_one.proofs.FollowLaws.{Stepping, stepping-start, stepping-turn, stepping-end, plan-passed}
+use Rattle.rebuild_one.proofs.FollowLaws.{Stepping, stepping-start, stepping-turn, stepping-end}
 use Rattle.rebuild_one.proofs.follow.Statement.{statement}
 use Rattle.rebuild_one.proofs.follow.Tie as tie
 
@@ -67,11 +67,11 @@ rebuild-cell-requires c κs =
     let w = z .pre .0 .0 .width in
     let most = z .pre .0 .0 .disks in
     let d = z .pre .0 .0 .disk in
-    let passed = plan-passed (a .width) (a .disks) (a .disk) (t .before .loop .i) w most d (this t) (t .loop-test .taken) in
+    let passed = plan-passed (a .width) (a .disks) (a .disk) (t .before .loop .i) w most d (this t) (t .loop-test .taken) .1 in
     record {
-      within = record { widest = small t; disks = most; numbered = omega (arith, number t, plan-number (a .width) (a .disks) (a .disk) (t .before .loop .i) w most d (this t) (t .loop-test .taken)) };
-      rows = omega (arith, row t, passed .0);
-      own = rw (row t, kind t, number t) (passed .1);
+      within = record { widest = small t; disks = most; numbered = omega (arith, number t, passed .number-below) };
+      rows = omega (arith, row t, passed .row-below);
+      own = rw (row t, kind t, number t) (passed .lost);
       disk = d;
       size = z .pre .0 .1;
       stripe = z .pre .1 .0;
