@@ -2,7 +2,7 @@
 -- Also: at each step after the first cell every lost cell of its set but the one written stands.
 use mathlib.Core.Path.{_≡_, refl, sym, ap, subst, _∙_}
 use mathlib.Core.Bool.{Bool, true, false, _||_, not, or-comm}
-use mathlib.Core.List.{List, [], _∷_}
+use mathlib.Core.List.{List, _∷_, _++_}
 use Prim.Native.Nat.{ℕ, suc, _+_, _%_, _≤_, _<_}
 use native.Mathlib.Omega.{arith}
 use lib.Dec.{eqb, ltb}
@@ -11,17 +11,17 @@ use Rattle.laws.specs.Choice.{pick}
 use Rattle.laws.specs.Lists.{isIn}
 use Rattle.laws.proofs.Primes.{Prime}
 use Rattle.liberation.specs.Sets.{isWidth, diskAt}
-use Rattle.liberation.specs.Plans.{allOf}
+use Rattle.liberation.specs.Plans.{Step, allOf}
 use Rattle.liberation.proofs.Widths.{width-prime, width-odd}
 use Rattle.liberation_stripes.specs.Stripes.{cellAt, isStripe, clean, followed}
-use Rattle.liberation_pairs.specs.Pairs.{firstCell, started, walked, forward, upDiagonals, withRowParity, withDiagonalParity, orderedSolved, pairSolved}
+use Rattle.liberation_pairs.specs.Pairs.{walked, forward, upDiagonals, withRowParity, withDiagonalParity, orderedSolved, pairSolved}
 use Rattle.liberation_stripes.specs.Steps.{CellStep, stepsDone, onDisk}
-use Rattle.liberation_pairs.specs.PairSteps.{dataSteps, rowParitySteps, diagonalParitySteps, orderedSteps, orderedFirst, orderedStart, pairSteps, pairFirst, pairStart, isKnown, stepsStand, isLost}
+use Rattle.liberation_pairs.specs.PairSteps.{rowParitySteps, diagonalParitySteps, PairPlan, walkPlan, stepsAlone, orderedPlan, pairPlan, isLost, isKnown, stepsStand}
 use Rattle.liberation_stripes.proofs.Following.{followed-steps}
 use Rattle.liberation_stripes.proofs.Standing.{Standing, none, next}
 use Rattle.liberation_pairs.proofs.StandTests.{standing-true}
-use Rattle.liberation_pairs.proofs.ParityPairs.{steps-append, row-parity-complete, diagonal-parity-complete}
-use Rattle.liberation_pairs.proofs.Roles.{roles-forward, roles-backward}
+use Rattle.liberation_pairs.proofs.ParityPairs.{Complete, steps-append, row-parity-complete, diagonal-parity-complete}
+use Rattle.liberation_pairs.proofs.Roles.{Roles, roles-forward, roles-backward}
 use Rattle.liberation_pairs.proofs.WalkLaws.{data-standing}
 use Rattle.liberation_pairs.proofs.Restoring.{Alike, Restores, restores-swap, complete-restores, walked-steps, walked-restores}
 
@@ -42,83 +42,84 @@ standing-swap p k a b (next {done} {c} {cs} g ok) =
     })
     (standing-swap p k a b ok)
 
--- a rebuild and its steps: the steps stand, and done on the stripe with the first cell they are the rebuild, which restores
-record Rebuild (p k s a b : ℕ) (f : List ℕ → List ℕ) (first : List ℕ) (cs : List CellStep) (start : List ℕ → List ℕ) : Type 0 where
+-- a rebuild by a plan: its steps stand, and done on the stripe with the first cell they are the rebuild, which restores
+record Rebuild (p k s a b : ℕ) (f : List ℕ → List ℕ) (d : PairPlan) : Type 0 where
   restores : Restores p k s a b f
-  standing : Standing p k (isLost p a b) first cs
-  steps : (t : List ℕ) → f t ≡ stepsDone p k s cs (start t)
+  standing : Standing p k (isLost p a b) (d .first) (d .steps)
+  steps : (t : List ℕ) → f t ≡ stepsDone p k s (d .steps) (d .start t)
 
-swapped : (p k s a b : ℕ) (f : List ℕ → List ℕ) (first : List ℕ) (cs : List CellStep) (start : List ℕ → List ℕ) → Rebuild p k s a b f first cs start → Rebuild p k s b a f first cs start
-swapped p k s a b f first cs start r = record { restores = restores-swap p k s a b f (r .restores); standing = standing-swap p k a b (r .standing); steps = r .steps }
+swapped : (p k s a b : ℕ) (f : List ℕ → List ℕ) (d : PairPlan) → Rebuild p k s a b f d → Rebuild p k s b a f d
+swapped p k s a b f d r = record { restores = restores-swap p k s a b f (r .restores); standing = standing-swap p k a b (r .standing); steps = r .steps }
 
--- by steps from the surviving cells alone
-plain : (p k s a b : ℕ) (f : List ℕ → List ℕ) (cs : List CellStep) → ((t : List ℕ) → f t ≡ stepsDone p k s cs t) → Restores p k s a b (stepsDone p k s cs) → Standing p k (isLost p a b) [] cs → Rebuild p k s a b f [] cs (λ t. t)
-plain p k s a b f cs e r st =
+-- by steps alone, one plan's after another's
+plain :
+    (p k s a b c d : ℕ) (ss us : List Step) → Complete p k a b (onDisk p c ss ++ onDisk p d us)
+    → Rebuild p k s a b (λ t. followed p k s d us (followed p k s c ss t)) (stepsAlone (onDisk p c ss ++ onDisk p d us))
+plain p k s a b c d ss us g =
     record {
       restores = record {
         stripe = λ t h. ap (isStripe p k s) (e t) ∙ r .stripe t h;
-        off = λ t h c m n. ap (λ (v : List ℕ). cellAt s v c) (e t) ∙ r .off t h c m n;
+        off = λ t h x m n. ap (λ (v : List ℕ). cellAt s v x) (e t) ∙ r .off t h x m n;
         cleans = λ t h. ap (clean p k s) (e t) ∙ r .cleans t h;
         back = λ t u ht hu cu same. e t ∙ r .back t u ht hu cu same;
       };
-      standing = st;
+      standing = g .standing;
       steps = e;
     }
+  where
+    r : Restores p k s a b (stepsDone p k s (onDisk p c ss ++ onDisk p d us))
+    r = complete-restores p k s a b (onDisk p c ss ++ onDisk p d us) g
+
+    e : (t : List ℕ) → followed p k s d us (followed p k s c ss t) ≡ stepsDone p k s (onDisk p c ss ++ onDisk p d us) t
+    e t = ap (followed p k s d us) (followed-steps p k s c ss t) ∙ followed-steps p k s d us (stepsDone p k s (onDisk p c ss) t) ∙ steps-append p k s (onDisk p c ss) (onDisk p d us) t
 
 module _ (p k s : ℕ) (ok : Prime p) (odd : p % 2 ≡ 1) (most : k ≤ p) where
-  row-parity : (f : ℕ) → f < k → Rebuild p k s f k (withRowParity p k s f) [] (rowParitySteps p k f) (λ t. t)
-  row-parity f h =
-      let c = row-parity-complete p k f odd most h in
-      plain p k s f k (withRowParity p k s f) (rowParitySteps p k f)
-      (λ t. ap (followed p k s k (allOf p 0 0)) (followed-steps p k s f (upDiagonals p p f 0) t) ∙ followed-steps p k s k (allOf p 0 0) (stepsDone p k s (onDisk p f (upDiagonals p p f 0)) t) ∙ steps-append p k s (onDisk p f (upDiagonals p p f 0)) (onDisk p k (allOf p 0 0)) t)
-      (complete-restores p k s f k (rowParitySteps p k f) c) (c .standing)
+  row-parity : (f : ℕ) → f < k → Rebuild p k s f k (withRowParity p k s f) (stepsAlone (rowParitySteps p k f))
+  row-parity f h = plain p k s f k f k (upDiagonals p p f 0) (allOf p 0 0) (row-parity-complete p k f odd most h)
 
-  diagonal-parity : (f : ℕ) → f ≤ k → Rebuild p k s f (suc k) (withDiagonalParity p k s f) [] (diagonalParitySteps p k f) (λ t. t)
-  diagonal-parity f h =
-      let c = diagonal-parity-complete p k f h in
-      plain p k s f (suc k) (withDiagonalParity p k s f) (diagonalParitySteps p k f)
-      (λ t. ap (followed p k s (suc k) (allOf p 1 0)) (followed-steps p k s f (allOf p 0 0) t) ∙ followed-steps p k s (suc k) (allOf p 1 0) (stepsDone p k s (onDisk p f (allOf p 0 0)) t) ∙ steps-append p k s (onDisk p f (allOf p 0 0)) (onDisk p (suc k) (allOf p 1 0)) t)
-      (complete-restores p k s f (suc k) (diagonalParitySteps p k f) c) (c .standing)
+  diagonal-parity : (f : ℕ) → f ≤ k → Rebuild p k s f (suc k) (withDiagonalParity p k s f) (stepsAlone (diagonalParitySteps p k f))
+  diagonal-parity f h = plain p k s f (suc k) f (suc k) (allOf p 0 0) (allOf p 1 0) (diagonal-parity-complete p k f h)
 
   -- two data disks, from a to b or from b to a
-  two-data : (a b : ℕ) → a < b → b < k → (t : Bool) → forward p a b ≡ t → Rebuild p k s a b (λ u. pick t (walked p k s a b u) (walked p k s b a u)) (pick t (firstCell p a b ∷ []) (firstCell p b a ∷ [])) (pick t (dataSteps p a b) (dataSteps p b a)) (λ u. pick t (started p k s a b u) (started p k s b a u))
-  two-data a b h l true e =
-      let g = roles-forward p a b ok odd h (omega arith) e in
-      record { restores = walked-restores p k s a b ok odd most g (omega arith) l; standing = data-standing p k a b ok odd most g (omega arith) l; steps = walked-steps p k s a b }
-  two-data a b h l false e =
-      let g = roles-backward p a b ok odd h (omega arith) e in
-      swapped p k s b a (walked p k s b a) (firstCell p b a ∷ []) (dataSteps p b a) (started p k s b a)
-      (record { restores = walked-restores p k s b a ok odd most g l (omega arith); standing = data-standing p k b a ok odd most g l (omega arith); steps = walked-steps p k s b a })
+  walk : (x y : ℕ) → Roles p x y → x < k → y < k → Rebuild p k s x y (walked p k s x y) (walkPlan p k s x y)
+  walk x y g hx hy = record { restores = walked-restores p k s x y ok odd most g hx hy; standing = data-standing p k x y ok odd most g hx hy; steps = walked-steps p k s x y }
 
-  ordered : (a b : ℕ) → a < b → b < k + 2 → Rebuild p k s a b (orderedSolved p k s a b) (orderedFirst p k a b) (orderedSteps p k a b) (orderedStart p k s a b)
-  unfolding orderedSolved orderedFirst orderedSteps orderedStart
+  two-data : (a b : ℕ) → a < b → b < k → (t : Bool) → forward p a b ≡ t → Rebuild p k s a b (λ u. pick t (walked p k s a b u) (walked p k s b a u)) (pick t (walkPlan p k s a b) (walkPlan p k s b a))
+  two-data a b h l true e = walk a b (roles-forward p a b ok odd h (omega arith) e) (omega arith) l
+  two-data a b h l false e = swapped p k s b a (walked p k s b a) (walkPlan p k s b a) (walk b a (roles-backward p a b ok odd h (omega arith) e) l (omega arith))
+
+  ordered : (a b : ℕ) → a < b → b < k + 2 → Rebuild p k s a b (orderedSolved p k s a b) (orderedPlan p k s a b)
+  unfolding orderedSolved orderedPlan
   ordered a b h l = go (ltb b k) refl
     where
-      parity : k ≤ b → (t : Bool) → eqb b k ≡ t → Rebuild p k s a b (λ u. pick t (withRowParity p k s a u) (withDiagonalParity p k s a u)) [] (pick t (rowParitySteps p k a) (diagonalParitySteps p k a)) (λ u. u)
-      parity m true e = let q : b ≡ k = eqb-true b k e in subst (λ (c : ℕ). Rebuild p k s a c (withRowParity p k s a) [] (rowParitySteps p k a) (λ u. u)) (sym q) (row-parity a (omega arith))
+      parity : k ≤ b → (t : Bool) → eqb b k ≡ t → Rebuild p k s a b (λ u. pick t (withRowParity p k s a u) (withDiagonalParity p k s a u)) (pick t (stepsAlone (rowParitySteps p k a)) (stepsAlone (diagonalParitySteps p k a)))
+      parity m true e = let q : b ≡ k = eqb-true b k e in subst (λ (c : ℕ). Rebuild p k s a c (withRowParity p k s a) (stepsAlone (rowParitySteps p k a))) (sym q) (row-parity a (omega arith))
       parity m false e =
           let n = eqb-false b k e in
           let q : b ≡ suc k = omega arith in
-          subst (λ (c : ℕ). Rebuild p k s a c (withDiagonalParity p k s a) [] (diagonalParitySteps p k a) (λ u. u)) (sym q) (diagonal-parity a (omega arith))
+          subst (λ (c : ℕ). Rebuild p k s a c (withDiagonalParity p k s a) (stepsAlone (diagonalParitySteps p k a))) (sym q) (diagonal-parity a (omega arith))
 
-      go : (t : Bool) → ltb b k ≡ t → Rebuild p k s a b (λ u. pick t (pick (forward p a b) (walked p k s a b u) (walked p k s b a u)) (pick (eqb b k) (withRowParity p k s a u) (withDiagonalParity p k s a u))) (pick t (pick (forward p a b) (firstCell p a b ∷ []) (firstCell p b a ∷ [])) []) (pick t (pick (forward p a b) (dataSteps p a b) (dataSteps p b a)) (pick (eqb b k) (rowParitySteps p k a) (diagonalParitySteps p k a))) (λ u. pick t (pick (forward p a b) (started p k s a b u) (started p k s b a u)) u)
+      go :
+          (t : Bool) → ltb b k ≡ t
+          → Rebuild p k s a b (λ u. pick t (pick (forward p a b) (walked p k s a b u) (walked p k s b a u)) (pick (eqb b k) (withRowParity p k s a u) (withDiagonalParity p k s a u)))
+          (pick t (pick (forward p a b) (walkPlan p k s a b) (walkPlan p k s b a)) (pick (eqb b k) (stepsAlone (rowParitySteps p k a)) (stepsAlone (diagonalParitySteps p k a))))
       go true e = two-data a b h (ltb-true b k e) (forward p a b) refl
       go false e = parity (ltb-false b k e) (eqb b k) refl
 
-  either : (a b : ℕ) → a < k + 2 → b < k + 2 → (a ≡ b → ⊥) → Rebuild p k s a b (pairSolved p k s a b) (pairFirst p k a b) (pairSteps p k a b) (pairStart p k s a b)
+  either : (a b : ℕ) → a < k + 2 → b < k + 2 → (a ≡ b → ⊥) → Rebuild p k s a b (pairSolved p k s a b) (pairPlan p k s a b)
   unfolding pairSolved
   either a b ha hb apart = go (ltb a b) refl
     where
-      go : (t : Bool) → ltb a b ≡ t → Rebuild p k s a b (λ u. pick t (orderedSolved p k s a b u) (orderedSolved p k s b a u)) (pick t (orderedFirst p k a b) (orderedFirst p k b a)) (pick t (orderedSteps p k a b) (orderedSteps p k b a)) (λ u. pick t (orderedStart p k s a b u) (orderedStart p k s b a u))
+      go : (t : Bool) → ltb a b ≡ t → Rebuild p k s a b (λ u. pick t (orderedSolved p k s a b u) (orderedSolved p k s b a u)) (pick t (orderedPlan p k s a b) (orderedPlan p k s b a))
       go true e = ordered a b (ltb-true a b e) hb
-      go false e = let l = ltb-false a b e in swapped p k s b a (orderedSolved p k s b a) (orderedFirst p k b a) (orderedSteps p k b a) (orderedStart p k s b a) (ordered b a (less l apart) ha)
+      go false e = let l = ltb-false a b e in swapped p k s b a (orderedSolved p k s b a) (orderedPlan p k s b a) (ordered b a (less l apart) ha)
         where
           less : b ≤ a → (a ≡ b → ⊥) → b < a
           less l n = omega arith
 
 -- two different disks of a width
 module _ (p k s a b : ℕ) (width : isWidth p ≡ true) (most : k ≤ p) (ha : a < k + 2) (hb : b < k + 2) (apart : a ≡ b → ⊥) where
-  whole : Rebuild p k s a b (pairSolved p k s a b) (pairFirst p k a b) (pairSteps p k a b) (pairStart p k s a b)
+  whole : Rebuild p k s a b (pairSolved p k s a b) (pairPlan p k s a b)
   whole = either p k s (width-prime p width) (width-odd p width) most a b ha hb apart
 
   -- a stripe stays a stripe
@@ -147,9 +148,9 @@ module _ (p k s a b : ℕ) (width : isWidth p ≡ true) (most : k ≤ p) (ha : a
       pair-back t (pairSolved p k s a b u) ht (pair-stripe u hu) (pair-clean u hu) (λ c l m n. same c l m n ∙ sym (pair-off u hu c m n))
 
   -- "After the first cell, a diagonal with three lost cells is used only once two of them stand": so for every set of every step
-  pub pair-stands : stepsStand p k a b (pairFirst p k a b) (pairSteps p k a b) ≡ true
+  pub pair-stands : stepsStand p k a b (pairPlan p k s a b .first) (pairPlan p k s a b .steps) ≡ true
   pair-stands = standing-true p k a b (whole .standing)
 
   -- and these are the steps that rebuild the pair, once the first cell is written
-  pub pair-steps : (t : List ℕ) → pairSolved p k s a b t ≡ stepsDone p k s (pairSteps p k a b) (pairStart p k s a b t)
+  pub pair-steps : (t : List ℕ) → pairSolved p k s a b t ≡ stepsDone p k s (pairPlan p k s a b .steps) (pairPlan p k s a b .start t)
   pair-steps = whole .steps

@@ -26,25 +26,26 @@ rowParitySteps p k f = onDisk p f (upDiagonals p p f 0) ++ onDisk p k (allOf p 0
 abbrev pub diagonalParitySteps : ℕ → ℕ → ℕ → List CellStep
 diagonalParitySteps p k f = onDisk p f (allOf p 0 0) ++ onDisk p (suc k) (allOf p 1 0)
 
--- a < b: the steps, the cells that stand before them, and the stripe that they are done on
-unfoldable pub orderedSteps : ℕ → ℕ → ℕ → ℕ → List CellStep
-orderedSteps p k a b = pick (ltb b k) (pick (forward p a b) (dataSteps p a b) (dataSteps p b a)) (pick (eqb b k) (rowParitySteps p k a) (diagonalParitySteps p k a))
+-- a rebuild of two lost disks: the cells that stand before its steps, the stripe that these are done on, and the steps
+pub record PairPlan : Type 0 where
+  pub first : List ℕ
+  pub start : List ℕ → List ℕ
+  pub steps : List CellStep
 
-unfoldable pub orderedFirst : ℕ → ℕ → ℕ → ℕ → List ℕ
-orderedFirst p k a b = pick (ltb b k) (pick (forward p a b) (firstCell p a b ∷ []) (firstCell p b a ∷ [])) []
+-- two data disks in the order of the walk: the first cell, then the steps
+abbrev pub walkPlan : ℕ → ℕ → ℕ → ℕ → ℕ → PairPlan
+walkPlan p k s x y = record { first = firstCell p x y ∷ []; start = started p k s x y; steps = dataSteps p x y }
 
-unfoldable pub orderedStart : ℕ → ℕ → ℕ → ℕ → ℕ → List ℕ → List ℕ
-orderedStart p k s a b t = pick (ltb b k) (pick (forward p a b) (started p k s a b t) (started p k s b a t)) t
+-- with a parity disk: steps alone
+abbrev pub stepsAlone : List CellStep → PairPlan
+stepsAlone cs = record { first = []; start = λ t. t; steps = cs }
 
--- in either order
-abbrev pub pairSteps : ℕ → ℕ → ℕ → ℕ → List CellStep
-pairSteps p k a b = pick (ltb a b) (orderedSteps p k a b) (orderedSteps p k b a)
+-- a < b, and in either order
+unfoldable pub orderedPlan : ℕ → ℕ → ℕ → ℕ → ℕ → PairPlan
+orderedPlan p k s a b = pick (ltb b k) (pick (forward p a b) (walkPlan p k s a b) (walkPlan p k s b a)) (pick (eqb b k) (stepsAlone (rowParitySteps p k a)) (stepsAlone (diagonalParitySteps p k a)))
 
-abbrev pub pairFirst : ℕ → ℕ → ℕ → ℕ → List ℕ
-pairFirst p k a b = pick (ltb a b) (orderedFirst p k a b) (orderedFirst p k b a)
-
-abbrev pub pairStart : ℕ → ℕ → ℕ → ℕ → ℕ → List ℕ → List ℕ
-pairStart p k s a b t = pick (ltb a b) (orderedStart p k s a b t) (orderedStart p k s b a t)
+abbrev pub pairPlan : ℕ → ℕ → ℕ → ℕ → ℕ → PairPlan
+pairPlan p k s a b = pick (ltb a b) (orderedPlan p k s a b) (orderedPlan p k s b a)
 
 -- a cell on one of the lost disks a and b
 abbrev pub isLost : ℕ → ℕ → ℕ → ℕ → Bool
