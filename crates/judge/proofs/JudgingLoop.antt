@@ -11,16 +11,15 @@ use lib.ListN.{length, getD, set, drop}
 use lib.Seq.{getD-drop, drop-drop}
 use borrow.Author.Tests.{eq-eqb, ne-eqb, eqb-true, eqb-false, leb-false}
 use Rattle.laws.specs.Choice.{pick, when, firstOf}
-use Rattle.laws.specs.Lists.{isIn, added, allBelow}
+use Rattle.laws.specs.Lists.{isIn, added}
 use Rattle.laws.proofs.Flags.{flag, or-false-l, or-false-r}
-use Rattle.liberation.specs.Sets.{setOf, survivingIn}
+use Rattle.liberation.specs.Sets.{setOf, lostIn, survivingIn}
 use Rattle.liberation.specs.Plans.{Step, step, readFrom, cellsRead, readCount, marksFrom}
-use Rattle.liberation.specs.Judging.{Judged, judged, judge, judgeFrom, stepFault, stepsIn}
-use Rattle.liberation.proofs.SetLaws.{surviving-few, survivors-below}
-use Rattle.sets.specs.Marks.{Marked, markAll, freshIn}
-use Rattle.sets.proofs.MarkLaws.{marks-added, fresh-added, fresh-le}
+use Rattle.liberation.specs.Judging.{Judged, judged, judge, judgeFrom, othersThere, stepFault, stepsIn}
+use Rattle.liberation.proofs.SetLaws.{survivors-below}
+use Rattle.sets.specs.Marks.{Marked}
+use Rattle.sets.proofs.MarkLaws.{marked-read, marked-few}
 use Rattle.liberation.proofs.MarkLists.{length-marks, mark-set}
-use Rattle.liberation.proofs.SetSizes.{size-most}
 use Rattle.refusals.specs.declared.Answer.{Answer}
 use Rattle.refusals.specs.Answers.{Answers}
 use Rattle.judge.specs.Says.{StepsSay}
@@ -164,9 +163,9 @@ halfway-turn p k f bs d m m′ s reads i fault fresh w g h b q z v r =
       rows = s .row ∷ v .rows;
       cells = added xs (v .cells);
       done = ap (λ (l : List ℕ). set l (s .row) 1) (v .done) ∙ mark-set 31 0 (s .row) (v .rows) (omega (arith, form .row)) ∙ ap (λ (n : ℕ). marksFrom 31 0 (n ∷ v .rows)) row;
-      marks = r .marks ∙ ap (λ (l : List ℕ). markAll l xs) (v .marks) ∙ marks-added (p * (k + 2)) xs (v .cells) below;
-      count = omega (arith, r .fresh, ap (λ (l : List ℕ). freshIn l xs) (v .marks), fresh-added (p * (k + 2)) xs (v .cells) below, v .count);
-      few = omega (arith, r .fresh, fresh-le m xs, surviving-few p f (setOf p k (s .kind) (s .number)), size-most p k (s .kind) (s .number), v .few);
+      marks = read .0;
+      count = omega (arith, read .1, v .count);
+      few = omega (arith, marked-few p k f (s .kind) (s .number) r, v .few);
       verdict = ap (λ (n : ℕ). judgeFrom n p k f (s .row ∷ v .rows) (stepsFrom p (i + 1) bs)) (add-one i) ∙ sym (judge-next i p k f (v .rows) s (stepsFrom p (i + 1) bs) none) ∙ sym (ap (judgeFrom i p k f (v .rows)) next) ∙ v .verdict;
       read = sym (ap (λ (ss : List Step). readFrom p k f ss (v .cells)) next) ∙ v .read;
     }
@@ -183,8 +182,8 @@ halfway-turn p k f bs d m m′ s reads i fault fresh w g h b q z v r =
     xs : List ℕ
     xs = survivingIn p f (setOf p k (s .kind) (s .number))
 
-    below : allBelow (p * (k + 2)) xs ≡ true
-    below = survivors-below p k f (s .kind) (s .number) (form .number)
+    read : (m′ ≡ marksFrom (p * (k + 2)) 0 (added xs (v .cells))) × (fresh + length (v .cells) ≡ length (added xs (v .cells)))
+    read = marked-read (p * (k + 2)) xs (v .cells) m m′ fresh (survivors-below p k f (s .kind) (s .number) (form .number)) (v .marks) r
 
     next : stepsFrom p i bs ≡ s ∷ stepsFrom p (i + 1) bs
     next = steps-next p i s bs h b

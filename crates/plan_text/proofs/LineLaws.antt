@@ -6,13 +6,12 @@ use Prim.Native.Nat.{ℕ, suc, _+_, _-_, _*_, _≤_, _<_}
 use native.Mathlib.Numerals.{add-one}
 use native.Mathlib.Omega.{arith}
 use lib.ListN.{length, getD, drop, length-append, drop-of-length-le}
-use Rattle.laws.specs.Lists.{added, allBelow}
+use Rattle.laws.specs.Lists.{added}
 use Rattle.liberation.specs.Sets.{isWidth, setOf, survivingIn}
 use Rattle.liberation.specs.Plans.{Step, planOf, marksFrom}
-use Rattle.liberation.proofs.SetLaws.{surviving-few, survivors-below}
-use Rattle.sets.specs.Marks.{Marked, markAll, freshIn}
-use Rattle.sets.proofs.MarkLaws.{marks-added, fresh-added, fresh-le}
-use Rattle.liberation.proofs.SetSizes.{size-most}
+use Rattle.liberation.proofs.SetLaws.{survivors-below}
+use Rattle.sets.specs.Marks.{Marked}
+use Rattle.sets.proofs.MarkLaws.{marked-read}
 use Rattle.planner.specs.declared.Steps.{Steps}
 use Rattle.planner.specs.Records.{Holds}
 use Rattle.liberation.proofs.RecordLaws.{StepAt, step-at, plan-length, plan-passed, plan-number}
@@ -43,11 +42,6 @@ plan-step p f i r w h k l =
   where
     a : StepAt (planOf p p f) i
     a = step-at (planOf p p f) i (omega (arith, plan-length p p f w (omega arith) h))
-
--- a set has at most p + 2 cells, so no more are new
-pub new-few : (p f kind number : ℕ) {m m′ : List ℕ} {r : ℕ} → Marked m m′ (survivingIn p f (setOf p p kind number)) r → r ≤ p + 2
-new-few p f kind number {m} d =
-    omega (arith, d .fresh, fresh-le m (survivingIn p f (setOf p p kind number)), surviving-few p f (setOf p p kind number), size-most p p kind number)
 
 -- o becomes o′, written from place `at` to place r; the marks are m; i steps are printed
 pub record Printing (p f : ℕ) (ss : List Step) (o o′ m : List ℕ) (at r i : ℕ) : Type 0 where
@@ -83,21 +77,18 @@ module _ (p f : ℕ) (ss : List Step) (i : ℕ) (a : StepAt ss i) where
       → Marked m m′ (survivingIn p f (setOf p p (a .this .kind) (a .this .number))) new
       → Wrote o₁ o₂ r s (lineOf i (a .this) new)
       → Printing p f ss o o₂ m′ at s (i + 1)
-  printing-turn {new = new} n k d w =
+  printing-turn {m = m} {m′ = m′} {new = new} n k d w =
       record {
         text = k .text ++ lineOf i (a .this) new;
         cells = added this (k .cells);
         wrote = wrote-more (k .wrote) w;
         few = omega (arith, k .few, length-append (k .text) (lineOf i (a .this) new), line-most i (a .this) new);
-        marks = d .marks ∙ ap (λ (x : List ℕ). markAll x this) (k .marks) ∙ marks-added (p * (p + 2)) this (k .cells) below;
-        rest = append-assoc (k .text) (lineOf i (a .this) new) _ ∙ ap (λ (x : List ℕ). k .text ++ x) (sym (next-line (k .cells) new fresh)) ∙ k .rest;
+        marks = read .0;
+        rest = append-assoc (k .text) (lineOf i (a .this) new) _ ∙ ap (λ (x : List ℕ). k .text ++ x) (sym (next-line (k .cells) new (read .1))) ∙ k .rest;
       }
     where
-      below : allBelow (p * (p + 2)) this ≡ true
-      below = survivors-below p p f (a .this .kind) (a .this .number) n
-
-      fresh : new + length (k .cells) ≡ length (added this (k .cells))
-      fresh = ap (λ (x : ℕ). x + length (k .cells)) (d .fresh ∙ ap (λ (x : List ℕ). freshIn x this) (k .marks)) ∙ fresh-added (p * (p + 2)) this (k .cells) below
+      read : (m′ ≡ marksFrom (p * (p + 2)) 0 (added this (k .cells))) × (new + length (k .cells) ≡ length (added this (k .cells)))
+      read = marked-read (p * (p + 2)) this (k .cells) m m′ new (survivors-below p p f (a .this .kind) (a .this .number) n) (k .marks) d
 
 pub printing-end : {p f : ℕ} {ss : List Step} {o o′ m : List ℕ} {at r i : ℕ} → length ss ≤ i → Printing p f ss o o′ m at r i → Wrote o o′ at r (linesFrom 0 ss (newFrom p f [] ss))
 unfolding linesFrom

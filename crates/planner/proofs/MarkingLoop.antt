@@ -8,11 +8,10 @@ use lib.ListN.{length, drop, drop-of-length-le}
 use Rattle.laws.specs.Lists.{added}
 use Rattle.liberation.specs.Sets.{setOf, survivingIn}
 use Rattle.liberation.specs.Plans.{Step, readFrom, cellsRead, readCount, marksFrom}
-use Rattle.liberation.proofs.SetLaws.{surviving-few, survivors-below}
-use Rattle.liberation.proofs.SetSizes.{size-most}
+use Rattle.liberation.proofs.SetLaws.{survivors-below}
 use Rattle.liberation.proofs.RecordLaws.{StepAt}
-use Rattle.sets.specs.Marks.{Marked, markAll, freshIn}
-use Rattle.sets.proofs.MarkLaws.{marks-added, fresh-added, fresh-le}
+use Rattle.sets.specs.Marks.{Marked}
+use Rattle.sets.proofs.MarkLaws.{marked-read, marked-few}
 
 -- The loop over the steps: after i of them the marks stand for the cells read so far, and `reads` counts them.
 pub record Reading (p k f : ℕ) (ss : List Step) (m : List ℕ) (reads i : ℕ) : Type 0 where
@@ -30,14 +29,13 @@ pub reading-turn : (p k f : ℕ) (ss : List Step) (m m′ : List ℕ) (reads i r
 unfolding readFrom
 reading-turn p k f ss m m′ reads i r a l n u d =
     let xs : List ℕ = survivingIn p f (setOf p k (a .this .kind) (a .this .number)) in
-    let b = survivors-below p k f (a .this .kind) (a .this .number) n in
-    let fresh : r + length (u .cells) ≡ length (added xs (u .cells)) = ap (λ (x : ℕ). x + length (u .cells)) (d .fresh ∙ ap (λ (y : List ℕ). freshIn y xs) (u .marks)) ∙ fresh-added (p * (k + 2)) xs (u .cells) b in
+    let q = marked-read (p * (k + 2)) xs (u .cells) m m′ r (survivors-below p k f (a .this .kind) (a .this .number) n) (u .marks) d in
     record {
       within = omega arith;
       cells = added xs (u .cells);
-      marks = d .marks ∙ ap (λ (y : List ℕ). markAll y xs) (u .marks) ∙ marks-added (p * (k + 2)) xs (u .cells) b;
-      count = omega (arith, fresh, u .count);
-      few = omega (arith, u .few, d .fresh, fresh-le m xs, surviving-few p f (setOf p k (a .this .kind) (a .this .number)), size-most p k (a .this .kind) (a .this .number));
+      marks = q .0;
+      count = omega (arith, q .1, u .count);
+      few = omega (arith, u .few, marked-few p k f (a .this .kind) (a .this .number) d);
       rest = ap (λ (j : ℕ). readFrom p k f (drop j ss) (added xs (u .cells))) (add-one i) ∙ sym (ap (λ (y : List Step). readFrom p k f y (u .cells)) (a .split)) ∙ u .rest;
     }
 

@@ -10,7 +10,8 @@ use Rattle.liberation.proofs.Widths.{width-most}
 use Rattle.liberation.proofs.MarkLists.{length-marks}
 use Rattle.liberation.proofs.RecordLaws.{plan-length}
 use Rattle.text.proofs.WriteLaws.{wrote-long}
-use Rattle.plan_text.proofs.LineLaws.{PlanStep, plan-step, new-few, Printing, printing-start, printing-turn, printing-end}
+use Rattle.sets.proofs.MarkLaws.{marked-few}
+use Rattle.plan_text.proofs.LineLaws.{PlanStep, plan-step, Printing, printing-start, printing-turn, printing-end}
 use Rattle.plan_text.proofs.put_steps.Tie as tie
 use Rattle.plan_text.proofs.put_steps.Statement.{statement}
 
@@ -74,7 +75,7 @@ put-line-requires c κs =
       omega (arith, small t),
       omega (arith, this t .row, this t .row-below, small t),
       omega (arith, this t .number, this t .number-below, small t),
-      omega (arith, small t, new-few (q .args .width) (q .args .disk) (getD (q .args .steps .kinds) (l .i) 0) (getD (q .args .steps .numbers) (l .i) 0) (m .ensures)),
+      omega (arith, small t, marked-few (q .args .width) (q .args .width) (q .args .disk) (getD (q .args .steps .kinds) (l .i) 0) (getD (q .args .steps .numbers) (l .i) 0) (m .ensures)),
       omega (arith, l .inv .wrote .ends, l .inv .few, wrote-long (l .inv .wrote), q .pre .4),
     )
 
