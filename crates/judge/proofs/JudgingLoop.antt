@@ -6,7 +6,7 @@ use mathlib.Core.List.{List, [], _∷_}
 use Prim.Native.Nat.{ℕ, suc, _+_, _-_, _*_, _≤_, _<_}
 use native.Mathlib.Numerals.{add-one}
 use native.Mathlib.Omega.{arith}
-use lib.Dec.{eqb, leb, ltb}
+use lib.Dec.{eqb}
 use lib.ListN.{length, getD, set, drop}
 use lib.Seq.{getD-drop, drop-drop}
 use borrow.Author.Tests.{eq-eqb, ne-eqb, eqb-true, eqb-false, leb-false}
@@ -17,38 +17,25 @@ use Rattle.liberation.specs.Sets.{setOf, lostIn, survivingIn}
 use Rattle.liberation.specs.Plans.{Step, step, readFrom, cellsRead, readCount, marksFrom}
 use Rattle.liberation.specs.Judging.{Judged, judged, judge, judgeFrom, othersThere, stepFault, stepsIn}
 use Rattle.liberation.proofs.SetLaws.{survivors-below}
+use Rattle.liberation.proofs.AcceptedLaws.{passed}
+use Rattle.liberation.proofs.Passing.{judge-next}
 use Rattle.sets.specs.Marks.{Marked}
 use Rattle.sets.proofs.MarkLaws.{marked-read, marked-few}
 use Rattle.liberation.proofs.MarkLists.{length-marks, mark-set}
 use Rattle.refusals.specs.declared.Answer.{Answer}
 use Rattle.refusals.specs.Answers.{Answers}
 use Rattle.judge.specs.Says.{StepsSay}
-use Rattle.judge.proofs.StepRefusals.{outOfForm, fault-is}
+use Rattle.judge.proofs.StepRefusals.{outOfForm}
 
 -- a step that is not refused is in form
 pub record InForm (p : ℕ) (s : Step) : Type 0 where
   pub row : s .row < p
   pub number : s .number < p
 
-pub no-fault : (p k f : ℕ) (ds : List ℕ) (s : Step) → stepFault p k f ds s ≡ 0 → InForm p s
-no-fault p k f ds s e = ⊎-elim (λ t. absurd (six t)) form (flag (outOfForm p s))
-  where
-    six : outOfForm p s ≡ true → ⊥
-    six t = omega (arith, e, fault-is p k f ds s true _ _ _ t refl refl refl)
+no-fault : (p k f : ℕ) (ds : List ℕ) (s : Step) → stepFault p k f ds s ≡ 0 → InForm p s
+no-fault p k f ds s e = let g = passed p k f ds s e in record { row = g .row-below; number = g .number-below }
 
-    form : outOfForm p s ≡ false → InForm p s
-    form t =
-        let rest : (leb p (s .number) || ltb 1 (s .kind)) ≡ false = or-false-r (leb p (s .row)) (leb p (s .number) || ltb 1 (s .kind)) t in
-        record {
-          row = leb-false p (s .row) (or-false-l (leb p (s .row)) (leb p (s .number) || ltb 1 (s .kind)) t);
-          number = leb-false p (s .number) (or-false-l (leb p (s .number)) (ltb 1 (s .kind)) rest);
-        }
-
--- one step judged: the next one's turn, or the answer
-judge-next : (i p k f : ℕ) (ds : List ℕ) (s : Step) (ss : List Step) → stepFault p k f ds s ≡ 0 → judgeFrom i p k f ds (s ∷ ss) ≡ judgeFrom (suc i) p k f (s .row ∷ ds) ss
-unfolding judgeFrom
-judge-next i p k f ds s ss e = rw (eq-eqb (stepFault p k f ds s) 0 e, judgeFrom)
-
+-- a step that is refused gives the answer
 judge-stop : (i p k f : ℕ) (ds : List ℕ) (s : Step) (ss : List Step) → (stepFault p k f ds s ≡ 0 → ⊥) → judgeFrom i p k f ds (s ∷ ss) ≡ judged (stepFault p k f ds s) i
 unfolding judgeFrom
 judge-stop i p k f ds s ss n = rw (ne-eqb (stepFault p k f ds s) 0 n, judgeFrom)
