@@ -1,7 +1,7 @@
 -- What a rebuild of two lost disks a and b does: it keeps every cell off them, makes the stripe clean, and brings a clean stripe back from its cells off a and b. The steps for a parity disk and another disk do,
 -- since every cell is known after them and every set is named; so does the walk, where the last diagonal is zero by the start.
 use mathlib.Core.Path.{_≡_, refl, sym, ap, ap₂, _∙_}
-use mathlib.Core.Bool.{Bool, true, false, _||_, not, false≢true}
+use mathlib.Core.Bool.{Bool, true, false, _||_}
 use mathlib.Core.Logic.{⊎-elim}
 use mathlib.Core.List.{List, [], _∷_}
 use Prim.Native.Nat.{ℕ, zero, suc, _+_, _-_, _*_, _/_, _%_, _≤_, _<_}
@@ -10,7 +10,6 @@ use native.Mathlib.Omega.{arith}
 use lib.Dec.{eqb}
 use borrow.Author.Tests.{eqb-false, ne-eqb}
 use Rattle.laws.specs.Choice.{pick}
-use Rattle.laws.specs.Lists.{isIn}
 use Rattle.laws.proofs.Flags.{or-false-l, or-false-r, clash}
 use Rattle.laws.proofs.MemberLaws.{in-head}
 use Rattle.laws.proofs.OrderLaws.{lt-or-le}
@@ -24,7 +23,7 @@ use Rattle.liberation_stripes.proofs.Solving.{SetZero, clean-of}
 use Rattle.liberation_pairs.specs.Pairs.{nextRow, startCount, firstDisk, firstCell, startCells, started, filled, diagonalWalk, rowWalk, walked}
 use Rattle.liberation_stripes.specs.Steps.{CellStep, stepsDone}
 use Rattle.liberation_pairs.specs.PairSteps.{walkSteps, dataSteps, isLost, isKnown}
-use Rattle.liberation_stripes.proofs.Standing.{Standing, known-cases, steps-stripe, steps-kept, steps-zero, steps-back}
+use Rattle.liberation_stripes.proofs.Standing.{Standing, known-cases, off-known, known-off, steps-stripe, steps-kept, steps-zero, steps-back}
 use Rattle.liberation_pairs.proofs.Upward.{lost-first, lost-second, known-lost}
 use Rattle.liberation_pairs.proofs.ParityPairs.{Complete}
 use Rattle.liberation_pairs.proofs.WalkRows.{rowAfter, after-zero, after-suc, after-lt, comes-to, comes-once}
@@ -50,28 +49,20 @@ restores-swap p k s a b f r = record { stripe = r .stripe; off = λ t h c m n. r
 off-lost : (p a b c : ℕ) → (diskAt p c ≡ a → ⊥) → (diskAt p c ≡ b → ⊥) → isLost p a b c ≡ false
 off-lost p a b c m n = ap₂ _||_ (ne-eqb (diskAt p c) a m) (ne-eqb (diskAt p c) b n)
 
-off-known : (p a b c : ℕ) (done : List ℕ) → isLost p a b c ≡ false → isKnown p a b done c ≡ true
-off-known p a b c done e = ap (λ (t : Bool). not t || isIn c done) e
-
 -- known with no cell written
-known-off : (p a b c : ℕ) → isKnown p a b [] c ≡ true → (diskAt p c ≡ a → ⊥) × (diskAt p c ≡ b → ⊥)
-known-off p a b c h = (eqb-false (diskAt p c) a (or-false-l (eqb (diskAt p c) a) (eqb (diskAt p c) b) survives), eqb-false (diskAt p c) b (or-false-r (eqb (diskAt p c) a) (eqb (diskAt p c) b) survives))
-  where
-    go : (t : Bool) → (not t || false) ≡ true → t ≡ false
-    go true e = absurd (false≢true e)
-    go false e = refl
-
-    survives : isLost p a b c ≡ false
-    survives = go (isLost p a b c) h
+off-both : (p a b c : ℕ) → isKnown p a b [] c ≡ true → (diskAt p c ≡ a → ⊥) × (diskAt p c ≡ b → ⊥)
+off-both p a b c h =
+    let e = known-off (isLost p a b) c h in
+    (eqb-false (diskAt p c) a (or-false-l (eqb (diskAt p c) a) (eqb (diskAt p c) b) e), eqb-false (diskAt p c) b (or-false-r (eqb (diskAt p c) a) (eqb (diskAt p c) b) e))
 
 -- steps from the surviving cells alone that name every set
 pub complete-restores : (p k s a b : ℕ) (cs : List CellStep) → Complete p k a b cs → Restores p k s a b (stepsDone p k s cs)
 complete-restores p k s a b cs g =
     record {
       stripe = steps-stripe p k s (isLost p a b) (g .standing);
-      off = λ t h c m n. steps-kept p k s (isLost p a b) (g .standing) t h c (off-known p a b c [] (off-lost p a b c m n));
+      off = λ t h c m n. steps-kept p k s (isLost p a b) (g .standing) t h c (off-known (isLost p a b) c [] (off-lost p a b c m n));
       cleans = λ t h. clean-of p k s (stepsDone p k s cs t) (λ i l. steps-zero p k s (isLost p a b) (g .standing) t h 0 i (g .rows i l)) (λ i l. steps-zero p k s (isLost p a b) (g .standing) t h 1 i (g .diagonals i l));
-      back = λ t u ht hu cu same. steps-back p k s (isLost p a b) (g .standing) (g .full) t u ht hu cu (λ c l e. let w = known-off p a b c e in same c l (w .0) (w .1));
+      back = λ t u ht hu cu same. steps-back p k s (isLost p a b) (g .standing) (g .full) t u ht hu cu (λ c l e. let w = off-both p a b c e in same c l (w .0) (w .1));
     }
 
 -- the walk as steps
@@ -122,7 +113,7 @@ module _ (p k s x y : ℕ) (ok : Prime p) (odd : p % 2 ≡ 1) (most : k ≤ p) (
 
     after-off : (c : ℕ) → isLost p x y c ≡ false → cellAt s after c ≡ cellAt s t c
     unfolding after
-    after-off c h = steps-kept p k s (isLost p x y) ok-steps (started p k s x y t) ready c (off-known p x y c (firstCell p x y ∷ []) h) ∙ started-other p k s x y ok odd g hx hy t ht c (not-first c h)
+    after-off c h = steps-kept p k s (isLost p x y) ok-steps (started p k s x y t) ready c (off-known (isLost p x y) c (firstCell p x y ∷ []) h) ∙ started-other p k s x y ok odd g hx hy t ht c (not-first c h)
 
     -- the first cell is the XOR of the surviving cells of the start still
     first-found : cellAt s after (firstCell p x y) ≡ xorOver s (cellAt s after) (startCells p k x y)
@@ -218,10 +209,10 @@ module _ (p k s x y : ℕ) (ok : Prime p) (odd : p % 2 ≡ 1) (most : k ≤ p) (
       (λ c l h. ⊎-elim (λ q. first c q) (λ q. other c l q) (known-cases (isLost p x y) (firstCell p x y) c [] h))
     where
       survivors : (c : ℕ) → c < p * (k + 2) → isLost p x y c ≡ false → cellAt s t c ≡ cellAt s u c
-      survivors c l h = let w = known-off p x y c (off-known p x y c [] h) in same c l (w .0) (w .1)
+      survivors c l h = let w = off-both p x y c (off-known (isLost p x y) c [] h) in same c l (w .0) (w .1)
 
       other : (c : ℕ) → c < p * (k + 2) → isKnown p x y [] c ≡ true → cellAt s (started p k s x y t) c ≡ cellAt s u c
-      other c l h = let w = known-off p x y c h in started-other p k s x y ok odd g hx hy t ht c (not-first c (off-lost p x y c (w .0) (w .1))) ∙ same c l (w .0) (w .1)
+      other c l h = let w = off-both p x y c h in started-other p k s x y ok odd g hx hy t ht c (not-first c (off-lost p x y c (w .0) (w .1))) ∙ same c l (w .0) (w .1)
 
       first : (c : ℕ) → c ≡ firstCell p x y → cellAt s (started p k s x y t) c ≡ cellAt s u c
       first c q =

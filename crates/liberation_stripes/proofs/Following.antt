@@ -1,6 +1,6 @@
 -- The steps of a plan, done in order on a stripe, are steps over the cells of the lost disk, and where they pass, each finds the other lost cells of its set standing; so Standing says what they do.
 use mathlib.Core.Path.{_≡_, refl, sym, ap, ap₂, _∙_}
-use mathlib.Core.Bool.{Bool, true, false, _&&_, _||_, not}
+use mathlib.Core.Bool.{Bool, true, _&&_, _||_, not}
 use mathlib.Core.Logic.{⊎-elim}
 use mathlib.Core.List.{List, [], _∷_}
 use Prim.Native.Nat.{ℕ, _+_, _*_, _<_}
@@ -22,7 +22,7 @@ use Rattle.liberation_stripes.specs.Stripes.{cellAt, isStripe, clean, fo
 use Rattle.liberation_stripes.specs.Steps.{stepsDone, onDisk, known}
 use Rattle.liberation_stripes.proofs.Solving.{SetZero}
 use Rattle.liberation_stripes.proofs.Standing as standing
-use Rattle.liberation_stripes.proofs.Standing.{Standing, doneAfter, names, inSets, steps-stripe, steps-kept, steps-zero, steps-same, steps-clean, steps-agree}
+use Rattle.liberation_stripes.proofs.Standing.{Standing, doneAfter, names, inSets, off-known, known-off, steps-stripe, steps-kept, steps-zero, steps-same, steps-clean, steps-agree}
 
 pub followed-steps : (p k s f : ℕ) (ss : List Step) (t : List ℕ) → followed p k s f ss t ≡ stepsDone p k s (onDisk p f ss) t
 unfolding followed onDisk stepsDone
@@ -42,9 +42,6 @@ unfolding cellsIn
 in-cells p f r [] = refl
 in-cells p f r (i ∷ rs) = ap₂ _||_ (eqb-same (place p r f) (place p i f) r i (λ e. omega arith) (λ e. ap (λ (j : ℕ). place p j f) e)) (in-cells p f r rs)
 
-off-known : (p f y : ℕ) (done : List ℕ) → (diskAt p y ≡ f → ⊥) → known (lostOn p f) done y ≡ true
-off-known p f y done n = ap (λ (b : Bool). not b || isIn y done) (ne-eqb (diskAt p y) f n)
-
 -- steps that pass stand, and name the same sets, hold the same cells and write the same rows
 passes-standing : (p k f : ℕ) {done : List ℕ} {ss : List Step} → Passes p k f done ss → Standing p k (lostOn p f) (cellsIn p f done) (onDisk p f ss)
 unfolding cellsIn onDisk
@@ -56,7 +53,7 @@ passes-standing p k f (next {done} {s = st} {ss} g rest) =
       number-below = g .number-below;
       held = sym (in-lost p f (st .row) xs (g .row-below)) ∙ g .lost;
       fresh = ap₂ (λ (a b : Bool). not a || b) (eq-eqb (diskAt p (place p (st .row) f)) f (disk-place p (st .row) f (g .row-below))) (in-cells p f (st .row) done ∙ g .fresh);
-      others = λ y h. ⊎-elim (λ n. off-known p f y (cellsIn p f (st .row ∷ done)) n) (λ w. stood y (w .0) (w .2) (w .3)) (cell-cases p f y xs (omega (arith, g .row-below)) h);
+      others = λ y h. ⊎-elim (λ n. off-known (lostOn p f) y (cellsIn p f (st .row ∷ done)) (ne-eqb (diskAt p y) f n)) (λ w. stood y (w .0) (w .2) (w .3)) (cell-cases p f y xs (omega (arith, g .row-below)) h);
     })
     (passes-standing p k f rest)
   where
@@ -87,7 +84,7 @@ followed-stripe p k s f {ss = ss} ok t h = ap (isStripe p k s) (followed-steps p
 -- no cell off the lost disk changes
 pub followed-off : (p k s f : ℕ) {done : List ℕ} {ss : List Step} → Passes p k f done ss → (t : List ℕ) → isStripe p k s t ≡ true → (y : ℕ) → (diskAt p y ≡ f → ⊥) → cellAt s (followed p k s f ss t) y ≡ cellAt s t y
 followed-off p k s f {done} {ss} ok t h y n =
-    ap (λ (v : List ℕ). cellAt s v y) (followed-steps p k s f ss t) ∙ steps-kept p k s (lostOn p f) (passes-standing p k f ok) t h y (off-known p f y (cellsIn p f done) n)
+    ap (λ (v : List ℕ). cellAt s v y) (followed-steps p k s f ss t) ∙ steps-kept p k s (lostOn p f) (passes-standing p k f ok) t h y (off-known (lostOn p f) y (cellsIn p f done) (ne-eqb (diskAt p y) f n))
 
 -- the sets named have XOR zero after the steps
 pub followed-zero : (p k s f : ℕ) {done : List ℕ} {ss : List Step} → Passes p k f done ss → (t : List ℕ) → isStripe p k s t ≡ true → (kind i : ℕ) → uses kind i ss ≡ true → SetZero p k s (followed p k s f ss t) kind i
@@ -119,8 +116,4 @@ followed-agree p k s f {ss} ok t u ht hu alive r l h =
     x = place p r f
 
     survives : (y : ℕ) → known (lostOn p f) [] y ≡ true → diskAt p y ≡ f → ⊥
-    survives y a = eqb-false (diskAt p y) f (go (lostOn p f y) a)
-      where
-        go : (b : Bool) → (not b || false) ≡ true → b ≡ false
-        go true e = sym e
-        go false e = refl
+    survives y a = eqb-false (diskAt p y) f (known-off (lostOn p f) y a)

@@ -82,6 +82,17 @@ known-more lost x y done h = go (lost y) h
     go true e = in-tail y x done e
     go false e = refl
 
+-- what survives is known; with no cell written, nothing else is
+pub off-known : (lost : ℕ → Bool) (y : ℕ) (done : List ℕ) → lost y ≡ false → known lost done y ≡ true
+off-known lost y done e = ap (λ (t : Bool). not t || isIn y done) e
+
+pub known-off : (lost : ℕ → Bool) (y : ℕ) → known lost [] y ≡ true → lost y ≡ false
+known-off lost y h = go (lost y) h
+  where
+    go : (t : Bool) → (not t || false) ≡ true → t ≡ false
+    go true e = sym e
+    go false e = refl
+
 -- the set that a step names, and the stripe after the step
 abbrev setBy : ℕ → ℕ → CellStep → List ℕ
 setBy p k c = setOf p k (c .kind) (c .number)
