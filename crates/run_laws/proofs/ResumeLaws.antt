@@ -1,5 +1,5 @@
 -- A run that was open before records had a number of data disks, or of skipped stripes: with as many disks as its width, and none skipped, it is refused, over, and counted as was said of its old record, and goes on from there.
-use mathlib.Core.Path.{_≡_, refl, ap, ap₂, _∙_}
+use mathlib.Core.Path.{_≡_, refl, ap, ap₂, subst, _∙_}
 use mathlib.Core.Bool.{_&&_}
 use Prim.Native.Nat.{ℕ, _-_, _*_, _≤_}
 use native.Mathlib.Omega.{arith}
@@ -29,12 +29,11 @@ module _ (x : Run) (e : x .skipped ≡ 0) where
   cells-as-before : cellsSoFar x ≡ x .next * readsOf x
   cells-as-before = let d : x .next - x .skipped ≡ x .next = omega (arith, e) in ap (λ (n : ℕ). n * readsOf x) d
 
-  -- so it is read as before, by the refusal a that it had
-  over-read : (a : ℕ) (g : Progress) → readFault x ≡ a → ProgressSays x g → g .over ≡ (eqb a 0 && isOver x)
-  over-read a g z k = k .over ∙ ap (λ (n : ℕ). eqb n 0 && isOver x) z
-
-  cells-read : (a : ℕ) (g : Progress) → readFault x ≡ a → ProgressSays x g → g .cells ≡ pick (eqb a 0) (x .next * readsOf x) 0
-  cells-read a g z k = k .cells ∙ ap₂ (λ (n c : ℕ). pick (eqb n 0) c 0) z cells-as-before
+-- so a record x that is y is read as before, by the refusal a that y had
+read-old : (y x : Run) (a : ℕ) (g : Progress) → y .skipped ≡ 0 → readFault y ≡ a → x ≡ y → ProgressSays x g → (g .answer .refusal ≡ a) × (g .over ≡ (eqb a 0 && isOver y)) × (g .cells ≡ pick (eqb a 0) (y .next * readsOf y) 0)
+read-old y x a g s z e k =
+    let h : ProgressSays y g = subst (λ (v : Run). ProgressSays v g) e k in
+    (h .answer .refusal ∙ z, h .over ∙ ap (λ (n : ℕ). eqb n 0 && isOver y) z, h .cells ∙ ap₂ (λ (n c : ℕ). pick (eqb n 0) c 0) z (cells-as-before y s))
 
 -- refusals of the old records
 pub full-fault : (y : FullRun) → readFault (resumed y) ≡ fullFault y
@@ -44,24 +43,10 @@ pub disks-fault : (y : DisksRun) → readFault (resumedDisks y) ≡ disksRunFaul
 disks-fault y = read-as-before (resumedDisks y) refl
 
 pub full-read : Full-read
-full-read y x g e k =
-    let z : readFault x ≡ fullFault y = ap readFault e ∙ full-fault y in
-    let s : x .skipped ≡ 0 = ap (λ (v : Run). v .skipped) e in
-    record {
-      refusal = k .answer .refusal ∙ z;
-      over = over-read x s (fullFault y) g z k ∙ ap (λ (v : Run). eqb (fullFault y) 0 && isOver v) e;
-      cells = cells-read x s (fullFault y) g z k ∙ ap (λ (v : Run). pick (eqb (fullFault y) 0) (v .next * readsOf v) 0) e;
-    }
+full-read y x g e k = let w = read-old (resumed y) x (fullFault y) g refl (full-fault y) e k in record { refusal = w .0; over = w .1; cells = w .2 }
 
 pub disks-read : Disks-read
-disks-read y x g e k =
-    let z : readFault x ≡ disksRunFault y = ap readFault e ∙ disks-fault y in
-    let s : x .skipped ≡ 0 = ap (λ (v : Run). v .skipped) e in
-    record {
-      refusal = k .answer .refusal ∙ z;
-      over = over-read x s (disksRunFault y) g z k ∙ ap (λ (v : Run). eqb (disksRunFault y) 0 && isOver v) e;
-      cells = cells-read x s (disksRunFault y) g z k ∙ ap (λ (v : Run). pick (eqb (disksRunFault y) 0) (v .next * readsOf v) 0) e;
-    }
+disks-read y x g e k = let w = read-old (resumedDisks y) x (disksRunFault y) g refl (disks-fault y) e k in record { refusal = w .0; over = w .1; cells = w .2 }
 
 -- what its events do is added to what it had
 pub full-on : Full-on
