@@ -1,6 +1,6 @@
 -- `rebuild_cell`: the surviving cells are gathered into the row's part of the column, then the other lost cell, if there is one, is added by a gather that has the row's cell too. Both together are the step.
 use mathlib.Core.Path.{_≡_, sym, ap}
-use Prim.Native.Nat.{_+_, _-_, _*_, _≤_}
+use Prim.Native.Nat.{_+_, _*_, _≤_}
 use native.Mathlib.Omega.{arith}
 use lib.ListN.{length, set, take, length-set}
 use lib.Seq.{length-take-le}

@@ -1,7 +1,6 @@
 -- `moved_on`: both numbers fit, since next is below the stripes and skipped is not above next.
 use mathlib.Core.Path.{refl}
 use native.Mathlib.Omega.{arith}
-use borrow.Author.Needs.{needs}
 use Rattle.runs.proofs.moved_on.Statement.{statement}
 use Rattle.runs.proofs.moved_on.Tie as tie
 

@@ -1,7 +1,7 @@
 -- `push_extra`: a row set has no extra cell, nor has D 0, nor has a diagonal whose extra cell would be on an absent disk.
 use mathlib.Core.Path.{ap, subst, sym, _∙_}
 use mathlib.Core.List.{List, [], _∷_}
-use Prim.Native.Nat.{ℕ, _-_}
+use Prim.Native.Nat.{ℕ}
 use native.Mathlib.Omega.{arith}
 use borrow.Author.Needs.{needs}
 use Rattle.liberation.specs.Sets.{place, extraRow}

@@ -3,7 +3,6 @@ use mathlib.Core.Path.{_≡_}
 use mathlib.Core.Bool.{Bool, true, false, not}
 use Prim.Native.Nat.{ℕ, _<_}
 use borrow.Author.Needs.{needs}
-use Rattle.laws.specs.Xor.{allBytes}
 use Rattle.liberation_survivors.specs.Survivors.{balanced, fits}
 use Rattle.xor.proofs.SourceLaws.{bytes-all}
 use Rattle.survivors.proofs.BalanceLists.{one-refuses}
