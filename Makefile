@@ -6,6 +6,9 @@
 #   make LIB=FILE                the same from a ready libcuzhaveli.a with the other one beside it, without the kit
 #   make demo                    shows the command at work on a film that it makes: encodes, loses disks, rebuilds, plays
 #   make examples                builds and runs examples/ from a scratch install, and compares their output
+#   make ARCH=x86-64-v3          besides these build/libcuzhaveli-x86-64-v3.a, the same proved source compiled for processors with
+#                                AVX2 (x86-64-v4: AVX-512); never installed, and not what rt staticlib builds (docs/TRUST.md)
+#   make ARCH=x86-64-v3 test-arch   compares that archive with the second implementation and Jerasure's vectors
 #   make install PREFIX= DESTDIR=   header, archives, cuzhaveli.pc, command and manual (PREFIX is /usr/local if not given)
 #   make uninstall PREFIX= DESTDIR=
 #   make dist                    build/cuzhaveli-VERSION-x86_64-linux.tar.gz, after .ci/run
@@ -15,6 +18,7 @@ VERSION = 0.1.0
 PREFIX = /usr/local
 DESTDIR =
 LIB =
+ARCH =
 CFLAGS = -O2
 PKG_CONFIG = pkg-config
 comma = ,
@@ -24,11 +28,12 @@ tool = $(if $(shell command -v cargo),build/cuzhaveli)
 scratch = $(CURDIR)/build/scratch
 warnings = -std=c99 -Wall -Wextra -pedantic -Werror
 dist = cuzhaveli-$(VERSION)-x86_64-linux
+for_arch = $(ARCH:%=build/libcuzhaveli-%.a)
 
-.PHONY: all demo examples install uninstall dist clean FORCE
+.PHONY: all demo examples install uninstall dist test-arch clean FORCE
 .DELETE_ON_ERROR:
 
-all: $(archives) $(tool)
+all: $(archives) $(tool) $(for_arch)
 	@[ -n "$(tool)" ] || echo "make: no cargo on PATH, so the command cuzhaveli is not built; the archives are"
 
 ifeq ($(LIB),)
@@ -41,6 +46,9 @@ build/lib%.a: crates.txt $(shell find crates -name '*.rt' -o -name '*.antt')
 	@cp target/staticlib/lib$*.a $@
 	@echo "make: wrote $@"
 build/libcuzhaveli_plans.a: build/libcuzhaveli.a
+build/libcuzhaveli-%.a: build/libcuzhaveli.a arch.sh
+	@./arch.sh $* $(CURDIR)/$@ >build/$*.log 2>&1 || { tail -n 20 build/$*.log >&2; echo "make: $@ was not built; the lines above are the end of build/$*.log" >&2; exit 1; }
+	@echo "make: wrote $@"
 else
 build/lib%.a: FORCE
 	@[ -f "$(dir $(LIB))lib$*.a" ] || { echo "make: LIB is $(LIB), and there is no $(dir $(LIB))lib$*.a; give the path of libcuzhaveli.a, with libcuzhaveli_plans.a beside it" >&2; exit 1; }
@@ -58,6 +66,10 @@ build/cuzhaveli: build/libcuzhaveli.a $(shell find rust/cuzhaveli rust/tool -nam
 demo: build/cuzhaveli
 	@rm -rf build/demo
 	@examples/demo build/cuzhaveli build/demo
+
+test-arch: all
+	@[ -n "$(ARCH)" ] || { echo "make: say which: make ARCH=x86-64-v3 test-arch" >&2; exit 1; }
+	@tests/arch/run $(ARCH)
 
 install: $(archives) $(tool)
 	@install -d "$(DESTDIR)$(PREFIX)/include" "$(DESTDIR)$(PREFIX)/lib/pkgconfig"
