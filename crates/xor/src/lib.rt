@@ -1,4 +1,4 @@
-// The work on bytes: a slice becomes the XOR of parts of another slice, or is tested for it, in blocks of 64 bytes that stay in registers.
+// The work on bytes: a slice becomes the XOR of parts of another slice, or is tested for it, in blocks of 128 and 64 bytes that stay in registers.
 ghost use mathlib.Core.Path.{_≡_};
 ghost use Prim.Native.Nat.{_+_, _-_, _≤_};
 ghost use lib.ListN.{length, take, drop, replicate};
@@ -94,6 +94,23 @@ pub fn block_of(t: &[u8], at: &[usize]) -> [u8; 64]
     block
 }
 
+// A block of 128 zeros.
+fn no_wide_block() -> [u8; 128]
+    ensures { λ r. ⌜ r ≡ replicate 128 0 ⌝ }
+{
+    [0; 128]
+}
+
+// The XOR of the parts of 128 bytes of t at the offsets; it stays in registers, too.
+pub fn wide_block_of(t: &[u8], at: &[usize]) -> [u8; 128]
+    requires { ⌜ Reached 128 (length (now t)) (now at) ⌝ }
+    ensures { λ r. ⌜ r ≡ xorOffsets 128 (now (t .entry)) (now (at .entry)) ⌝ }
+{
+    let mut block = no_wide_block();
+    add_all(&mut block[..128], t, at);
+    block
+}
+
 // The XOR of the parts of m bytes, at most 64, in the first m of the block.
 pub fn rest_of(t: &[u8], at: &[usize], m: usize) -> [u8; 64]
     requires { ⌜ (m ≤ 64) × Reached m (length (now t)) (now at) ⌝ }
@@ -114,6 +131,16 @@ fn put_block(dst: &mut [u8], t: &[u8], at: &[usize], b: usize)
     copy(&mut dst[b..e], &block[..64]);
 }
 
+// The same of 128 bytes.
+fn put_wide_block(dst: &mut [u8], t: &[u8], at: &[usize], b: usize)
+    requires { ⌜ (b + 128 ≤ length (now dst)) × (b ≤ length (now t)) × Reached (length (now dst)) (length (now t)) (now at) ⌝ }
+    ensures { λ _. ⌜ now (dst .exit) ≡ withPart 128 b (xorOffsets 128 (drop b (now (t .entry))) (now (at .entry))) (now (dst .entry)) ⌝ }
+{
+    let e = b + 128;
+    let block = wide_block_of(&t[b..], at);
+    copy(&mut dst[b..e], &block[..128]);
+}
+
 // The bytes of dst from b on, at most 64, = those of the XOR of the parts.
 fn put_rest(dst: &mut [u8], t: &[u8], at: &[usize], b: usize)
     requires { ⌜ (b ≤ length (now dst)) × (length (now dst) ≤ b + 64) × (b ≤ length (now t)) × Reached (length (now dst)) (length (now t)) (now at) ⌝ }
@@ -125,8 +152,8 @@ fn put_rest(dst: &mut [u8], t: &[u8], at: &[usize], b: usize)
     copy(&mut dst[b..n], &block[..m]);
 }
 
-// dst = the XOR of the parts of t at the offsets, block by block.
-fn gather_blocks(dst: &mut [u8], t: &[u8], at: &[usize])
+// dst = the XOR of the parts of t at the offsets, in blocks of 64 bytes.
+fn gather_small(dst: &mut [u8], t: &[u8], at: &[usize])
     requires { ⌜ (length (now dst) ≤ length (now t)) × Reached (length (now dst)) (length (now t)) (now at) ⌝ }
     ensures { λ _. ⌜ now (dst .exit) ≡ xorOffsets (length (now (dst .entry))) (now (t .entry)) (now (at .entry)) ⌝ }
 {
@@ -137,6 +164,20 @@ fn gather_blocks(dst: &mut [u8], t: &[u8], at: &[usize])
         b += 64;
     }
     put_rest(dst, t, at, b);
+}
+
+// The same in blocks of 128 bytes, and what is left in one of 64.
+fn gather_blocks(dst: &mut [u8], t: &[u8], at: &[usize])
+    requires { ⌜ (length (now dst) ≤ length (now t)) × Reached (length (now dst)) (length (now t)) (now at) ⌝ }
+    ensures { λ _. ⌜ now (dst .exit) ≡ xorOffsets (length (now (dst .entry))) (now (t .entry)) (now (at .entry)) ⌝ }
+{
+    let n = dst.len();
+    let mut b = 0;
+    while 128 <= n - b {
+        put_wide_block(dst, t, at, b);
+        b += 128;
+    }
+    gather_small(&mut dst[b..], &t[b..], at);
 }
 
 // How many parts of n bytes go into one list. Parts that are as far apart as cells of 4,096 bytes share a set of the cache, and a core may keep no more than eight lines of it; for short parts a second list costs more. No result depends on it, so its bounds are all that is promised.
@@ -168,6 +209,15 @@ fn block_is_zero(t: &[u8], at: &[usize]) -> bool
     all_zero(&block[..64])
 }
 
+// Is the XOR of the parts of 128 bytes zero?
+fn wide_block_is_zero(t: &[u8], at: &[usize]) -> bool
+    requires { ⌜ Reached 128 (length (now t)) (now at) ⌝ }
+    ensures { λ r. ⌜ r ≡ same (xorOffsets 128 (now (t .entry)) (now (at .entry))) (replicate 128 0) ⌝ }
+{
+    let block = wide_block_of(t, at);
+    all_zero(&block[..128])
+}
+
 // Is the XOR of the parts of m bytes, at most 64, zero?
 fn rest_is_zero(t: &[u8], at: &[usize], m: usize) -> bool
     requires { ⌜ (m ≤ 64) × Reached m (length (now t)) (now at) ⌝ }
@@ -177,8 +227,8 @@ fn rest_is_zero(t: &[u8], at: &[usize], m: usize) -> bool
     all_zero(&block[..m])
 }
 
-// Is the XOR of the parts of n bytes zero?
-pub fn is_zero(t: &[u8], n: usize, at: &[usize]) -> bool
+// Is the XOR of the parts of n bytes zero? In blocks of 64 bytes.
+fn small_is_zero(t: &[u8], n: usize, at: &[usize]) -> bool
     requires { ⌜ (n ≤ length (now t)) × Reached n (length (now t)) (now at) ⌝ }
     ensures { λ r. ⌜ r ≡ same (xorOffsets n (now (t .entry)) (now (at .entry))) (replicate n 0) ⌝ }
 {
@@ -190,4 +240,19 @@ pub fn is_zero(t: &[u8], n: usize, at: &[usize]) -> bool
         b += 64;
     }
     rest_is_zero(&t[b..], at, n - b)
+}
+
+// The same in blocks of 128 bytes, and what is left in one of 64.
+pub fn is_zero(t: &[u8], n: usize, at: &[usize]) -> bool
+    requires { ⌜ (n ≤ length (now t)) × Reached n (length (now t)) (now at) ⌝ }
+    ensures { λ r. ⌜ r ≡ same (xorOffsets n (now (t .entry)) (now (at .entry))) (replicate n 0) ⌝ }
+{
+    let mut b = 0;
+    while 128 <= n - b {
+        if !wide_block_is_zero(&t[b..], at) {
+            return false;
+        }
+        b += 128;
+    }
+    small_is_zero(&t[b..], n - b, at)
 }

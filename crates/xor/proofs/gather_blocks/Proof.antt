@@ -1,12 +1,13 @@
--- `gather_blocks`: block after block, then the rest.
-use mathlib.Core.Path.{_≡_, refl, sym, subst, _∙_}
+-- `gather_blocks`: block after block of 128 bytes, then what is left.
+use mathlib.Core.Path.{_≡_, refl, sym, subst, ap, ap₂, _∙_}
+use mathlib.Core.List.{List, _++_}
 use Prim.Native.Nat.{ℕ, _+_, _-_, _≤_}
 use native.Mathlib.Omega.{arith}
-use lib.ListN.{length, take}
-use lib.Seq.{take-all}
+use lib.ListN.{length, take, drop}
+use lib.Seq.{drop-drop}
 use Rattle.xor.specs.Parts.{xorOffsets}
 use Rattle.xor.specs.Reach.{Reached}
-use Rattle.xor.proofs.BlockLaws.{block-next, offsets-long}
+use Rattle.xor.proofs.BlockLaws.{block-next, block-last, tail-is, tail-long, reach-tail}
 use Rattle.xor.proofs.gather_blocks.Statement.{statement}
 use Rattle.xor.proofs.gather_blocks.Tie as tie
 
@@ -23,8 +24,8 @@ loop-holds c = (omega arith, refl, refl)
 sub-loop : tie.Need-sub-loop Inv-loop μ-loop
 sub-loop c = c .loop .inv .0
 
-put-block-requires : tie.Need-put-block-requires Inv-loop μ-loop
-put-block-requires c κs =
+put-wide-block-requires : tie.Need-put-wide-block-requires Inv-loop μ-loop
+put-wide-block-requires c κs =
     let at = c .before .before in
     let o = at .before .before .before .before in
     (omega arith, omega arith, subst (λ (m : ℕ). Reached m (length (o .args .t .now)) (o .args .at .now)) (sym (at .loop .inv .1)) (o .pre .1))
@@ -34,29 +35,30 @@ loop-again c =
     let at = c .before .before .before .before .before in
     let o = at .before .before .before .before in
     let i = at .loop .inv in
-    let h : at .loop .b + 64 ≤ length (o .args .dst .now) = omega arith in
-    (h, omega arith, block-next 64 (at .loop .b) 64 (o .args .t .now) (o .args .at .now) (at .loop .dst) (c .before .before .put-block .last .0) (length (o .args .dst .now)) (i .1) h refl (o .pre .1 .inside) (i .2) (c .before .before .put-block .ensures))
+    let h : at .loop .b + 128 ≤ length (o .args .dst .now) = omega arith in
+    (h, omega arith, block-next 128 (at .loop .b) 128 (o .args .t .now) (o .args .at .now) (at .loop .dst) (c .before .before .put-wide-block .last .0) (length (o .args .dst .now)) (i .1) h refl (o .pre .1 .inside) (i .2) (c .before .before .put-wide-block .ensures))
 
-put-rest-requires : tie.Need-put-rest-requires Inv-loop μ-loop
-put-rest-requires c κs =
-    let at = c .before .before in
-    let o = at .before .before .before .before in
-    (omega arith, omega arith, omega arith, subst (λ (m : ℕ). Reached m (length (o .args .t .now)) (o .args .at .now)) (sym (at .loop .inv .1)) (o .pre .1))
+gather-small-requires : tie.Need-gather-small-requires Inv-loop μ-loop
+gather-small-requires c κs =
+    let l = c .before .before .before .loop in
+    let o = c .before .before .before .before .before .before .before in
+    let t = o .args .t .now in
+    let m = length (o .args .dst .now) - l .b in
+    let k : length (take (length t - l .b) (drop (l .b) t)) ≡ length t - l .b = tail-long (l .b) t in
+    subst (λ (n : ℕ). (n ≤ length (take (length t - l .b) (drop (l .b) t))) × Reached n (length (take (length t - l .b) (drop (l .b) t))) (o .args .at .now))
+    (sym (tail-long (l .b) (l .dst) ∙ ap (λ (n : ℕ). n - l .b) (l .inv .1)))
+    (omega arith, reach-tail (length (o .args .dst .now)) m (l .b) t (o .args .at .now) (omega arith) (omega arith) (o .pre .1))
 
 returns : tie.Need-returns Inv-loop μ-loop
 returns c =
-    let at = c .before .before .before .before .before in
-    let o = at .before .before .before .before in
-    let i = at .loop .inv in
-    let s = length (o .args .dst .now) in
-    let b = at .loop .b in
-    let new = xorOffsets s (o .args .t .now) (o .args .at .now) in
-    let y = c .before .before .put-rest .last .0 in
-    let e : b + (s - b) ≡ s = omega arith in
-    let l : length y ≡ s = omega arith in
-    sym (take-all (b + (s - b)) y (omega arith))
-    ∙ block-next (s - b) b (length (at .loop .dst) - b) (o .args .t .now) (o .args .at .now) (at .loop .dst) y s (i .1) (omega arith) (omega arith) (o .pre .1 .inside) (i .2) (c .before .before .put-rest .ensures)
-    ∙ take-all (b + (s - b)) new (omega (arith, e, offsets-long s (o .args .t .now) (o .args .at .now) (o .pre .1 .inside)))
+    let l = c .before .before .before .before .before .before .loop in
+    let o = c .before .before .before .before .before .before .before .before .before .before in
+    let g = c .before .before .gather-small in
+    let t = o .args .t .now in
+    let at = o .args .at .now in
+    let k = length (l .dst) - l .b in
+    block-last (l .b) k t at (l .dst) (take (l .b) (l .dst) ++ (g .last .0 ++ drop k (drop (l .b) (l .dst)))) (length (o .args .dst .now)) (l .inv .1) (l .inv .0) (omega arith) (o .pre .1 .inside) (l .inv .2)
+    (ap₂ (λ (u v : List ℕ). take (l .b) (l .dst) ++ (u ++ v)) (g .ensures ∙ ap₂ (λ (n : ℕ) (u : List ℕ). xorOffsets n u at) (tail-long (l .b) (l .dst)) (tail-is (l .b) t)) (drop-drop k (l .b) (l .dst)))
 
 pub gather-blocks-spec : {M : Type 1} → statement M
 gather-blocks-spec =
@@ -66,10 +68,16 @@ gather-blocks-spec =
     μ-loop
     loop-holds
     sub-loop
-    put-block-requires
+    put-wide-block-requires
     (λ c. omega arith)
     (λ c. omega arith)
     loop-again
-    put-rest-requires
+    (λ c. omega arith)
+    (λ c. omega arith)
+    (λ c. omega arith)
+    (λ c. omega arith)
+    (λ c. omega arith)
+    (λ c. omega arith)
+    gather-small-requires
     (λ c. omega arith)
     returns)
