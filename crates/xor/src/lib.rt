@@ -243,7 +243,7 @@ fn small_is_zero(t: &[u8], n: usize, at: &[usize]) -> bool
 }
 
 // The same in blocks of 128 bytes, and what is left in one of 64.
-pub fn is_zero(t: &[u8], n: usize, at: &[usize]) -> bool
+fn blocks_are_zero(t: &[u8], n: usize, at: &[usize]) -> bool
     requires { ⌜ (n ≤ length (now t)) × Reached n (length (now t)) (now at) ⌝ }
     ensures { λ r. ⌜ r ≡ same (xorOffsets n (now (t .entry)) (now (at .entry))) (replicate n 0) ⌝ }
 {
@@ -255,4 +255,47 @@ pub fn is_zero(t: &[u8], n: usize, at: &[usize]) -> bool
         b += 128;
     }
     small_is_zero(&t[b..], n - b, at)
+}
+
+// A stretch of zeros.
+fn no_stretch() -> [u8; 2048]
+    ensures { λ r. ⌜ r ≡ replicate 2048 0 ⌝ }
+{
+    [0; 2048]
+}
+
+// Is the XOR of the parts of 2,048 bytes zero? They are gathered first.
+fn stretch_is_zero(t: &[u8], at: &[usize]) -> bool
+    requires { ⌜ Reached 2048 (length (now t)) (now at) × (2048 ≤ length (now t)) ⌝ }
+    ensures { λ r. ⌜ r ≡ same (xorOffsets 2048 (now (t .entry)) (now (at .entry))) (replicate 2048 0) ⌝ }
+{
+    let mut stretch = no_stretch();
+    gather(&mut stretch[..2048], t, at);
+    all_zero(&stretch[..2048])
+}
+
+// The same of n bytes, stretch by stretch.
+fn stretches_are_zero(t: &[u8], n: usize, at: &[usize]) -> bool
+    requires { ⌜ (n ≤ length (now t)) × Reached n (length (now t)) (now at) ⌝ }
+    ensures { λ r. ⌜ r ≡ same (xorOffsets n (now (t .entry)) (now (at .entry))) (replicate n 0) ⌝ }
+{
+    let mut b = 0;
+    while 2048 <= n - b {
+        if !stretch_is_zero(&t[b..], at) {
+            return false;
+        }
+        b += 2048;
+    }
+    blocks_are_zero(&t[b..], n - b, at)
+}
+
+// Is the XOR of the parts of n bytes zero? Few parts are tested block by block; more than the cache may keep lines of a set, as for a gather, stretch by stretch. The answer does not depend on which.
+pub fn is_zero(t: &[u8], n: usize, at: &[usize]) -> bool
+    requires { ⌜ (n ≤ length (now t)) × Reached n (length (now t)) (now at) ⌝ }
+    ensures { λ r. ⌜ r ≡ same (xorOffsets n (now (t .entry)) (now (at .entry))) (replicate n 0) ⌝ }
+{
+    if at.len() < 10 {
+        return blocks_are_zero(t, n, at);
+    }
+    stretches_are_zero(t, n, at)
 }
