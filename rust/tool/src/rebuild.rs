@@ -113,6 +113,7 @@ impl<'a> Rebuild<'a> {
         let mut runs = Runs::at(shape, asked, layout.slots(stripes), next)?;
         let mut saved = Instant::now();
         let mut batches = layout.batches(next, stripes).peekable();
+        self.source.ahead(batches.peek().copied(), &self.readings);
         while let Some(batch) = batches.next() {
             self.source.ahead(batches.peek().copied(), &self.readings);
             self.rebuild(batch, &mut runs)?;

@@ -36,7 +36,7 @@ fn square(svg: &mut String, x: usize, y: usize, mark: Mark) {
 /// The picture: a square for each cell, the set of each row beside it, what the colours mean below.
 pub fn draw(picture: &Picture) -> String {
     let (p, disks) = (picture.shape.width(), picture.shape.disks() + 2);
-    let width = (LEFT + disks * SIDE + 70).max(560);
+    let width = (LEFT + disks * SIDE + 70).max(640); // the legend has 610
     let height = TOP + p * SIDE + 60;
     let mut svg = format!(
         "<svg xmlns=\"http://www.w3.org/2000/svg\" width=\"{width}\" height=\"{height}\" \

@@ -37,6 +37,7 @@ fn run(given: &Given) -> Result<(), Fault> {
     let mut source = Source::new(&images);
     let mut dirty = 0;
     let mut batches = layout.batches(0, stripes).peekable();
+    source.ahead(batches.peek().copied(), &readings);
     while let Some(batch) = batches.next() {
         source.ahead(batches.peek().copied(), &readings);
         source.read(batch, &readings).map_err(|unread| source.fault(&unread))?;

@@ -81,6 +81,7 @@ fn write_film(
         if lost.iter().any(|disk| *disk < layout.shape.disks()) { lost } else { &[] };
     let mut progress = Progress::new("decode".into(), Some(length), given.flag("-q"));
     let mut batches = layout.batches(0, images.label.stripes).peekable();
+    source.ahead(batches.peek().copied(), &readings);
     let mut left = length;
     while let Some(batch) = batches.next() {
         source.ahead(batches.peek().copied(), &readings);
