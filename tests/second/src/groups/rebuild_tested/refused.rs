@@ -68,9 +68,11 @@ fn refused_numbers(group: &mut Group, random: &mut Random) {
         shapes.extend(numbers::any_sizes().into_iter().map(|size| Shape::full(width, size)));
     }
     for shape in shapes {
-        let [one, other] = numbers::cut_shapes(shape).map(|cut| (stripe_length(cut), column_length(cut)));
+        let [one, other] =
+            numbers::cut_shapes(shape).map(|cut| (stripe_length(cut), column_length(cut)));
         for (stripe, column) in [one, other, (numbers::wrapped_length(shape), one.1)] {
-            let (mut stripe, mut column) = (Lent::noise(stripe, random), Lent::noise(column, random));
+            let (mut stripe, mut column) =
+                (Lent::noise(stripe, random), Lent::noise(column, random));
             for lost in numbers::few_disks(shape.width, shape.disks) {
                 same_tested(group, shape, lost, &mut stripe, &mut column);
             }
