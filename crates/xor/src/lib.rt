@@ -1,6 +1,6 @@
 // The work on bytes: a slice becomes the XOR of parts of another slice, or is tested for it, in blocks of 128 and 64 bytes that stay in registers.
 ghost use mathlib.Core.Path.{_≡_};
-ghost use Prim.Native.Nat.{_+_, _-_, _≤_};
+ghost use Prim.Native.Nat.{_+_, _-_, _*_, _≤_, _<_};
 ghost use lib.ListN.{length, take, drop, replicate};
 ghost use Rattle.laws.specs.Xor.{xorL};
 ghost use Rattle.laws.specs.Lists.{same};
@@ -264,38 +264,49 @@ fn no_stretch() -> [u8; 2048]
     [0; 2048]
 }
 
-// Is the XOR of the parts of 2,048 bytes zero? They are gathered first.
+// Is the XOR of the parts of 2,048 bytes zero? They are gathered first, eight of them block by block, as for a long list.
 fn stretch_is_zero(t: &[u8], at: &[usize]) -> bool
-    requires { ⌜ Reached 2048 (length (now t)) (now at) × (2048 ≤ length (now t)) ⌝ }
+    requires { ⌜ (8 ≤ length (now at)) × (2048 ≤ length (now t)) × Reached 2048 (length (now t)) (now at) ⌝ }
     ensures { λ r. ⌜ r ≡ same (xorOffsets 2048 (now (t .entry)) (now (at .entry))) (replicate 2048 0) ⌝ }
 {
     let mut stretch = no_stretch();
-    gather(&mut stretch[..2048], t, at);
+    gather_blocks(&mut stretch[..2048], t, &at[..8]);
+    add_all(&mut stretch[..2048], t, &at[8..]);
     all_zero(&stretch[..2048])
 }
 
-// The same of n bytes, stretch by stretch.
-fn stretches_are_zero(t: &[u8], n: usize, at: &[usize]) -> bool
-    requires { ⌜ (n ≤ length (now t)) × Reached n (length (now t)) (now at) ⌝ }
-    ensures { λ r. ⌜ r ≡ same (xorOffsets n (now (t .entry)) (now (at .entry))) (replicate n 0) ⌝ }
+// Is the XOR of the parts of so many stretches zero?
+fn stretches_are_zero(t: &[u8], count: usize, at: &[usize]) -> bool
+    requires { ⌜ (0 < count → 8 ≤ length (now at)) × (count * 2048 ≤ length (now t)) × Reached (count * 2048) (length (now t)) (now at) ⌝ }
+    ensures { λ r. ⌜ r ≡ same (xorOffsets (count * 2048) (now (t .entry)) (now (at .entry))) (replicate (count * 2048) 0) ⌝ }
 {
+    let n = count * 2048;
     let mut b = 0;
-    while 2048 <= n - b {
+    while b < n {
         if !stretch_is_zero(&t[b..], at) {
             return false;
         }
         b += 2048;
     }
-    blocks_are_zero(&t[b..], n - b, at)
+    true
 }
 
-// Is the XOR of the parts of n bytes zero? Few parts are tested block by block; more than the cache may keep lines of a set, as for a gather, stretch by stretch. The answer does not depend on which.
+// How many stretches of n bytes are tested as such: none of few parts, which go faster block by block; of more the cache may keep too few lines, as for a gather. No answer depends on it.
+fn stretch_count(n: usize, parts: usize) -> usize
+    ensures { λ r. ⌜ (r * 2048 ≤ n) × (0 < r → 8 ≤ parts) ⌝ }
+{
+    if parts < 10 { 0 } else { n / 2048 }
+}
+
+// Is the XOR of the parts of n bytes zero? The stretches, then what is left block by block.
 pub fn is_zero(t: &[u8], n: usize, at: &[usize]) -> bool
     requires { ⌜ (n ≤ length (now t)) × Reached n (length (now t)) (now at) ⌝ }
     ensures { λ r. ⌜ r ≡ same (xorOffsets n (now (t .entry)) (now (at .entry))) (replicate n 0) ⌝ }
 {
-    if at.len() < 10 {
-        return blocks_are_zero(t, n, at);
+    let count = stretch_count(n, at.len());
+    if !stretches_are_zero(t, count, at) {
+        return false;
     }
-    stretches_are_zero(t, n, at)
+    let b = count * 2048;
+    blocks_are_zero(&t[b..], n - b, at)
 }

@@ -1,62 +1,61 @@
--- `stretches_are_zero`: stretch after stretch, then what is left. The invariant: the answer is that of what is left.
-use mathlib.Core.Path.{_≡_, sym, ap, _∙_}
+-- `stretches_are_zero`: stretch after stretch. The invariant: whole stretches are done, and the answer is that of what is left.
+use mathlib.Core.Path.{_≡_, refl, sym, ap, _∙_}
 use mathlib.Core.Bool.{Bool, true, false, _&&_}
 use mathlib.Core.List.{List}
-use Prim.Native.Nat.{ℕ, _+_, _-_, _≤_}
+use Prim.Native.Nat.{ℕ, _+_, _-_, _*_, _%_, _≤_}
 use native.Mathlib.Omega.{arith}
 use lib.ListN.{replicate}
 use borrow.Author.Tests.{not-true, not-false}
 use Rattle.laws.specs.Lists.{same}
 use Rattle.xor.specs.Parts.{xorOffsets}
 use Rattle.xor.proofs.BlockLaws.{tail-is, tail-long, reach-tail}
-use Rattle.xor.proofs.ZeroLaws.{zeroFrom, zero-all, zero-next}
+use Rattle.xor.proofs.ZeroLaws.{zeroFrom, zero-all, zero-next, zero-none}
 use Rattle.xor.proofs.stretches_are_zero.Statement.{statement}
 use Rattle.xor.proofs.stretches_are_zero.Tie as tie
 
 abbrev Inv-loop : tie.InvT-loop
-Inv-loop t n at b₀ b = (b ≤ n) × (same (xorOffsets n t at) (replicate n 0) ≡ zeroFrom b n t at)
+Inv-loop t count at n b₀ b = (b ≤ count * 2048) × (b % 2048 ≡ 0) × (same (xorOffsets (count * 2048) t at) (replicate (count * 2048) 0) ≡ zeroFrom b (count * 2048) t at)
 
 abbrev μ-loop : tie.MeasureT-loop
-μ-loop t n at b₀ b = n - b
+μ-loop t count at n b₀ b = count * 2048 - b
 
 loop-holds : tie.Need-loop-holds Inv-loop μ-loop
-loop-holds c = let o = c .before .before .args in (omega arith, zero-all (o .n) (o .t .now) (o .at .now))
+loop-holds c = let a = c .before .before .args in (omega arith, refl, zero-all (a .count * 2048) (a .t .now) (a .at .now))
+
+-- a whole stretch is left
+fits : (c : tie.In-loop Inv-loop μ-loop) → c .before .loop .b + 2048 ≤ c .before .before .before .before .args .count * 2048
+fits c = omega arith
 
 stretch-is-zero-requires : tie.Need-stretch-is-zero-requires Inv-loop μ-loop
 stretch-is-zero-requires c κs =
     let b = c .before .before .loop .b in
     let o = c .before .before .before .before .before in
-    (reach-tail (o .args .n) 2048 b (o .args .t .now) (o .args .at .now) (omega arith) (omega arith) (o .pre .1), omega (arith, tail-long b (o .args .t .now)))
+    let a = o .args in
+    (o .pre .0 (omega arith), omega (arith, tail-long b (a .t .now), fits (c .before)), reach-tail (a .count * 2048) 2048 b (a .t .now) (a .at .now) (omega arith) (fits (c .before)) (o .pre .2))
 
 -- the answer is that of the stretch, which is r, and of what follows it
 next : (c : tie.After-stretch-is-zero Inv-loop μ-loop) (r : Bool) → c .stretch-is-zero .result ≡ r → let o = c .before .before .before .before .before .before .args in
-    same (xorOffsets (o .n) (o .t .now) (o .at .now)) (replicate (o .n) 0) ≡ (r && zeroFrom (c .before .before .before .loop .b + 2048) (o .n) (o .t .now) (o .at .now))
+    same (xorOffsets (o .count * 2048) (o .t .now) (o .at .now)) (replicate (o .count * 2048) 0) ≡ (r && zeroFrom (c .before .before .before .loop .b + 2048) (o .count * 2048) (o .t .now) (o .at .now))
 next c r e =
     let l = c .before .before .before .loop in
     let o = c .before .before .before .before .before .before in
     let a = o .args in
-    l .inv .1
-    ∙ zero-next (l .b) 2048 (a .n) (a .t .now) (a .at .now) (omega arith) (o .pre .0) (o .pre .1 .inside)
-    ∙ ap (λ (f : Bool). f && zeroFrom (l .b + 2048) (a .n) (a .t .now) (a .at .now))
+    l .inv .2
+    ∙ zero-next (l .b) 2048 (a .count * 2048) (a .t .now) (a .at .now) (fits (c .before .before)) (o .pre .1) (o .pre .2 .inside)
+    ∙ ap (λ (f : Bool). f && zeroFrom (l .b + 2048) (a .count * 2048) (a .t .now) (a .at .now))
     (sym (c .stretch-is-zero .ensures ∙ ap (λ (u : List ℕ). same (xorOffsets 2048 u (a .at .now)) (replicate 2048 0)) (tail-is (l .b) (a .t .now))) ∙ e)
 
 returns : tie.Need-returns Inv-loop μ-loop
 returns c = sym (next (c .before) false (not-true (c .before .stretch-is-zero .result) (c .if1 .taken)))
 
 loop-again : tie.Need-loop-again Inv-loop μ-loop
-loop-again c = (omega arith, next (c .before) true (not-false (c .before .stretch-is-zero .result) (c .if1 .left)))
-
-blocks-are-zero-requires : tie.Need-blocks-are-zero-requires Inv-loop μ-loop
-blocks-are-zero-requires c κs =
-    let b = c .before .before .loop .b in
-    let o = c .before .before .before .before .before in
-    (omega arith, reach-tail (o .args .n) (o .args .n - b) b (o .args .t .now) (o .args .at .now) (omega arith) (omega arith) (o .pre .1))
+loop-again c = (fits (c .before .before .before), omega arith, next (c .before) true (not-false (c .before .stretch-is-zero .result) (c .if1 .left)))
 
 returns-2 : tie.Need-returns-2 Inv-loop μ-loop
 returns-2 c =
-    let l = c .before .before .before .loop in
-    let a = c .before .before .before .before .before .before .args in
-    c .blocks-are-zero .ensures ∙ ap (λ (u : List ℕ). same (xorOffsets (a .n - l .b) u (a .at .now)) (replicate (a .n - l .b) 0)) (tail-is (l .b) (a .t .now)) ∙ sym (l .inv .1)
+    let l = c .before .loop in
+    let a = c .before .before .before .before .args in
+    sym (l .inv .2 ∙ zero-none (l .b) (a .count * 2048) (a .t .now) (a .at .now) (omega arith))
 
 pub stretches-are-zero-spec : {M : Type 1} → statement M
 stretches-are-zero-spec =
@@ -64,8 +63,8 @@ stretches-are-zero-spec =
     (tie.spec
     Inv-loop
     μ-loop
-    loop-holds
     (λ c. omega arith)
+    loop-holds
     (λ c. omega arith)
     (λ c. omega arith)
     (λ c. omega arith)
@@ -74,9 +73,4 @@ stretches-are-zero-spec =
     (λ c. omega arith)
     (λ c. omega arith)
     loop-again
-    (λ c. omega arith)
-    (λ c. omega arith)
-    (λ c. omega arith)
-    (λ c. omega arith)
-    blocks-are-zero-requires
     returns-2)
