@@ -15,7 +15,7 @@ ghost use Rattle.rebuild_tested.specs.Says.{TestedSays};
 ghost use Rattle.servers.specs.Says.{WriteServerSays, RebuildServerSays};
 ghost use Rattle.runs.specs.Runs.{OpenSays, StepSays, SkipSays, ProgressSays, resumed, resumedDisks};
 ghost use Rattle.billing.specs.Bills.{BillSays, RunBillSays};
-ghost use Rattle.states.specs.States.{ReportSays};
+ghost use Rattle.state_lists.specs.Reports.{ReportSays};
 use billing::Bill;
 use judge::Judged;
 use plan_files::Written;
@@ -30,8 +30,8 @@ use runs::Run;
 use runs::RunAnswer;
 use scrub::Scrubbed;
 use space::Space;
+use state_lists::Board;
 use states::ArrayState;
-use states::Board;
 use stripes::Checked;
 
 // Our plan for a lost disk.
@@ -315,14 +315,14 @@ pub extern "C" fn cuzhaveli_report_disk(
 ) -> Board
     ensures { λ r. ⌜ ReportSays (now (list .entry)) which disk back (now (list .exit)) r ⌝ }
 {
-    let n = states::scan_length(list.len());
-    let mut s = states::scan_start();
+    let n = state_lists::scan_length(list.len());
+    let mut s = state_lists::scan_start();
     let mut i = 0;
     while i < n {
-        s = states::scan_record(s, which, disk, back, list[i]);
+        s = state_lists::scan_record(s, which, disk, back, list[i]);
         i += 1;
     }
-    let r = states::scan_answer(s, n, which);
+    let r = state_lists::scan_answer(s, n, which);
     if r.answer.refusal == 0 {
         list[which] = s.found;
     }

@@ -11,8 +11,9 @@ use borrow.Author.Tests.{eqb-true, eqb-false}
 use Rattle.laws.specs.Choice.{pick}
 use Rattle.laws.proofs.Flags.{or-false-l, or-false-r, flag}
 use Rattle.states.specs.declared.ArrayState.{ArrayState}
-use Rattle.states.specs.declared.Totals.{Totals}
-use Rattle.states.specs.States.{changed, listFault, listAfter, noArray, totalsOf, ReportSays}
+use Rattle.state_lists.specs.declared.Totals.{Totals}
+use Rattle.states.specs.States.{changed}
+use Rattle.state_lists.specs.Reports.{listFault, listAfter, noArray, totalsOf, ReportSays}
 use Rattle.state_laws.specs.Claims.{arrayAt, lostAt, Report, Made, report-made, lastList, acceptedIn, totalsIn, freshIn, lastTotals, lostSince, isNamed, Reports-right}
 use Rattle.state_laws.proofs.OneReport.{Taken, Accepted, accepted, stood, after-none, after-lost}
 

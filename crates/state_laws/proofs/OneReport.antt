@@ -17,12 +17,13 @@ use Rattle.laws.proofs.ChoiceLaws.{first-none, when-none, pick-done}
 use Rattle.liberation.proofs.FaultLaws.{disk-accepted}
 use Rattle.refusals.proofs.AnswerLaws.{answers-none}
 use Rattle.states.specs.declared.ArrayState.{ArrayState}
-use Rattle.states.specs.declared.Totals.{Totals}
-use Rattle.states.specs.declared.Board.{Board}
-use Rattle.states.specs.States.{isLost, lostAfter, changed, stateFault, listFault, againFault, diskReportFault, numberFault, noArray, reportFault, listAfter, totalsOf, noTotals, ReportSays}
+use Rattle.state_lists.specs.declared.Totals.{Totals}
+use Rattle.state_lists.specs.declared.Board.{Board}
+use Rattle.states.specs.States.{isLost, lostAfter, changed, stateFault, againFault, diskReportFault}
+use Rattle.state_lists.specs.Reports.{listFault, numberFault, noArray, reportFault, listAfter, totalsOf, noTotals, ReportSays}
 use Rattle.states.proofs.StateLaws.{Reportable, reportable, lost-accepted}
 use Rattle.states.proofs.LostLaws.{own-after, other-after, lost-after, after-lt, loss-one-more, return-one-fewer}
-use Rattle.states.proofs.TotalLaws.{totals-all}
+use Rattle.state_lists.proofs.TotalLaws.{totals-all}
 use Rattle.state_laws.specs.Claims.{arrayAt, lostAt, Report-means, Report-goes}
 
 -- ---- records in their limits

@@ -1,3 +1,2 @@
--- States of arrays, reports on them, and the scan of a list.
+-- States of arrays and reports on one.
 pub mod States
-pub mod Scanning

@@ -7,12 +7,12 @@ use lib.Count.{ones}
 use lib.Dec.{eqb}
 use borrow.Author.Tests.{eq-eqb, ne-eqb, le-leb}
 use Rattle.laws.specs.Choice.{when, firstOf}
 use Rattle.states.specs.declared.ArrayState.{ArrayState}
-use Rattle.states.specs.declared.Totals.{Totals}
-use Rattle.states.specs.declared.Scan.{Scan}
+use Rattle.state_lists.specs.declared.Totals.{Totals}
+use Rattle.state_lists.specs.declared.Scan.{Scan}
 use Rattle.states.specs.declared.StateAnswer.{StateAnswer}
 use Rattle.states.specs.States.{stateFault, StateSays}
-use Rattle.states.specs.Scanning.{countedOn, scanRecord}
+use Rattle.state_lists.specs.Scanning.{countedOn, scanRecord}
 
 -- totals by their numbers
 pub totals-are : {a b c d a′ b′ c′ d′ : ℕ} → a ≡ a′ → b ≡ b′ → c ≡ c′ → d ≡ d′

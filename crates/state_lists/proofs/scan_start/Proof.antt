@@ -1,10 +1,10 @@
 -- `scan_start`: every field is zero.
 use mathlib.Core.Path.{ap}
-use Rattle.states.specs.declared.Totals.{Totals}
-use Rattle.states.specs.States.{noArray}
+use Rattle.state_lists.specs.declared.Totals.{Totals}
+use Rattle.state_lists.specs.Reports.{noArray}
 use borrow.Author.Needs.{needs}
-use Rattle.states.proofs.scan_start.Statement.{statement}
-use Rattle.states.proofs.scan_start.Tie as tie
+use Rattle.state_lists.proofs.scan_start.Statement.{statement}
+use Rattle.state_lists.proofs.scan_start.Tie as tie
 
 no-totals-requires : tie.Need-no-totals-requires
 no-totals-requires c κs = search needs

@@ -1,9 +1,9 @@
 -- `count_state`: the number of lost disks is the number of ones of the word, and one total is one more.
 use lib.Count.{ones}
 use borrow.Author.Needs.{needs}
-use Rattle.states.proofs.RecordLaws.{count-none, count-one, count-two, count-more}
-use Rattle.states.proofs.count_state.Statement.{statement}
-use Rattle.states.proofs.count_state.Tie as tie
+use Rattle.state_lists.proofs.RecordLaws.{count-none, count-one, count-two, count-more}
+use Rattle.state_lists.proofs.count_state.Statement.{statement}
+use Rattle.state_lists.proofs.count_state.Tie as tie
 
 add-more : tie.Need-add-more
 add-more c = search needs

@@ -1,8 +1,8 @@
 -- `scan_length`: the length, unless it is over 64.
 use borrow.Author.Tests.{lt-ltb, le-ltb}
-use Rattle.states.specs.Scanning.{scanLength}
-use Rattle.states.proofs.scan_length.Statement.{statement}
-use Rattle.states.proofs.scan_length.Tie as tie
+use Rattle.state_lists.specs.Scanning.{scanLength}
+use Rattle.state_lists.proofs.scan_length.Statement.{statement}
+use Rattle.state_lists.proofs.scan_length.Tie as tie
 
 returns : tie.Need-returns
 unfolding scanLength

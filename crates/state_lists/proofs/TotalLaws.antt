@@ -9,8 +9,8 @@ use lib.Dec.{eqb, leb}
 use lib.ListN.{length}
 use borrow.Author.Tests.{ne-eqb, le-leb}
 use Rattle.laws.specs.Choice.{when}
 use Rattle.states.specs.declared.ArrayState.{ArrayState}
-use Rattle.states.specs.States.{howMany, totalsOf}
+use Rattle.state_lists.specs.Reports.{howMany, totalsOf}
 
 -- an array that has lost n disks is in one
 in-one : (n : ℕ) → when (eqb n 0) 1 + when (eqb n 1) 1 + when (eqb n 2) 1 + when (leb 3 n) 1 ≡ 1

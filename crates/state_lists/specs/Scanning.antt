@@ -5,11 +5,12 @@ use Prim.Native.Nat.{ℕ, _+_, _≤_}
 use lib.Count.{ones}
 use lib.Dec.{eqb, leb, ltb}
 use Rattle.laws.specs.Choice.{pick, when, firstOf}
 use Rattle.states.specs.declared.ArrayState.{ArrayState}
-use Rattle.states.specs.declared.Totals.{Totals}
-use Rattle.states.specs.declared.Board.{Board}
-use Rattle.states.specs.declared.Scan.{Scan}
-use Rattle.states.specs.States.{stateFault, stateReportFault, changed, noArray, noTotals}
+use Rattle.state_lists.specs.declared.Totals.{Totals}
+use Rattle.state_lists.specs.declared.Board.{Board}
+use Rattle.state_lists.specs.declared.Scan.{Scan}
+use Rattle.states.specs.States.{stateFault, stateReportFault, changed}
+use Rattle.state_lists.specs.Reports.{noArray, noTotals}
 
 -- how many of n records are scanned: none of a list that is too long
 unfoldable pub scanLength : ℕ → ℕ

@@ -1,0 +1,153 @@
+// The scan of a list of arrays, record by record, for a report on one of them: the first refusal, the named record after the report, the totals. The call over a lent list stands with the exports.
+ghost use mathlib.Core.Path.{_≡_};
+ghost use lib.Count.{ones};
+ghost use Rattle.laws.specs.Choice.{firstOf};
+ghost use Rattle.state_lists.specs.Reports.{noTotals};
+ghost use Rattle.state_lists.specs.Scanning.{Few, MayScan, countedOn, scanLength, scanStart, scanRecord, scanFault, scanAnswer};
+use refusals::Answer;
+use states::ArrayState;
+
+// How many arrays of a list can bear two more losses, one more, none, and how many are past saving.
+#[repr(C)]
+pub struct Totals {
+    pub optimal: u32,
+    pub degraded: u32,
+    pub critical: u32,
+    pub failed: u32,
+}
+
+// What a report on an array of a list answers.
+#[repr(C)]
+pub struct Board {
+    pub answer: Answer,
+    pub totals: Totals,
+}
+
+// What the scan of a list has found in the records before `at`: the first refusal of a record; the refusal of the report on record `which`, and that record after it; the totals.
+pub struct Scan {
+    pub at: usize,
+    pub fault: u8,
+    pub own: u8,
+    pub found: ArrayState,
+    pub totals: Totals,
+}
+
+// The first of two refusals, 0 for none.
+fn first_fault(first: u8, second: u8) -> u8
+    ensures { λ r. ⌜ r ≡ firstOf first second ⌝ }
+{
+    if first != 0 { first } else { second }
+}
+
+// The totals of no array.
+fn no_totals() -> Totals
+    ensures { λ r. ⌜ r ≡ noTotals ⌝ }
+{
+    Totals {
+        optimal: 0,
+        degraded: 0,
+        critical: 0,
+        failed: 0,
+    }
+}
+
+// The totals with an array more.
+fn count_state(totals: Totals, lost: u64) -> Totals
+    requires { ⌜ Few totals ⌝ }
+    ensures { λ r. ⌜ r ≡ countedOn totals (ones lost) ⌝ }
+{
+    let n = u64::count_ones(lost);
+    let mut more = totals;
+    if n == 0 {
+        more.optimal += 1;
+    } else if n == 1 {
+        more.degraded += 1;
+    } else if n < 3 {
+        more.critical += 1;
+    } else {
+        more.failed += 1;
+    }
+    more
+}
+
+// How many of n records are scanned: all, and none of a list that is too long.
+pub fn scan_length(n: usize) -> usize
+    ensures { λ r. ⌜ r ≡ scanLength n ⌝ }
+{
+    if 64 < n { 0 } else { n }
+}
+
+// The scan of no record.
+pub fn scan_start() -> Scan
+    ensures { λ r. ⌜ r ≡ scanStart ⌝ }
+{
+    Scan {
+        at: 0,
+        fault: 0,
+        own: 0,
+        found: ArrayState {
+            width: 0,
+            disks: 0,
+            lost: 0,
+        },
+        totals: no_totals(),
+    }
+}
+
+// The scan, one record on: record `which` is counted as it is after the report.
+pub fn scan_record(s: Scan, which: usize, disk: usize, back: bool, state: ArrayState) -> Scan
+    requires { ⌜ MayScan s ⌝ }
+    ensures { λ r. ⌜ r ≡ scanRecord which disk back s state ⌝ }
+{
+    let at = s.at;
+    let totals = s.totals;
+    let here = states::state_fault(state);
+    let fault = first_fault(s.fault, here);
+    if at == which {
+        let r = states::report_state(state, disk, back);
+        let after = r.state;
+        return Scan {
+            at: at + 1,
+            fault: fault,
+            own: r.answer.refusal,
+            found: after,
+            totals: count_state(totals, after.lost),
+        };
+    }
+    let found = s.found;
+    Scan {
+        at: at + 1,
+        fault: fault,
+        own: s.own,
+        found: found,
+        totals: count_state(totals, state.lost),
+    }
+}
+
+// The refusal when the n records are scanned: 20, then the first of a record, then the report's own; 0 for none.
+fn scan_fault(s: Scan, n: usize, which: usize) -> u8
+    ensures { λ r. ⌜ r ≡ scanFault s n which ⌝ }
+{
+    if n <= which {
+        return 20;
+    }
+    first_fault(s.fault, s.own)
+}
+
+// The answer when the n records are scanned.
+pub fn scan_answer(s: Scan, n: usize, which: usize) -> Board
+    ensures { λ r. ⌜ r ≡ scanAnswer s n which ⌝ }
+{
+    let refusal = scan_fault(s, n, which);
+    if refusal != 0 {
+        return Board {
+            answer: refusals::answered(refusal),
+            totals: no_totals(),
+        };
+    }
+    let totals = s.totals;
+    Board {
+        answer: refusals::answered(0),
+        totals: totals,
+    }
+}
