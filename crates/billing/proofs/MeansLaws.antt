@@ -5,8 +5,9 @@ use lib.Dec.{eqb}
 use Rattle.laws.specs.Choice.{pick}
 use Rattle.laws.proofs.ChoiceLaws.{first-none}
 use Rattle.runs.specs.declared.Run.{Run}
-use Rattle.runs.specs.declared.Progress.{Progress}
-use Rattle.runs.specs.Runs.{cellsSoFar, readFault, ProgressSays}
+use Rattle.run_progress.specs.declared.Progress.{Progress}
+use Rattle.run_progress.specs.Says.{cellsSoFar, ProgressSays}
+use Rattle.runs.specs.Runs.{readFault}
 use Rattle.billing.specs.declared.Bill.{Bill}
 use Rattle.billing.specs.Bills.{inFirst, inSecond, inThird, charge, centsOf, Nearest, billFault, Says, BillSays, runBytes, runBillFault, RunBillSays}
 use Rattle.billing.proofs.BillLaws.{bands-add}

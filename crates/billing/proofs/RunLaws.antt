@@ -8,8 +8,9 @@ use Rattle.laws.specs.Choice.{pick, firstOf}
 use Rattle.laws.proofs.ChoiceLaws.{first-kept}
 use Rattle.liberation.proofs.FaultLaws.{numbers-of}
 use Rattle.runs.specs.declared.Run.{Run}
-use Rattle.runs.specs.declared.Progress.{Progress}
-use Rattle.runs.specs.Runs.{cellsSoFar, readFault, ProgressSays}
+use Rattle.run_progress.specs.declared.Progress.{Progress}
+use Rattle.run_progress.specs.Says.{cellsSoFar, ProgressSays}
+use Rattle.runs.specs.Runs.{readFault}
 use Rattle.runs.proofs.RunRefusals.{read-passed}
 use Rattle.billing.specs.declared.Bill.{Bill}
 use Rattle.billing.specs.Bills.{runBytes, runBillFault, billFault, Refused, Says, BillSays, RunBillSays}

@@ -6,7 +6,8 @@ use lib.Dec.{eqb, leb, ltb}
 use Rattle.laws.specs.Choice.{pick, when, firstOf}
 use Rattle.refusals.specs.Answers.{Answers}
 use Rattle.runs.specs.declared.Run.{Run}
-use Rattle.runs.specs.Runs.{cellsSoFar, readFault}
+use Rattle.run_progress.specs.Says.{cellsSoFar}
+use Rattle.runs.specs.Runs.{readFault}
 use Rattle.billing.specs.declared.Bill.{Bill}
 
 abbrev pub least : ℕ → ℕ → ℕ

@@ -94,7 +94,7 @@ pub fn bill_bytes(bytes: u64, first: u64, second: u64, third: u64) -> Bill
 pub fn bill_run(run: Run, first: u64, second: u64, third: u64) -> Bill
     ensures { λ r. ⌜ RunBillSays run first second third r ⌝ }
 {
-    let progress = runs::run_progress(run);
+    let progress = run_progress::run_progress(run);
     let answer = progress.answer;
     if answer.refusal != 0 {
         return refused_bill(answer.refusal);

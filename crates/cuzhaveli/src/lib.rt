@@ -13,7 +13,9 @@ ghost use Rattle.update.specs.Says.{UpdateSays};
 ghost use Rattle.scrub.specs.Says.{ScrubSays};
 ghost use Rattle.rebuild_tested.specs.Says.{TestedSays};
 ghost use Rattle.servers.specs.Says.{WriteServerSays, RebuildServerSays};
-ghost use Rattle.runs.specs.Runs.{OpenSays, StepSays, SkipSays, ProgressSays, resumed, resumedDisks};
+ghost use Rattle.runs.specs.Runs.{OpenSays, SkipSays, resumed, resumedDisks};
+ghost use Rattle.run_steps.specs.Says.{StepSays};
+ghost use Rattle.run_progress.specs.Says.{ProgressSays};
 ghost use Rattle.billing.specs.Bills.{BillSays, RunBillSays};
 ghost use Rattle.state_lists.specs.Reports.{ReportSays};
 use billing::Bill;
@@ -23,9 +25,9 @@ use plan_text::Text;
 use planner::Plan;
 use refusals::Answer;
 use refusals::Shape;
+use run_progress::Progress;
 use runs::DisksRun;
 use runs::FullRun;
-use runs::Progress;
 use runs::Run;
 use runs::RunAnswer;
 use scrub::Scrubbed;
@@ -258,7 +260,7 @@ pub extern "C" fn cuzhaveli_step_run(
 ) -> Answer
     ensures { λ r. ⌜ StepSays (now (run .entry)) (now (run .exit)) which (now (stripe .entry)) (now (column .entry)) (now (column .exit)) r ⌝ }
 {
-    let r = runs::step_run(*run, which, stripe, column);
+    let r = run_steps::step_run(*run, which, stripe, column);
     *run = r.run;
     r.answer
 }
@@ -278,7 +280,7 @@ pub extern "C" fn cuzhaveli_skip_stripe(run: &mut Run, which: u64) -> Answer
 pub extern "C" fn cuzhaveli_run_progress(run: &Run) -> Progress
     ensures { λ r. ⌜ ProgressSays (now (run .entry)) r ⌝ }
 {
-    runs::run_progress(*run)
+    run_progress::run_progress(*run)
 }
 
 // The bill of bytes read, with the rates of the three bands.

@@ -11,9 +11,11 @@ use Rattle.planner.specs.declared.Plan.{Plan}
 use Rattle.planner.specs.Says.{PlanSays}
 use Rattle.runs.specs.declared.Run.{Run}
 use Rattle.runs.specs.declared.RunAnswer.{RunAnswer}
-use Rattle.runs.specs.declared.Progress.{Progress}
-use Rattle.runs.specs.Runs.{OpenSays, StepSays, ProgressSays}
-use Rattle.runs.proofs.RunRefusals.{step-rebuilds}
+use Rattle.run_progress.specs.declared.Progress.{Progress}
+use Rattle.runs.specs.Runs.{OpenSays}
+use Rattle.run_steps.specs.Says.{StepSays}
+use Rattle.run_progress.specs.Says.{ProgressSays}
+use Rattle.run_steps.proofs.StepRefusals.{step-rebuilds}
 use Rattle.run_laws.specs.Claims.{Event, Made, lastRun, stepped}
 use Rattle.run_laws.proofs.MadeLaws.{progress-right}
 use Rattle.demands.proofs.Stripes.{brings-back}

@@ -12,8 +12,10 @@ use Rattle.laws.proofs.Flags.{and-l, and-r}
 use Rattle.liberation_stripes.specs.Stripes.{stripeLong}
 use Rattle.refusals.proofs.AnswerLaws.{answers-none}
 use Rattle.runs.specs.declared.Run.{Run}
-use Rattle.runs.specs.Runs.{runFault, readFault, nextFault, stepFault, skipFault, moved, skippedOn, runColumn, StepSays, SkipSays}
-use Rattle.runs.proofs.RunRefusals.{skipped-few, step-passed, read-passed, skip-passed}
+use Rattle.runs.specs.Runs.{runFault, readFault, nextFault, skipFault, movedBy, SkipSays}
+use Rattle.run_steps.specs.Says.{stepFault, runColumn, StepSays}
+use Rattle.runs.proofs.RunRefusals.{skipped-few, read-passed, skip-passed}
+use Rattle.run_steps.proofs.StepRefusals.{step-passed}
 use Rattle.run_laws.specs.Claims.{Step, Skip, Event, step-of, skip-of, whichOf, refusalOf, runOf, isLong, stepsIn, skipsIn, columnsOf, rebuiltEach}
 
 -- what an event counts, as a step and as a skip
@@ -72,20 +74,19 @@ pub step-turn : (x : Run) (c : Step) → StepSays x (c .run) (c .which) (c .stri
 unfolding stepsIn columnsOf rebuiltEach
 step-turn x c k =
     let fault = stepFault x (c .which) (c .stripe) (c .column) in
-    let next : (n : ℕ) → Run = λ n. pick (eqb n 0) (moved x) x in
-    let zero : x .skipped ≡ x .skipped + 0 = omega arith in
+    let next : (n : ℕ) → Run = λ n. pick (eqb n 0) (movedBy x 0) x in
     record {
       taken = λ z.
           let e : fault ≡ 0 = answers-none fault (c .answer) (k .answer) z in
           let q = step-passed x (c .which) (c .stripe) (c .column) e in
           record {
-            run = k .run ∙ ap next e ∙ ap (λ (j : ℕ). at (x .next + 1) j x) zero;
+            run = k .run ∙ ap next e;
             few = q .1 .0;
             which = q .1 .1 .0;
             room = q .1 .1 .1;
             columns = λ es h. ap₂ (λ (a : List ℕ) (l : List (List ℕ)). a ∷ l) (k .column ∙ ap (λ (n : ℕ). pick (eqb n 0) (runColumn x (c .stripe)) (c .column)) e) h;
           };
-      stood = λ z. k .run ∙ ap (λ (b : Bool). pick b (moved x) x) (ap (λ (n : ℕ). eqb n 0) (sym (k .answer .refusal)) ∙ z);
+      stood = λ z. k .run ∙ ap (λ (b : Bool). pick b (movedBy x 0) x) (ap (λ (n : ℕ). eqb n 0) (sym (k .answer .refusal)) ∙ z);
       goes = λ r l w m.
           let t = eqb (length (c .stripe)) (stripeLong (x .shape .width) (x .shape .disks) (x .shape .«cell_size»)) in
           let u = eqb (length (c .column)) (x .shape .width * x .shape .«cell_size») in
@@ -103,12 +104,12 @@ skip-turn x c k =
           let e : fault ≡ 0 = answers-none fault (c .answer) (k .answer) z in
           let q = skip-passed x (c .which) e in
           record {
-            run = k .run ∙ ap (λ (n : ℕ). pick (eqb n 0) (skippedOn x) x) e;
+            run = k .run ∙ ap (λ (n : ℕ). pick (eqb n 0) (movedBy x 1) x) e;
             few = q .0;
             which = q .1 .0;
             room = q .1 .1;
             columns = λ es h. h;
           };
-      stood = λ z. k .run ∙ ap (λ (b : Bool). pick b (skippedOn x) x) (ap (λ (n : ℕ). eqb n 0) (sym (k .answer .refusal)) ∙ z);
+      stood = λ z. k .run ∙ ap (λ (b : Bool). pick b (movedBy x 1) x) (ap (λ (n : ℕ). eqb n 0) (sym (k .answer .refusal)) ∙ z);
       goes = λ r l w m. k .answer .refusal ∙ ap₂ firstOf r (in-turn x (c .which) w m);
     }

@@ -17,8 +17,9 @@ use Rattle.liberation.specs.Plans.{planOf, readCount}
 use Rattle.refusals.proofs.AnswerLaws.{answers-none}
 use Rattle.runs.specs.declared.Run.{Run}
 use Rattle.runs.specs.declared.RunAnswer.{RunAnswer}
-use Rattle.runs.specs.declared.Progress.{Progress}
-use Rattle.runs.specs.Runs.{opened, noRun, isOver, readsOf, cellsSoFar, readFault, OpenSays, ProgressSays}
+use Rattle.run_progress.specs.declared.Progress.{Progress}
+use Rattle.runs.specs.Runs.{opened, noRun, readFault, OpenSays}
+use Rattle.run_progress.specs.Says.{isOver, readsOf, cellsSoFar, ProgressSays}
 use Rattle.runs.proofs.RunRefusals.{read-passed}
 use Rattle.run_laws.specs.Claims.{Event, whichOf, refusalOf, runOf, Made, step-made, skip-made, lastRun, acceptedIn, stepsIn, skipsIn, stepped, skipped, inOrder, isLong, allLong, columnsOf, rebuiltEach, RunMade, RunOn, RunRead, RunReadOn, Calls-right, Calls-on, Calls-go, Calls-go-on, Progress-right, Progress-on}
 use Rattle.run_laws.proofs.EventLaws.{asSkip, one-event, steps-first, skips-first, at, each, Accepted, Turn, readable, step-turn, skip-turn}

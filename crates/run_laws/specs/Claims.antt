@@ -14,8 +14,10 @@ use Rattle.runs.specs.declared.Run.{Run}
 use Rattle.runs.specs.declared.FullRun.{FullRun}
 use Rattle.runs.specs.declared.DisksRun.{DisksRun}
 use Rattle.runs.specs.declared.RunAnswer.{RunAnswer}
-use Rattle.runs.specs.declared.Progress.{Progress}
-use Rattle.runs.specs.Runs.{isOver, cellsSoFar, readsOf, resumed, resumedDisks, OpenSays, StepSays, SkipSays, ProgressSays}
+use Rattle.run_progress.specs.declared.Progress.{Progress}
+use Rattle.run_progress.specs.Says.{isOver, cellsSoFar, readsOf, ProgressSays}
+use Rattle.runs.specs.Runs.{resumed, resumedDisks, OpenSays, SkipSays}
+use Rattle.run_steps.specs.Says.{StepSays}
 
 -- a step that was made: what it was given besides the record, and what it left
 pub record Step : Type 0 where

@@ -1,2 +1,2 @@
--- Rebuild runs: what opening, a step, a skip and reading do.
+-- The record of a run: what opening and a skip do, and records of earlier versions.
 pub mod Runs

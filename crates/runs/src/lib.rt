@@ -1,6 +1,6 @@
-// Rebuild runs over many stripes (document 01, "Run and space"): the record is opened, stepped and read. A stripe may also be skipped (document 02, ask 8). Numbers that another program put into a record are tested like any others.
+// Rebuild runs over many stripes (document 01, "Run and space"): the record by value, opened, skipped (document 02, ask 8) and taken over from earlier versions. Numbers that another program put into a record are tested like any others. No bytes of a stripe are touched here: `run_steps` rebuilds, `run_progress` says how far a run is.
 ghost use mathlib.Core.Path.{_≡_};
-ghost use Rattle.runs.specs.Runs.{readFault, nextFault, stepLengthsFault, skipFault, CanMove, movedBy, OpenSays, StepSays, SkipSays, ProgressSays, resumed, resumedDisks};
+ghost use Rattle.runs.specs.Runs.{readFault, nextFault, skipFault, CanMove, movedBy, OpenSays, SkipSays, resumed, resumedDisks};
 use refusals::Answer;
 use refusals::Shape;
 
@@ -38,14 +38,6 @@ pub struct FullRun {
 pub struct RunAnswer {
     pub answer: Answer,
     pub run: Run,
-}
-
-// How far a run is: the answer, whether it is over, and the cells read so far.
-#[repr(C)]
-pub struct Progress {
-    pub answer: Answer,
-    pub over: bool,
-    pub cells: u64,
 }
 
 // Opens a run over `stripes` stripes. Refusals: 1, 13, 2, 3, with a record of zeros, which every call refuses.
@@ -113,7 +105,7 @@ pub fn resume_disks_run(before: DisksRun) -> Run
 }
 
 // The refusal of a record that is read, 0 for none: 1, 13, 2, 3, and 10 for more stripes skipped than are past.
-fn read_fault(run: Run) -> u8
+pub fn read_fault(run: Run) -> u8
     ensures { λ r. ⌜ r ≡ readFault run ⌝ }
 {
     let s = run.shape;
@@ -125,7 +117,7 @@ fn read_fault(run: Run) -> u8
 }
 
 // 10 for a stripe that is not the next one, 0 for that one.
-fn next_fault(run: Run, which: u64) -> u8
+pub fn next_fault(run: Run, which: u64) -> u8
     ensures { λ r. ⌜ r ≡ nextFault run which ⌝ }
 {
     if run.stripes <= run.next {
@@ -134,23 +126,8 @@ fn next_fault(run: Run, which: u64) -> u8
     if which != run.next as u64 { 10 } else { 0 }
 }
 
-// The refusal of a step for stripe `which` on a stripe and a column of these many bytes, 0 for none.
-fn step_fault(run: Run, which: u64, stripe: usize, column: usize) -> u8
-    ensures { λ r. ⌜ r ≡ stepLengthsFault run which stripe column ⌝ }
-{
-    let s = run.shape;
-    let unfit = rebuild_one::one_fault(s.width, s.disks, s.cell_size, run.lost, stripe, column);
-    if unfit != 0 {
-        return unfit;
-    }
-    if run.next < run.skipped {
-        return 10;
-    }
-    next_fault(run, which)
-}
-
 // The record moved on by one stripe, with `skips` more of them skipped.
-fn moved_on(run: Run, skips: u32) -> Run
+pub fn moved_on(run: Run, skips: u32) -> Run
     requires { ⌜ CanMove run skips ⌝ }
     ensures { λ r. ⌜ r ≡ movedBy run skips ⌝ }
 {
@@ -158,25 +135,6 @@ fn moved_on(run: Run, skips: u32) -> Run
     moved.next = run.next + 1;
     moved.skipped = run.skipped + skips;
     moved
-}
-
-// A step by value: rebuilds stripe `which` into the column and gives the record moved on by one. Refusals: 1, 13, 2, 3, 5, 10; they leave column and record as they were.
-pub fn step_run(run: Run, which: u64, stripe: &[u8], column: &mut [u8]) -> RunAnswer
-    ensures { λ r. ⌜ StepSays run (r .run) which (now (stripe .entry)) (now (column .entry)) (now (column .exit)) (r .answer) ⌝ }
-{
-    let number = step_fault(run, which, stripe.len(), column.len());
-    if number != 0 {
-        return RunAnswer {
-            answer: refusals::answered(number),
-            run: run,
-        };
-    }
-    let s = run.shape;
-    rebuild_one::rebuild_column(s.width, s.disks, s.cell_size, run.lost, stripe, column);
-    RunAnswer {
-        answer: refusals::answered(0),
-        run: moved_on(run, 0),
-    }
 }
 
 // The refusal of a skip of stripe `which`, 0 for none.
@@ -204,27 +162,5 @@ pub fn skip_stripe(run: Run, which: u64) -> RunAnswer
     RunAnswer {
         answer: refusals::answered(0),
         run: moved_on(run, 1),
-    }
-}
-
-// How far a run is: only stripes that were not skipped were read. Refusals: 1, 13, 2, 3, 10.
-pub fn run_progress(run: Run) -> Progress
-    ensures { λ r. ⌜ ProgressSays run r ⌝ }
-{
-    let refused = read_fault(run);
-    if refused != 0 {
-        return Progress {
-            answer: refusals::answered(refused),
-            over: false,
-            cells: 0,
-        };
-    }
-    let s = run.shape;
-    let plan = planner::plan_disk(s.width, s.disks, run.lost);
-    let rebuilt = run.next - run.skipped;
-    Progress {
-        answer: refusals::answered(0),
-        over: run.next == run.stripes,
-        cells: rebuilt as u64 * plan.reads as u64,
     }
 }

@@ -3,10 +3,11 @@ use mathlib.Core.Path.{_≡_, refl, sym, ap, _∙_}
 use Prim.Native.Nat.{ℕ, _-_, _*_, _^_, _<_}
 use native.Mathlib.Omega.{arith}
 use borrow.Author.Needs.{needs}
 use Rattle.runs.specs.Runs.{readFault}
-use Rattle.runs.proofs.RunRefusals.{read-passed, progress-refused, reads-are, progress-done, product-fits}
-use Rattle.runs.proofs.run_progress.Statement.{statement}
-use Rattle.runs.proofs.run_progress.Tie as tie
+use Rattle.runs.proofs.RunRefusals.{read-passed}
+use Rattle.run_progress.proofs.ProgressLaws.{progress-refused, reads-are, progress-done, product-fits}
+use Rattle.run_progress.proofs.run_progress.Statement.{statement}
+use Rattle.run_progress.proofs.run_progress.Tie as tie
 
 -- past the refusals
 passed : (c : tie.Else1) → readFault (c .before .before .args .run) ≡ 0

@@ -5,10 +5,10 @@ use borrow.Author.Needs.{needs}
 use Rattle.laws.specs.Choice.{firstOf}
 use Rattle.laws.proofs.ChoiceLaws.{first-kept, first-next}
 use Rattle.rebuild_one.specs.Says.{lengthsFault}
 use Rattle.runs.specs.Runs.{skippedFault, nextFault}
 use Rattle.runs.proofs.RunRefusals.{skipped-many, skipped-few}
-use Rattle.runs.proofs.step_fault.Statement.{statement}
-use Rattle.runs.proofs.step_fault.Tie as tie
+use Rattle.run_steps.proofs.step_fault.Statement.{statement}
+use Rattle.run_steps.proofs.step_fault.Tie as tie
 
 -- past the refusals of the rebuild
 fine : (c : tie.Else1) → let a = c .before .before .before .args in lengthsFault (a .run .shape .width) (a .run .shape .disks) (a .run .shape .«cell_size») (a .run .lost) (a .stripe) (a .column) ≡ 0

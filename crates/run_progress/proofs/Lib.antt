@@ -1,0 +1,2 @@
+-- The promise of reading a record from what was refused or done.
+pub mod ProgressLaws

@@ -1,0 +1,2 @@
+-- How far a run is.
+pub mod Says

@@ -1,0 +1,2 @@
+-- The promise of a step from what was refused or done.
+pub mod StepRefusals

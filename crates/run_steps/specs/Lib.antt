@@ -1,0 +1,2 @@
+-- What a step of a run does.
+pub mod Says
