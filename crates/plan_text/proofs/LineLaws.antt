@@ -12,8 +12,8 @@ use Rattle.liberation.specs.Plans.{Step, planOf, marksFrom}
 use Rattle.liberation.proofs.SetLaws.{survivors-below}
 use Rattle.sets.specs.Marks.{Marked}
 use Rattle.sets.proofs.MarkLaws.{marked-read}
-use Rattle.planner.specs.declared.Steps.{Steps}
-use Rattle.planner.specs.Records.{Holds}
+use Rattle.step_records.specs.declared.Steps.{Steps}
+use Rattle.step_records.specs.Records.{Holds}
 use Rattle.liberation.proofs.RecordLaws.{StepAt, step-at, plan-length, plan-passed, plan-number}
 use Rattle.plan_text.specs.Text.{lineOf, newFrom, linesFrom}
 use Rattle.text.specs.Writing.{Wrote}

@@ -6,11 +6,11 @@ ghost use Prim.Native.Nat.{_+_, _*_, _≤_, _<_};
 ghost use lib.ListN.{length, drop, replicate};
 ghost use Rattle.liberation.specs.Sets.{isWidth};
 ghost use Rattle.liberation.specs.Plans.{step, planOf, marksFrom};
-ghost use Rattle.planner.specs.Records.{Holds};
+ghost use Rattle.step_records.specs.Records.{Holds};
 ghost use Rattle.text.specs.Writing.{Wrote};
 ghost use Rattle.plan_text.specs.Text.{lineOf, newFrom, linesFrom, planText, refusedLine, inputOf, valueTo, firstValue, secondValue, isForm};
 ghost use Rattle.plan_text.specs.Says.{TextIs, TextSays};
-use planner::Steps;
+use step_records::Steps;
 
 // A printed text: its bytes, zeros after them, and how many they are.
 // There is room for a head line of 24 bytes and 31 lines of 14: four numbers of two digits, four commas, a letter and LF. The longest text has 433.

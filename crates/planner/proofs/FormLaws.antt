@@ -17,9 +17,10 @@ use Rattle.liberation.proofs.AcceptedLaws.{accepted-named}
 use Rattle.liberation.proofs.PartPlans.{plan-accepted}
 use Rattle.liberation.proofs.RecordLaws.{length-form, form-steps, recorded-from, plan-length}
 use Rattle.refusals.proofs.AnswerLaws.{answers-none}
+use Rattle.plan_steps.specs.Says.{plannedSteps}
+use Rattle.plan_steps.proofs.PlannedLaws.{held-as, planned-is}
 use Rattle.planner.specs.declared.Plan.{Plan}
-use Rattle.planner.specs.Says.{PlanSays, plannedSteps}
-use Rattle.planner.proofs.PlanAnswers.{held-as, planned-is}
+use Rattle.planner.specs.Says.{PlanSays}
 
 -- the p steps of a plan's record, and the same in the judge's form
 abbrev pub stepsHeld : ℕ → Plan → List Step

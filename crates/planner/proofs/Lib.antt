@@ -1,4 +1,3 @@
-pub mod StepRecord
 pub mod MarkingLoop
 pub mod PlanAnswers
 pub mod FormLaws

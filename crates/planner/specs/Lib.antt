@@ -1,3 +1,2 @@
 -- What the planner promises.
-pub mod Records
 pub mod Says

@@ -1,41 +1,22 @@
--- The promises of the planner's three public calls, for accepted and refused calls alike. p is the width, k the number of data disks, f the lost disk.
+-- The promises of the planner's two public calls, for accepted and refused calls alike. p is the width, k the number of data disks, f the lost disk.
 use mathlib.Core.Path.{_≡_}
-use mathlib.Core.List.{List, []}
+use mathlib.Core.List.{List}
 use Prim.Native.Nat.{ℕ, _+_, _*_}
 use lib.Dec.{eqb}
 use Rattle.laws.specs.Choice.{pick, firstOf}
 use Rattle.liberation.specs.Sets.{planFault, longFault}
-use Rattle.liberation.specs.Plans.{Step, planOf, routeWord, readCount, readList}
+use Rattle.liberation.specs.Plans.{planOf, readCount, readList}
 use Rattle.refusals.specs.declared.Answer.{Answer}
 use Rattle.refusals.specs.Answers.{Answers}
+use Rattle.step_records.specs.Records.{Holds}
+use Rattle.plan_steps.specs.Says.{plannedSteps, plannedRoutes}
 use Rattle.planner.specs.declared.Plan.{Plan}
-use Rattle.planner.specs.declared.Planned.{Planned}
-use Rattle.planner.specs.Records.{Holds}
-
--- the planner refuses by 1, 13 and 3: our plan, or no step on a refusal
-abbrev pub plannedSteps : ℕ → ℕ → ℕ → List Step
-plannedSteps p k f = pick (eqb (planFault p k f) 0) (planOf p k f) []
-
-abbrev pub plannedRoutes : ℕ → ℕ → ℕ → ℕ
-plannedRoutes p k f = pick (eqb (planFault p k f) 0) (routeWord p k f) 0
 
 pub record PlanSays (p k f : ℕ) (r : Plan) : Type 0 where
   pub answer : Answers (planFault p k f) (r .answer)
   pub steps : Holds (plannedSteps p k f) (r .steps)
   pub routes : r .routes ≡ plannedRoutes p k f
   pub reads : r .reads ≡ pick (eqb (planFault p k f) 0) (readCount p k f (planOf p k f)) 0
-
--- the same where the reads are not counted
-pub record PlannedSays (p k f : ℕ) (r : Planned) : Type 0 where
-  pub answer : Answers (planFault p k f) (r .answer)
-  pub steps : Holds (plannedSteps p k f) (r .steps)
-  pub routes : r .routes ≡ plannedRoutes p k f
-
--- a refusal by number n
-pub record Refused (n : ℕ) (r : Planned) : Type 0 where
-  pub answer : Answers n (r .answer)
-  pub steps : Holds [] (r .steps)
-  pub routes : r .routes ≡ 0
 
 -- the read list refuses by 1, 13, 3 and 5
 abbrev pub listFault : ℕ → ℕ → ℕ → List ℕ → ℕ

@@ -9,8 +9,8 @@ use Rattle.liberation.specs.Sets.{isWidth, setOf, lostIn}
 use Rattle.liberation.specs.Plans.{planOf}
 use Rattle.liberation_stripes.specs.Stripes.{stripeLong}
 use Rattle.sets.specs.Limits.{Within}
-use Rattle.planner.specs.declared.Steps.{Steps}
-use Rattle.planner.specs.Records.{Holds}
+use Rattle.step_records.specs.declared.Steps.{Steps}
+use Rattle.step_records.specs.Records.{Holds}
 
 -- a step for disk f of a stripe t, with a lent column: the set holds the lost cell of the row
 pub record Ready (p k s f row kind number : ℕ) (t col : List ℕ) : Type 0 where

@@ -1,7 +1,7 @@
 // The rebuild of one lost disk: our plan's steps, one after another, from a lent stripe into a lent column. Each cell goes to its own stretch of the column.
-use planner::Steps;
 use refusals::Answer;
 use refusals::Shape;
+use step_records::Steps;
 ghost use mathlib.Core.Path.{_≡_};
 ghost use mathlib.Core.Bool.{true};
 ghost use mathlib.Core.List.{[], _∷_};
@@ -136,7 +136,7 @@ pub fn rebuild_column(
     requires { ⌜ oneFault width disks size disk (now stripe) (now column) ≡ 0 ⌝ }
     ensures { λ _. ⌜ now (column .exit) ≡ rebuilt width disks size disk (now (stripe .entry)) ⌝ }
 {
-    let plan = planner::plan_steps(width, disks, disk);
+    let plan = plan_steps::plan_steps(width, disks, disk);
     let steps = plan.steps;
     follow(width, disks, size, disk, steps, stripe, column);
 }

@@ -1,12 +1,12 @@
 // The rebuild of one lost disk in place, for a stripe within its limits: our plan's steps, one after another, each done within the stripe.
-use planner::Steps;
+use step_records::Steps;
 ghost use mathlib.Core.Path.{_≡_};
 ghost use mathlib.Core.Bool.{true};
 ghost use Prim.Native.Nat.{_+_, _≤_};
 ghost use Rattle.liberation.specs.Sets.{isWidth, planFault};
 ghost use Rattle.liberation.specs.Plans.{planOf};
 ghost use Rattle.liberation_stripes.specs.Stripes.{followed};
-ghost use Rattle.planner.specs.Records.{Holds};
+ghost use Rattle.step_records.specs.Records.{Holds};
 ghost use Rattle.stripes.specs.Cells.{Sized};
 
 // The steps of our plan, in order: each solves the lost disk's ordinary cell of its set.
@@ -34,7 +34,7 @@ pub fn rebuild_within(width: usize, disks: usize, size: usize, disk: usize, stri
     requires { ⌜ planFault width disks disk ≡ 0 ⌝ }
     ensures { λ _. ⌜ now (stripe .exit) ≡ followed width disks size disk (planOf width disks disk) (now (stripe .entry)) ⌝ }
 {
-    let plan = planner::plan_steps(width, disks, disk);
+    let plan = plan_steps::plan_steps(width, disks, disk);
     let steps = plan.steps;
     follow(width, disks, size, disk, steps, stripe);
 }

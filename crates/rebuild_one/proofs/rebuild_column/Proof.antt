@@ -6,7 +6,7 @@ use Rattle.laws.proofs.ChoiceLaws.{pick-done}
 use Rattle.liberation.specs.Sets.{planFault}
 use Rattle.liberation.specs.Plans.{Step, planOf}
 use Rattle.liberation.proofs.FaultLaws.{plan-none}
-use Rattle.planner.specs.Records.{Holds}
+use Rattle.step_records.specs.Records.{Holds}
 use Rattle.rebuild_one.proofs.OneRefusals.{Fit, fault-none}
 use borrow.Author.Needs.{needs}
 use Rattle.rebuild_one.proofs.rebuild_column.Statement.{statement}

@@ -6,7 +6,7 @@ use Rattle.laws.proofs.ChoiceLaws.{pick-done}
 use Rattle.liberation.specs.Sets.{planFault}
 use Rattle.liberation.specs.Plans.{Step, planOf}
 use Rattle.liberation.proofs.FaultLaws.{plan-of}
-use Rattle.planner.specs.Records.{Holds}
+use Rattle.step_records.specs.Records.{Holds}
 use Rattle.rebuild_within.proofs.rebuild_within.Statement.{statement}
 use Rattle.rebuild_within.proofs.rebuild_within.Tie as tie
 

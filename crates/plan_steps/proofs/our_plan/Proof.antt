@@ -3,9 +3,9 @@ use mathlib.Core.Path.{_∙_}
 use native.Mathlib.Omega.{arith}
 use borrow.Author.Needs.{needs}
 use Rattle.liberation.proofs.Widths.{width-most}
-use Rattle.planner.proofs.PlanAnswers.{data-steps-are, data-word, parity-steps, row-parity-word, diagonal-parity-word, our-plan-is}
-use Rattle.planner.proofs.our_plan.Statement.{statement}
-use Rattle.planner.proofs.our_plan.Tie as tie
+use Rattle.plan_steps.proofs.PlannedLaws.{data-steps-are, data-word, parity-steps, row-parity-word, diagonal-parity-word, our-plan-is}
+use Rattle.plan_steps.proofs.our_plan.Statement.{statement}
+use Rattle.plan_steps.proofs.our_plan.Tie as tie
 
 all-routes-requires : tie.Need-all-routes-requires
 all-routes-requires c κs = (width-most (c .before .args .width) (c .before .pre .0), omega arith)

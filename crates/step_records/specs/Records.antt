@@ -1,13 +1,11 @@
--- A plan's steps in the planner's arrays, and our plan in a record.
+-- A plan's steps in the three arrays of a record.
 use mathlib.Core.Path.{_≡_}
 use mathlib.Core.List.{List}
 use Prim.Native.Nat.{ℕ}
 use lib.ListN.{length}
-use Rattle.liberation.specs.Plans.{Step, planOf, routeWord}
+use Rattle.liberation.specs.Plans.{Step}
 use Rattle.liberation.specs.Records.{rowsOf, kindsOf, numbersOf, padded}
-use Rattle.refusals.specs.Answers.{Answers}
-use Rattle.planner.specs.declared.Steps.{Steps}
-use Rattle.planner.specs.declared.Planned.{Planned}
+use Rattle.step_records.specs.declared.Steps.{Steps}
 
 -- the steps ss, held in three arrays
 pub record Holds (ss : List Step) (s : Steps) : Type 0 where
@@ -21,9 +19,3 @@ pub record Counts (ss : List Step) (rs ks ns : List ℕ) (n : ℕ) : Type 0 wher
   pub kinds : ks ≡ padded (kindsOf ss)
   pub numbers : ns ≡ padded (numbersOf ss)
   pub count : n ≡ length ss
-
--- our plan for disk f of an array with k data disks, not refused
-pub record OurPlan (p k f : ℕ) (r : Planned) : Type 0 where
-  pub answer : Answers 0 (r .answer)
-  pub steps : Holds (planOf p k f) (r .steps)
-  pub routes : r .routes ≡ routeWord p k f

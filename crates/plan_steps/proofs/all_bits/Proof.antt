@@ -6,8 +6,8 @@ use native.Mathlib.Omega.{arith}
 use lib.Dec.{lit<}
 use lib.Pow.{shl-exact, pow-pos}
 use borrow.Author.Needs.{needs}
-use Rattle.planner.proofs.all_bits.Statement.{statement}
-use Rattle.planner.proofs.all_bits.Tie as tie
+use Rattle.plan_steps.proofs.all_bits.Statement.{statement}
+use Rattle.plan_steps.proofs.all_bits.Tie as tie
 
 exact : (c : tie.Start) → 1 * 2 ^ c .args .width % 4294967296 ≡ 2 ^ c .args .width
 exact c = shl-exact 1 (c .args .width) 32 (lit< tt) (omega arith) ∙ one-mul _

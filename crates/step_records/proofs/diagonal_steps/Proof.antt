@@ -9,10 +9,10 @@ use lib.ListN.{length, take, drop, length-append}
 use lib.Seq.{length-take-le, getD-take}
 use Rattle.liberation.specs.Plans.{step, diagonalOf, rowSteps, diagonalSteps}
 use Rattle.liberation.proofs.RowSteps.{steps-long}
-use Rattle.planner.proofs.StepRecord.{Collected, collect-push, collect-skip, collect-end, collect-room, diagonal-some, diagonal-none, diagonal-last}
+use Rattle.step_records.proofs.StepRecord.{Collected, collect-push, collect-skip, collect-end, collect-room, diagonal-some, diagonal-none, diagonal-last}
 use borrow.Author.Needs.{needs}
-use Rattle.planner.proofs.diagonal_steps.Statement.{statement}
-use Rattle.planner.proofs.diagonal_steps.Tie as tie
+use Rattle.step_records.proofs.diagonal_steps.Statement.{statement}
+use Rattle.step_records.proofs.diagonal_steps.Tie as tie
 
 abbrev Inv-loop : tie.InvT-loop
 Inv-loop width disk routes rows₀ kinds₀ numbers₀ count₀ row₀ rows kinds numbers count row =

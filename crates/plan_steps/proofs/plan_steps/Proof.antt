@@ -3,9 +3,9 @@ use mathlib.Core.Path.{_≡_, sym, _∙_}
 use borrow.Author.Needs.{needs}
 use Rattle.liberation.specs.Sets.{planFault}
 use Rattle.liberation.proofs.FaultLaws.{plan-of}
-use Rattle.planner.proofs.PlanAnswers.{refusal-says, planned-says}
-use Rattle.planner.proofs.plan_steps.Statement.{statement}
-use Rattle.planner.proofs.plan_steps.Tie as tie
+use Rattle.plan_steps.proofs.PlannedLaws.{refusal-says, planned-says}
+use Rattle.plan_steps.proofs.plan_steps.Statement.{statement}
+use Rattle.plan_steps.proofs.plan_steps.Tie as tie
 
 -- past the refusals
 none : (c : tie.Else1) → let a = c .before .before .args in planFault (a .width) (a .disks) (a .lost) ≡ 0

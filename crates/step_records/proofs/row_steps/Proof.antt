@@ -8,10 +8,10 @@ use lib.ListN.{length, getD, take, drop, set, replicate}
 use lib.Seq.{length-take-le, getD-take}
 use Rattle.liberation.specs.Plans.{step, rowSteps}
 use Rattle.liberation.proofs.RowSteps.{steps-long}
-use Rattle.planner.proofs.StepRecord.{Collected, collect-start, collect-push, collect-skip, collect-end, collect-room, zero-again, row-some, row-none, row-last}
+use Rattle.step_records.proofs.StepRecord.{Collected, collect-start, collect-push, collect-skip, collect-end, collect-room, zero-again, row-some, row-none, row-last}
 use borrow.Author.Needs.{needs}
-use Rattle.planner.proofs.row_steps.Statement.{statement}
-use Rattle.planner.proofs.row_steps.Tie as tie
+use Rattle.step_records.proofs.row_steps.Statement.{statement}
+use Rattle.step_records.proofs.row_steps.Tie as tie
 
 abbrev Inv-loop : tie.InvT-loop
 Inv-loop width routes rows₀ count₀ row₀ rows count row = (row ≤ width) × Collected (rowSteps 0 (take width routes)) (rowSteps row (drop row (take width routes))) rows (replicate 31 0) rows count

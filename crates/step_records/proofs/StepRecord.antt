@@ -10,7 +10,7 @@ use lib.Seq.{drop-cons, set-at}
 use borrow.Author.Tests.{eq-eqb, ne-eqb}
 use Rattle.laws.specs.Choice.{pick}
 use Rattle.liberation.specs.Plans.{Step, step, diagonalOf, rowSteps, diagonalSteps, allOf}
-use Rattle.planner.specs.Records.{Counts}
+use Rattle.step_records.specs.Records.{Counts}
 use Rattle.liberation.specs.Records.{listed, padded}
 use Rattle.liberation.proofs.RecordLaws.{listed-append, length-listed}
 

@@ -4,10 +4,10 @@ use Prim.Native.Nat.{ℕ, _+_, _-_, _≤_}
 use native.Mathlib.Omega.{arith}
 use lib.ListN.{replicate}
 use Rattle.liberation.specs.Plans.{step, allOf}
-use Rattle.planner.proofs.StepRecord.{Collected, collect-start, collect-push, collect-skip, collect-end, all-some, all-last}
+use Rattle.step_records.proofs.StepRecord.{Collected, collect-start, collect-push, collect-skip, collect-end, all-some, all-last}
 use borrow.Author.Needs.{needs}
-use Rattle.planner.proofs.all_steps.Statement.{statement}
-use Rattle.planner.proofs.all_steps.Tie as tie
+use Rattle.step_records.proofs.all_steps.Statement.{statement}
+use Rattle.step_records.proofs.all_steps.Tie as tie
 
 abbrev Inv-loop : tie.InvT-loop
 Inv-loop width kind rows₀ kinds₀ row₀ rows kinds row = (row ≤ width) × Collected (allOf width kind 0) (allOf (width - row) kind row) rows kinds rows row

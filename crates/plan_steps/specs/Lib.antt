@@ -1,0 +1,2 @@
+-- What our plan without its read count promises.
+pub mod Says

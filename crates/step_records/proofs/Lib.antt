@@ -1,0 +1,2 @@
+-- Steps put into a record one by one.
+pub mod StepRecord

@@ -1,0 +1,2 @@
+-- Steps in a record.
+pub mod Records
