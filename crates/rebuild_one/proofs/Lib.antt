@@ -1,5 +1,3 @@
--- The laws behind the functions: a step's other lost cells, the step, the steps in order, the promise.
-pub mod LostLaws
-pub mod OneStep
+-- The laws behind the functions: the steps in order, the promise.
 pub mod FollowLaws
 pub mod OneRefusals

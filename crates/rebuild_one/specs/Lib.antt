@@ -1,3 +1,3 @@
 -- What the rebuild of one lost disk promises.
-pub mod Cells
+pub mod Plans
 pub mod Says

@@ -32,7 +32,7 @@ use Rattle.offsets.specs.Offsets.{scaled, Pushed}
 use Rattle.offsets.proofs.OffsetLaws.{over-offsets}
 use Rattle.set_offsets.specs.Cells.{survivors}
 use Rattle.set_offsets.proofs.SetLists.{survivors-one, survivors-reached, size-fits}
-use Rattle.rebuild_one.specs.Cells.{Ready}
+use Rattle.rebuild_cell.specs.Cells.{Ready}
 
 -- the cell of the step is on the lost disk, so no survivor is left out
 surviving-without : (p f row : ℕ) (xs : List ℕ) → row < p → survivingIn p f (without (place p row f) xs) ≡ survivingIn p f xs

@@ -6,9 +6,9 @@ use lib.ListN.{length, set, take, length-set}
 use lib.Seq.{length-take-le}
 use borrow.Author.Needs.{needs}
 use Rattle.liberation_stripes.proofs.CellLaws.{cell-fits}
-use Rattle.rebuild_one.proofs.OneStep.{row-fits, sources-fit, step-alone, pair-beside, step-added, two-put}
-use Rattle.rebuild_one.proofs.rebuild_cell.Statement.{statement}
-use Rattle.rebuild_one.proofs.rebuild_cell.Tie as tie
+use Rattle.rebuild_cell.proofs.OneStep.{row-fits, sources-fit, step-alone, pair-beside, step-added, two-put}
+use Rattle.rebuild_cell.proofs.rebuild_cell.Statement.{statement}
+use Rattle.rebuild_cell.proofs.rebuild_cell.Tie as tie
 
 -- the row lies in the column
 fits : (c : tie.After-surviving) → let a = c .before .before .before .before .before .args in a .row * a .size + a .size ≤ length (a .column .now)

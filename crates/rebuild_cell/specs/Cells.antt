@@ -1,16 +1,13 @@
--- One step of a rebuild: what a caller of the functions over one step has to show.
+-- One step of a rebuild: what a caller has to show.
 use mathlib.Core.Path.{_≡_}
 use mathlib.Core.Bool.{true}
 use mathlib.Core.List.{List}
 use Prim.Native.Nat.{ℕ, _+_, _*_, _≤_, _<_}
 use lib.ListN.{length}
 use Rattle.laws.specs.Lists.{isIn}
-use Rattle.liberation.specs.Sets.{isWidth, setOf, lostIn}
-use Rattle.liberation.specs.Plans.{planOf}
+use Rattle.liberation.specs.Sets.{setOf, lostIn}
 use Rattle.liberation_stripes.specs.Stripes.{stripeLong}
 use Rattle.sets.specs.Limits.{Within}
-use Rattle.step_records.specs.declared.Steps.{Steps}
-use Rattle.step_records.specs.Records.{Holds}
 
 -- a step for disk f of a stripe t, with a lent column: the set holds the lost cell of the row
 pub record Ready (p k s f row kind number : ℕ) (t col : List ℕ) : Type 0 where
@@ -21,10 +18,3 @@ pub record Ready (p k s f row kind number : ℕ) (t col : List ℕ) : Type 0 whe
   pub size : s ≤ 4096
   pub stripe : length t ≡ stripeLong p k s
   pub column : length col ≡ p * s
-
--- the steps of our plan for disk f
-pub record Ours (p k f : ℕ) (steps : Steps) : Type 0 where
-  pub width : isWidth p ≡ true
-  pub disks : k ≤ p
-  pub disk : f ≤ k + 1
-  pub held : Holds (planOf p k f) steps

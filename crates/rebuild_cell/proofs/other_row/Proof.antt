@@ -3,9 +3,9 @@ use mathlib.Core.Path.{_≡_, sym, _∙_}
 use native.Mathlib.Omega.{arith}
 use borrow.Author.Needs.{needs}
 use Rattle.liberation.specs.Sets.{extraDisk}
-use Rattle.rebuild_one.proofs.LostLaws.{alone-row, alone-first, alone-parity, alone-off, other-extra, other-ordinary}
-use Rattle.rebuild_one.proofs.other_row.Statement.{statement}
-use Rattle.rebuild_one.proofs.other_row.Tie as tie
+use Rattle.rebuild_cell.proofs.LostLaws.{alone-row, alone-first, alone-parity, alone-off, other-extra, other-ordinary}
+use Rattle.rebuild_cell.proofs.other_row.Statement.{statement}
+use Rattle.rebuild_cell.proofs.other_row.Tie as tie
 
 returns : tie.Need-returns
 returns c = let o = c .before in let a = o .args in alone-row (a .width) (a .disks) (a .disk) (a .row) (a .kind) (a .number) (o .pre .0 .numbered) (o .pre .1) (o .pre .2) (c .if1 .taken)

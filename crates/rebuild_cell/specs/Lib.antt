@@ -1,0 +1,2 @@
+-- One step of a rebuild.
+pub mod Cells
