@@ -1,3 +1,2 @@
 -- Laws of reading a text.
-pub mod TestLaws
 pub mod LineLaws

@@ -6,22 +6,24 @@ use Prim.Native.Nat.{ℕ, zero, suc, _+_, _-_, _*_, _≤_, _<_}
 use native.Mathlib.Numerals.{add-one}
 use native.Mathlib.Omega.{arith}
 use lib.Dec.{eqb, leb}
-use lib.ListN.{length, getD, take, drop, set, replicate, length-append, length-replicate}
+use lib.ListN.{length, getD, take, drop, set, replicate, length-append, length-replicate, length-take}
 use lib.Seq.{drop-drop, sets, sets-eq, take-at, drop-append-add}
 use borrow.Author.Tests.{eq-eqb, ne-eqb, le-leb}
 use Rattle.laws.specs.Choice.{pick}
 use Rattle.laws.specs.Lists.{same}
-use Rattle.laws.proofs.Flags.{and-i}
+use Rattle.laws.proofs.Flags.{and-i, same-flag}
+use Rattle.laws.proofs.MemberLaws.{same-true, same-self}
 use Rattle.laws.proofs.LengthLaws.{drop-replicate}
 use Rattle.liberation.specs.Plans.{Step, step}
 use Rattle.liberation_texts.specs.Reading.{byteAt, digitsIn, numberIn, isNumber, endIn, isSet, kindOf, afterRow, afterSet, afterNumber, lineIn, linesIn, names, namesSize, isNames, readable, stepsRead, stepBytes}
 use Rattle.liberation_texts.proofs.NumberLaws.{digits-few}
 use Rattle.liberation_texts.proofs.StepwiseLaws.{lines-few, lines-count, one-more, stays-bad, bytes-length, bytes-more, SmallStep, line-small}
-use Rattle.plan_reader.specs.declared.Number.{Number}
+use Rattle.plan_fields.specs.declared.Number.{Number}
+use Rattle.plan_fields.specs.Says.{NumberAt}
+use Rattle.plan_fields.proofs.TestLaws.{after}
 use Rattle.plan_reader.specs.declared.Line.{Line}
 use Rattle.plan_reader.specs.declared.Parsed.{Parsed}
-use Rattle.plan_reader.specs.Says.{NumberAt, LineAt, planBytes, Reads, LinesSay, ParseSays}
-use Rattle.plan_reader.proofs.TestLaws.{after}
+use Rattle.plan_reader.specs.Says.{LineAt, planBytes, Reads, LinesSay, ParseSays}
 
 -- where a number ends
 pub number-ends : {t : List ℕ} {at : ℕ} {r : Number} → NumberAt t at r → r .next ≤ at + 3
@@ -189,3 +191,13 @@ module _ (p : ℕ) (t : List ℕ) (r : Parsed) where
       some : (m : ℕ) → (m ≡ 0 → ⊥) → 1 ≤ m
       some zero e = absurd (e refl)
       some (suc m) e = omega arith
+
+-- the names, or fewer bytes than they have
+pub names-short : (t : List ℕ) → length t < 14 → false ≡ same (take 14 t) names
+names-short t h = same-flag false (same (take 14 t) names) (λ e. absurd (no e)) (λ e. absurd (omega (arith, ap length (same-true (take 14 t) names e), length-take 14 t)))
+  where
+    no : false ≡ true → ⊥
+    no e = let z : _≡_ {A = ℕ} 0 1 = ap (λ (x : Bool). pick x 1 0) e in omega arith
+
+pub names-same : (t : List ℕ) (r : Bool) → (r ≡ true → take 14 t ≡ names) → (take 14 t ≡ names → r ≡ true) → r ≡ same (take 14 t) names
+names-same t r f g = same-flag r (same (take 14 t) names) (λ e. ap (λ (x : List ℕ). same x names) (f e) ∙ same-self names) (λ e. g (same-true (take 14 t) names e))

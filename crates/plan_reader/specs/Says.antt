@@ -3,28 +3,15 @@ use mathlib.Core.Path.{_≡_}
 use mathlib.Core.Bool.{Bool, _&&_}
 use mathlib.Core.List.{List, _++_}
 use Prim.Native.Nat.{ℕ, _+_, _-_}
-use lib.Dec.{eqb, leb}
+use lib.Dec.{eqb}
 use lib.ListN.{length, drop, replicate}
 use Rattle.laws.specs.Choice.{pick}
 use Rattle.liberation.specs.Plans.{Step, step}
-use Rattle.liberation_texts.specs.Reading.{digitsIn, numberIn, isNumber, lineIn, linesIn, readable, stepsRead, stepBytes}
-use Rattle.plan_reader.specs.declared.Number.{Number}
+use Rattle.liberation_texts.specs.Reading.{lineIn, linesIn, readable, stepsRead, stepBytes}
 use Rattle.plan_reader.specs.declared.Line.{Line}
 use Rattle.plan_reader.specs.declared.Parsed.{Parsed}
 
--- the number n, whose digits end before place `at`: "Numbers over 255 break the form"
-pub record MadeNumber (n at : ℕ) (r : Number) : Type 0 where
-  pub ok : r .ok ≡ leb n 255
-  pub value : r .value ≡ n
-  pub next : r .next ≡ at
-
--- the number at place `at` of the text t
-pub record NumberAt (t : List ℕ) (at : ℕ) (r : Number) : Type 0 where
-  pub ok : r .ok ≡ isNumber (drop at t)
-  pub value : r .value ≡ numberIn (drop at t)
-  pub next : r .next ≡ at + digitsIn (drop at t)
-
--- the line there
+-- the line at place `at` of the text t
 pub record LineAt (t : List ℕ) (at : ℕ) (r : Line) : Type 0 where
   pub ok : r .ok ≡ lineIn (drop at t) .ok
   pub read : step (r .row) (r .kind) (r .number) ≡ lineIn (drop at t) .read

@@ -1,8 +1,8 @@
 -- `end_at`: the byte at the place, and after CR the one behind it.
 use borrow.Author.Needs.{needs}
-use Rattle.plan_reader.proofs.TestLaws.{end-lf, end-none, end-cr-lf, end-cr}
-use Rattle.plan_reader.proofs.end_at.Statement.{statement}
-use Rattle.plan_reader.proofs.end_at.Tie as tie
+use Rattle.plan_fields.proofs.TestLaws.{end-lf, end-none, end-cr-lf, end-cr}
+use Rattle.plan_fields.proofs.end_at.Statement.{statement}
+use Rattle.plan_fields.proofs.end_at.Tie as tie
 
 byte-at-requires : tie.Need-byte-at-requires
 byte-at-requires c κs = search needs

@@ -5,17 +5,14 @@ use mathlib.Core.List.{List}
 use Prim.Native.Nat.{ℕ, suc, _+_, _-_, _*_, _≤_, _<_}
 use native.Mathlib.Omega.{arith}
 use lib.Dec.{eqb, leb}
-use lib.ListN.{length, getD, take, drop, length-take}
+use lib.ListN.{getD, drop}
 use lib.Seq.{getD-drop}
 use borrow.Author.Tests.{eq-eqb, ne-eqb, le-leb, lt-leb}
 use Rattle.laws.specs.Choice.{pick}
-use Rattle.laws.specs.Lists.{same}
-use Rattle.laws.proofs.Flags.{same-flag}
-use Rattle.laws.proofs.MemberLaws.{same-true, same-self}
-use Rattle.liberation_texts.specs.Reading.{byteAt, isDigit, numberIn, isNumber, endIn, isLetter, isSet, names}
+use Rattle.liberation_texts.specs.Reading.{byteAt, isDigit, numberIn, isNumber, endIn, isLetter, isSet}
 use Rattle.liberation_texts.proofs.StepwiseLaws.{Read, read-none, read-one, read-two, read-three}
-use Rattle.plan_reader.specs.declared.Number.{Number}
-use Rattle.plan_reader.specs.Says.{MadeNumber, NumberAt}
+use Rattle.plan_fields.specs.declared.Number.{Number}
+use Rattle.plan_fields.specs.Says.{MadeNumber, NumberAt}
 
 -- a digit is a byte from 48 to 57
 pub digit-low : (b : ℕ) → b < 48 → false ≡ isDigit b
@@ -128,13 +125,3 @@ module _ (t : List ℕ) (at : ℕ) where
       ap (λ (n : ℕ). eqb n 44) (g ∙ after 2)
       ∙ sym
       (ap₂ (λ (x y : Bool). x && (y && eqb (byteAt (drop at t) 2) 44)) (eq-eqb (byteAt (drop at t) 0) 44 (sym (e ∙ here) ∙ h)) (ap isLetter (sym (f ∙ after 1)) ∙ k))
-
--- the names, or fewer bytes than they have
-pub names-short : (t : List ℕ) → length t < 14 → false ≡ same (take 14 t) names
-names-short t h = same-flag false (same (take 14 t) names) (λ e. absurd (no e)) (λ e. absurd (omega (arith, ap length (same-true (take 14 t) names e), length-take 14 t)))
-  where
-    no : false ≡ true → ⊥
-    no e = let z : _≡_ {A = ℕ} 0 1 = ap (λ (x : Bool). pick x 1 0) e in omega arith
-
-pub names-same : (t : List ℕ) (r : Bool) → (r ≡ true → take 14 t ≡ names) → (take 14 t ≡ names → r ≡ true) → r ≡ same (take 14 t) names
-names-same t r f g = same-flag r (same (take 14 t) names) (λ e. ap (λ (x : List ℕ). same x names) (f e) ∙ same-self names) (λ e. g (same-true (take 14 t) names e))

@@ -2,9 +2,9 @@
 use mathlib.Core.Path.{sym, _∙_}
 use borrow.Author.Tests.{not-true, not-false}
 use borrow.Author.Needs.{needs}
-use Rattle.plan_reader.proofs.TestLaws.{set-no-comma, set-no-letter, set-last}
-use Rattle.plan_reader.proofs.is_set.Statement.{statement}
-use Rattle.plan_reader.proofs.is_set.Tie as tie
+use Rattle.plan_fields.proofs.TestLaws.{set-no-comma, set-no-letter, set-last}
+use Rattle.plan_fields.proofs.is_set.Statement.{statement}
+use Rattle.plan_fields.proofs.is_set.Tie as tie
 
 byte-at-requires : tie.Need-byte-at-requires
 byte-at-requires c κs = search needs

@@ -4,8 +4,8 @@ use mathlib.Core.Bool.{Bool}
 use mathlib.Core.List.{[], _∷_}
 use Rattle.laws.specs.Choice.{pick}
 use Rattle.laws.proofs.OneOf.{is-in, not-in}
-use Rattle.plan_reader.proofs.kind_of.Statement.{statement}
-use Rattle.plan_reader.proofs.kind_of.Tie as tie
+use Rattle.plan_fields.proofs.kind_of.Statement.{statement}
+use Rattle.plan_fields.proofs.kind_of.Tie as tie
 
 returns : tie.Need-returns
 returns c = sym (ap (λ (x : Bool). pick x 0 1) (is-in (c .before .args .letter) 82 (114 ∷ []) (c .match .keys1)))

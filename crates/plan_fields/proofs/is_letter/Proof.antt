@@ -2,8 +2,8 @@
 use mathlib.Core.Path.{sym}
 use mathlib.Core.List.{[], _∷_}
 use Rattle.laws.proofs.OneOf.{is-in, not-in}
-use Rattle.plan_reader.proofs.is_letter.Statement.{statement}
-use Rattle.plan_reader.proofs.is_letter.Tie as tie
+use Rattle.plan_fields.proofs.is_letter.Statement.{statement}
+use Rattle.plan_fields.proofs.is_letter.Tie as tie
 
 returns : tie.Need-returns
 returns c = sym (is-in (c .before .args .byte) 68 (82 ∷ (100 ∷ (114 ∷ []))) (c .match .keys1))

@@ -1,0 +1,2 @@
+-- The tests of the fields of a line.
+pub mod TestLaws

@@ -1,0 +1,2 @@
+-- What reading the fields of a line promises.
+pub mod Says
