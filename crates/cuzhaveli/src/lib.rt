@@ -6,7 +6,8 @@ ghost use Rattle.judge.specs.Says.{JudgeSays};
 ghost use Rattle.plan_files.specs.Says.{JudgeTextSays, WriteSays, PlainSays};
 ghost use Rattle.plan_text.specs.Says.{TextSays};
 ghost use Rattle.space.specs.Says.{SpaceSays};
-ghost use Rattle.stripes.specs.Says.{EncodeSays, CheckSays};
+ghost use Rattle.stripes.specs.Says.{EncodeSays};
+ghost use Rattle.check_stripe.specs.Says.{CheckSays};
 ghost use Rattle.rebuild_one.specs.Says.{OneSays};
 ghost use Rattle.rebuild_two.specs.Says.{TwoSays};
 ghost use Rattle.update.specs.Says.{UpdateSays};
@@ -19,6 +20,7 @@ ghost use Rattle.run_progress.specs.Says.{ProgressSays};
 ghost use Rattle.billing.specs.Bills.{BillSays, RunBillSays};
 ghost use Rattle.state_lists.specs.Reports.{ReportSays};
 use billing::Bill;
+use check_stripe::Checked;
 use judge::Judged;
 use plan_files::Written;
 use plan_text::Text;
@@ -34,7 +36,6 @@ use scrub::Scrubbed;
 use space::Space;
 use state_lists::Board;
 use states::ArrayState;
-use stripes::Checked;
 
 // Our plan for a lost disk.
 #[no_mangle]
@@ -140,7 +141,7 @@ pub extern "C" fn cuzhaveli_encode_stripe(shape: Shape, stripe: &mut [u8]) -> An
 pub extern "C" fn cuzhaveli_check_stripe(shape: Shape, stripe: &[u8]) -> Checked
     ensures { λ r. ⌜ CheckSays (shape .width) (shape .disks) (shape .«cell_size») (now (stripe .entry)) r ⌝ }
 {
-    stripes::check_stripe(shape, stripe)
+    check_stripe::check_stripe(shape, stripe)
 }
 
 // Is a lent stripe clean, is one disk inconsistent with the others, or more than one?

@@ -21,8 +21,9 @@ use Rattle.liberation_stripes.proofs.Encoding.{encoded-stripe, encoded-data, en
 use Rattle.liberation_stripes.proofs.Rebuilding.{one-back, lost-unused, only-read}
 use Rattle.refusals.specs.declared.Answer.{Answer}
 use Rattle.planner.specs.Says.{ListSays}
-use Rattle.stripes.specs.declared.Checked.{Checked}
-use Rattle.stripes.specs.Says.{stripeFault, EncodeSays, CheckSays}
+use Rattle.check_stripe.specs.declared.Checked.{Checked}
+use Rattle.stripes.specs.Says.{stripeFault, EncodeSays}
+use Rattle.check_stripe.specs.Says.{CheckSays}
 use Rattle.stripes.proofs.StripeRefusals.{fault-none as within-limits}
 use Rattle.rebuild_one.specs.Says.{OneSays}
 use Rattle.rebuild_one.proofs.OneRefusals.{Fit, fault-none}

@@ -95,7 +95,7 @@ pub fn scrub_stripe(shape: Shape, stripe: &[u8]) -> Scrubbed
     let width = shape.width;
     let disks = shape.disks;
     let size = shape.cell_size;
-    let checked = stripes::check_stripe(shape, stripe);
+    let checked = check_stripe::check_stripe(shape, stripe);
     if checked.answer.refusal != 0 {
         return found(checked.answer.refusal, 0, 0);
     }

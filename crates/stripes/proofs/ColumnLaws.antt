@@ -1,23 +1,22 @@
 -- All rows as one run: the offsets of row 0's cells are those of the columns, and the XOR of the other columns, put in place of a disk's column, does the steps of all row sets for that disk, since no step reads what another one writes.
 use mathlib.Core.Path.{_≡_, sym, subst, ap, ap₂, _∙_}
-use mathlib.Core.Bool.{Bool, true, _&&_, not}
+use mathlib.Core.Bool.{true, _&&_, not}
 use mathlib.Core.Logic.{_⊎_, ⊎-elim}
 use mathlib.Core.List.{List, _++_, append-nil}
 use Prim.Native.Nat.{ℕ, zero, suc, _+_, _-_, _*_, _≤_, _<_}
 use native.Mathlib.Nat.{mod-lt}
 use native.Mathlib.Omega.{arith}
 use lib.Dec.{eqb, leb}
-use lib.ListN.{length, getD, take, replicate}
+use lib.ListN.{length, getD}
 use borrow.Author.Tests.{eqb-true, eqb-false, leb-true, not-true}
-use Rattle.laws.specs.Lists.{isIn, same}
-use Rattle.laws.specs.Sums.{allTo}
+use Rattle.laws.specs.Lists.{isIn}
 use Rattle.laws.proofs.Flags.{and-l, and-r}
 use Rattle.laws.proofs.MemberLaws.{at-in}
 use Rattle.laws.proofs.OrderLaws.{lt-or-le}
 use Rattle.liberation.specs.Sets.{place, diskAt, rowAt, rowFrom, rowSet, survivingIn}
 use Rattle.liberation.specs.Plans.{allOf}
-use Rattle.liberation.proofs.SetLaws.{place-of, in-row, in-surviving, set-below}
-use Rattle.liberation_stripes.specs.Stripes.{cellAt, withCell, xorOver, without, followed, columnOf, withColumn, setClean, stripeLong}
+use Rattle.liberation.proofs.SetLaws.{place-of, in-row, in-surviving}
+use Rattle.liberation_stripes.specs.Stripes.{cellAt, withCell, xorOver, without, followed, columnOf, withColumn, stripeLong}
 use Rattle.liberation_stripes.proofs.CellLaws.{cell-fits, cells-apart, cell-long, cells-equal, cell-with, cell-other, length-with, column-same, cell-off, column-put}
 use Rattle.liberation_stripes.proofs.OverLaws.{over-ext}
 use Rattle.xor.specs.Parts.{withPart, xorOffsets}
@@ -28,9 +27,8 @@ use Rattle.xor_within.specs.Beside.{Apart}
 use Rattle.offsets.specs.Offsets.{scaled, Pushed}
 use Rattle.offsets.proofs.OffsetLaws.{over-offsets, each-offset}
 use Rattle.offsets.proofs.KeptLaws.{cell-walk, surviving-but}
-use Rattle.offsets.proofs.RunLaws.{run-cell, run-zero}
-use Rattle.set_offsets.proofs.SetLists.{both-pushed, survivors-one, surviving-past}
-use Rattle.stripes.proofs.LoopLaws.{all-same}
+use Rattle.offsets.proofs.RunLaws.{run-cell}
+use Rattle.set_offsets.proofs.SetLists.{both-pushed, survivors-one}
 use Rattle.stripes.proofs.OrdinaryLaws.{others-are, row-own}
 
 -- the cells of row i but that on disk d, as they are pushed
@@ -76,24 +74,6 @@ module _ (p k s f : ℕ) (some : 0 < p) where
           fits = omega (arith, cell-fits (k + 2) (p * s) f l);
           apart = each (λ a. (a + p * s ≤ f * (p * s)) ⊎ (f * (p * s) + p * s ≤ a)) (λ c b n. cells-apart (p * s) c f n);
         }
-
--- the row sets of a stripe as one test: there is no disk past Q, so no cell is left out
-module _ (p k s : ℕ) (t : List ℕ) (some : 0 < p) (long : length t ≡ stripeLong p k s) where
-  whole : (i : ℕ) → i < p → survivingIn p (k + 2) (rowFrom (suc k) p i 0) ≡ rowSet p k i
-  unfolding rowSet
-  whole i h = surviving-past p (k + 2) (rowSet p k i) (set-below p k 0 i h)
-
-  pub first-row : {old at : List ℕ} {n : ℕ} → Pushed old at 0 n (scaled s (rowFrom (k + 1 - 0) p 0 0)) → take n at ≡ scaled s (survivingIn p (k + 2) (rowSet p k 0))
-  unfolding rowSet
-  first-row u = let e : k + 1 - 0 ≡ suc k = omega arith in u .list ∙ ap (λ (j : ℕ). scaled s (rowFrom j p 0 0)) e ∙ ap (scaled s) (sym (whole 0 some))
-
-  pub rows-clean : (at : List ℕ) (r : Bool) → at ≡ scaled s (survivingIn p (k + 2) (rowSet p k 0)) → Reached (p * s) (length t) at → r ≡ same (xorOffsets (p * s) t at) (replicate (p * s) 0) → r ≡ allTo p (λ i. setClean p k s t 0 i)
-  unfolding rowSet
-  rows-clean at r e reach h =
-      h
-      ∙ ap (λ (l : List ℕ). same (xorOffsets (p * s) t l) (replicate (p * s) 0)) e
-      ∙ run-zero s p (k + 2) (suc k) t (subst (λ (l : List ℕ). Reached (p * s) (length t) l) e reach .inside)
-      ∙ all-same p (λ i b. ap (λ (l : List ℕ). same l (replicate s 0)) (ap (λ (xs : List ℕ). xorOffsets s t (scaled s xs)) (whole i b) ∙ over-offsets s t (rowSet p k i)))
 
 -- the steps of the row sets for disk d, a data disk or P
 module _ (p k s d : ℕ) (t : List ℕ) (some : 0 < p) (disk : d ≤ k) (long : length t ≡ stripeLong p k s) (reach : Reached (p * s) (length t) (scaled s (survivingIn p d (rowSet p k 0)))) where

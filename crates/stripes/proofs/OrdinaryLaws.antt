@@ -7,10 +7,10 @@ use Prim.Native.Nat.{ℕ, suc, _+_, _*_, _%_, _≤_, _<_}
 use native.Mathlib.Nat.{mod-lt}
 use native.Mathlib.Omega.{arith}
 use lib.Dec.{eqb, ltb, leb}
-use lib.ListN.{length, getD, take, replicate}
+use lib.ListN.{length, getD, take}
 use borrow.Author.Tests.{eq-eqb, ne-eqb, eqb-true, le-leb}
 use Rattle.laws.specs.Choice.{pick}
-use Rattle.laws.specs.Lists.{isIn, allBelow, same}
+use Rattle.laws.specs.Lists.{isIn, allBelow}
 use Rattle.laws.proofs.Flags.{and-i, or-l, or-r, clash, same-flag}
 use Rattle.laws.proofs.ListLaws.{isIn-append}
 use Rattle.laws.proofs.MemberLaws.{at-in, in-below}
@@ -19,7 +19,7 @@ use Rattle.liberation.specs.Sets.{place, diskAt, rowAt, rowSet, ordinary, hasEx
 use Rattle.liberation.proofs.SetLaws.{disk-place, place-of, in-row, in-ordinary, in-ordinary-data, set-below}
 use Rattle.liberation.proofs.DistinctLaws.{extra-apart}
 use Rattle.liberation.proofs.PlaceLaws.{disk-below}
-use Rattle.liberation_stripes.specs.Stripes.{without, solved, setClean, stripeLong}
+use Rattle.liberation_stripes.specs.Stripes.{without, solved, stripeLong}
 use Rattle.liberation_stripes.proofs.CellLaws.{cell-fits, cells-apart}
 use Rattle.liberation_stripes.proofs.OverLaws.{without-keeps, without-none}
 use Rattle.xor.specs.Parts.{withPart, xorOffsets}
@@ -29,7 +29,7 @@ use Rattle.offsets.specs.Offsets.{scaled, Pushed}
 use Rattle.offsets.proofs.OffsetLaws.{length-scaled, over-offsets, each-offset, cells-reached}
 use Rattle.offsets.proofs.KeptLaws.{surviving-keeps}
 use Rattle.set_offsets.specs.Cells.{survivors, ordinaryOf, extraIn}
-use Rattle.set_offsets.proofs.SetLists.{survivors-one, survivors-past, set-split, extra-kept, own-row}
+use Rattle.set_offsets.proofs.SetLists.{survivors-one, set-split, extra-kept, own-row}
 use Rattle.stripes.specs.Cells.{Ordinary}
 
 -- the set without its ordinary cell on disk c
@@ -107,14 +107,6 @@ module _ (p k kind i c r : ℕ) (o : Ordinary p k kind i c r) where
 
     pub others-solve : (u : List ℕ) → u ≡ withPart s (place p r c * s) (xorOffsets s t (take n at)) t → u ≡ solved s (place p r c) (setOf p k kind i) t
     others-solve u e = step-put s (place p r c) n (setOf p k kind i) old at t u list e
-
--- all cells of a set are pushed where no disk is lost, so their XOR tells whether the set is clean
-pub none-lost : (p k s kind i n : ℕ) (old at t : List ℕ) (r : Bool) → i < p → Pushed old at 0 n (scaled s (survivors p (k + 2) (k + 2) (setOf p k kind i))) → r ≡ same (xorOffsets s t (take n at)) (replicate s 0) → r ≡ setClean p k s t kind i
-none-lost p k s kind i n old at t r numbered pushed h =
-    h
-    ∙ ap (λ (l : List ℕ). same l (replicate s 0))
-    (ap (xorOffsets s t) (pushed .list ∙ ap (scaled s) (survivors-past p (k + 2) (setOf p k kind i) (set-below p k kind i numbered)))
-    ∙ over-offsets s t (setOf p k kind i))
 
 -- ordinary cells: of a row set on each data disk and P, of a diagonal set on each data disk and Q
 pub row-own : (p k i c : ℕ) → i < p → c ≤ k → Ordinary p k 0 i c i

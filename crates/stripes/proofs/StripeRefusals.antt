@@ -1,12 +1,11 @@
--- Refusals 1, 13, 2 and 5 of a call on a stripe, and the promises of the calls from what was refused or done.
-use mathlib.Core.Path.{_≡_, sym, ap, ap₂, _∙_}
-use mathlib.Core.Bool.{Bool, true, false, _&&_}
+-- Refusals 1, 13, 2 and 5 of a call on a stripe, and the promise of encoding from what was refused or done.
+use mathlib.Core.Path.{_≡_, sym, ap₂, _∙_}
+use mathlib.Core.Bool.{true}
 use mathlib.Core.List.{List}
 use Prim.Native.Nat.{ℕ, suc, _+_, _*_, _≤_, _<_}
 use native.Mathlib.Omega.{arith}
-use Rattle.laws.specs.Sums.{allTo}
 use Rattle.laws.specs.Xor.{allBytes}
-use Rattle.laws.proofs.ChoiceLaws.{first-none, pick-refused, pick-done, and-refused, and-done}
+use Rattle.laws.proofs.ChoiceLaws.{first-none, pick-refused, pick-done}
 use Rattle.liberation.specs.Sets.{longFault, diskFault, shapeFault, numbersFault}
 use Rattle.liberation.specs.Plans.{Step, allOf}
 use Rattle.liberation.proofs.Widths.{width-least, width-most}
@@ -15,9 +14,9 @@ use Rattle.liberation.proofs.ParityPlans.{plan-row-parity, plan-diagonal-parity
 use Rattle.refusals.specs.declared.Answer.{Answer}
 use Rattle.refusals.specs.Answers.{Answers}
 use Rattle.refusals.proofs.AnswerLaws.{answers-as}
-use Rattle.liberation_stripes.specs.Stripes.{stripeLong, encoded, followed, clean, setClean}
+use Rattle.liberation_stripes.specs.Stripes.{stripeLong, encoded, followed}
 use Rattle.stripes.specs.Cells.{Sized}
-use Rattle.stripes.specs.Says.{stripeFault, EncodeSays, CheckSays}
+use Rattle.stripes.specs.Says.{stripeFault, EncodeSays}
 
 -- a stripe within the limits, with a disk of it, has few enough bytes to count
 pub numbers-most : (p k s f : ℕ) → numbersFault p k s f ≡ 0 → (p ≤ 31) × (k ≤ p) × (p * s ≤ 126976) × ((k + 2) * (p * s) ≤ 4190208)
@@ -54,19 +53,3 @@ encode-done p k s t u v r z e q a b =
       stripe = both-kinds p k s t u v e q ∙ pick-done (stripeFault p k s t) (encoded p k s t) t z;
       bytes = b;
     }
-
-pub check-refused : (p k s n : ℕ) (t : List ℕ) (a : Answer) → n ≡ stripeFault p k s t → (n ≡ 0 → ⊥) → Answers n a → allBytes t ≡ true → CheckSays p k s t (record { answer = a; clean = false })
-check-refused p k s n t a e z h b = record { answer = answers-as n (stripeFault p k s t) a e h; clean = and-refused n (stripeFault p k s t) (clean p k s t) e z; bytes = b }
-
--- not refused
-pub check-done : (p k s : ℕ) (t : List ℕ) (a : Answer) (b : Bool) → stripeFault p k s t ≡ 0 → Answers 0 a → b ≡ clean p k s t → allBytes t ≡ true → CheckSays p k s t (record { answer = a; clean = b })
-check-done p k s t a b z h e y = record { answer = answers-as 0 (stripeFault p k s t) a (sym z) h; clean = e ∙ and-done (stripeFault p k s t) (clean p k s t) z; bytes = y }
-
--- clean if the sets of both kinds are: a row set is not, or the diagonal sets decide
-pub clean-rows : (p k s : ℕ) (t : List ℕ) (b : Bool) → b ≡ allTo p (λ i. setClean p k s t 0 i) → b ≡ false → false ≡ clean p k s t
-unfolding clean
-clean-rows p k s t b e f = sym (ap (λ (x : Bool). x && allTo p (λ i. setClean p k s t 1 i)) (sym e ∙ f))
-
-pub clean-both : (p k s : ℕ) (t : List ℕ) (b d : Bool) → b ≡ allTo p (λ i. setClean p k s t 0 i) → b ≡ true → d ≡ allTo p (λ i. setClean p k s t 1 i) → d ≡ clean p k s t
-unfolding clean
-clean-both p k s t b d e f q = q ∙ sym (ap (λ (x : Bool). x && allTo p (λ i. setClean p k s t 1 i)) (sym e ∙ f))

@@ -1,3 +1,3 @@
--- What encoding and checking a stripe promise.
+-- What encoding a stripe promises, and what its steps ask.
 pub mod Cells
 pub mod Says

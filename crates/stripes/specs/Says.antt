@@ -1,18 +1,17 @@
--- The promises of the two public calls, for accepted and refused calls alike. Stripes have p rows and k data disks.
+-- The refusals of a call on a stripe, and the promise of encoding, for accepted and refused calls alike. Stripes have p rows and k data disks.
 use mathlib.Core.Path.{_≡_}
-use mathlib.Core.Bool.{true, _&&_}
+use mathlib.Core.Bool.{true}
 use mathlib.Core.List.{List}
 use Prim.Native.Nat.{ℕ}
 use lib.Dec.{eqb}
 use Rattle.laws.specs.Choice.{pick, firstOf}
 use Rattle.laws.specs.Xor.{allBytes}
 use Rattle.liberation.specs.Sets.{shapeFault, longFault}
-use Rattle.liberation_stripes.specs.Stripes.{stripeLong, encoded, clean}
+use Rattle.liberation_stripes.specs.Stripes.{stripeLong, encoded}
 use Rattle.refusals.specs.declared.Answer.{Answer}
 use Rattle.refusals.specs.Answers.{Answers}
-use Rattle.stripes.specs.declared.Checked.{Checked}
 
--- both calls refuse by 1, 13, 2 and 5
+-- encoding, the check and the scrub refuse by 1, 13, 2 and 5
 abbrev pub stripeFault : ℕ → ℕ → ℕ → List ℕ → ℕ
 stripeFault p k s t = firstOf (shapeFault p k s) (longFault (stripeLong p k s) t)
 
@@ -20,11 +19,5 @@ stripeFault p k s t = firstOf (shapeFault p k s) (longFault (stripeLong p k s) t
 pub record EncodeSays (p k s : ℕ) (t t′ : List ℕ) (r : Answer) : Type 0 where
   pub answer : Answers (stripeFault p k s t) r
   pub stripe : t′ ≡ pick (eqb (stripeFault p k s t) 0) (encoded p k s t) t
-  -- what was lent are bytes
-  pub bytes : allBytes t ≡ true
-
-pub record CheckSays (p k s : ℕ) (t : List ℕ) (r : Checked) : Type 0 where
-  pub answer : Answers (stripeFault p k s t) (r .answer)
-  pub clean : r .clean ≡ (eqb (stripeFault p k s t) 0 && clean p k s t)
   -- what was lent are bytes
   pub bytes : allBytes t ≡ true

@@ -1,25 +1,17 @@
-// Encoding a stripe, which writes P and Q, and checking whether a stripe is clean.
+// Encoding a stripe, which writes P and Q, and its steps: one cell by its set, all cells of a disk by their sets.
 ghost use mathlib.Core.Path.{_≡_};
 ghost use mathlib.Core.Bool.{not};
 ghost use Prim.Native.Nat.{_+_, _≤_, _<_};
 ghost use lib.Dec.{eqb};
 ghost use lib.ListN.{length};
 ghost use Rattle.laws.specs.Choice.{firstOf, when};
-ghost use Rattle.laws.specs.Sums.{allTo};
 ghost use Rattle.liberation.specs.Sets.{place, setOf, shapeFault};
 ghost use Rattle.liberation.specs.Plans.{allOf};
-ghost use Rattle.liberation_stripes.specs.Stripes.{solved, followed, setClean, clean, stripeLong};
+ghost use Rattle.liberation_stripes.specs.Stripes.{solved, followed, stripeLong};
 ghost use Rattle.stripes.specs.Cells.{Sized, Ordinary};
-ghost use Rattle.stripes.specs.Says.{EncodeSays, CheckSays};
+ghost use Rattle.stripes.specs.Says.{EncodeSays};
 use refusals::Answer;
 use refusals::Shape;
-
-// The answer, and whether the stripe is clean.
-#[repr(C)]
-pub struct Checked {
-    pub answer: Answer,
-    pub clean: bool,
-}
 
 // A set's ordinary cell, of this disk and row, becomes the XOR of the other cells of the set, by a lent list.
 pub fn solve_by(
@@ -85,62 +77,8 @@ pub fn solve_diagonals(width: usize, disks: usize, size: usize, stripe: &mut [u8
     }
 }
 
-// Do the cells of every row set XOR to zero? One run of bytes over the columns of the data disks and P.
-fn rows_are_clean(width: usize, disks: usize, size: usize, stripe: &[u8]) -> bool
-    requires { ⌜ Sized width disks size (now stripe) × (0 < width) ⌝ }
-    ensures { λ r. ⌜ r ≡ allTo width (λ i. setClean width disks size (now (stripe .entry)) 0 i) ⌝ }
-{
-    let mut at = offsets::no_offsets();
-    let n = offsets::push_row(width, size, 0, 0, disks + 1, &mut at, 0);
-    xor::is_zero(stripe, width * size, &at[..n])
-}
-
-// Do the cells of a diagonal set XOR to zero? There is no disk past Q, so all are pushed.
-fn diagonal_is_clean(
-    width: usize,
-    disks: usize,
-    size: usize,
-    number: usize,
-    stripe: &[u8],
-    at: &mut [usize],
-) -> bool
-    requires { ⌜ Sized width disks size (now stripe) × (number < width) × (length (now at) ≡ 33) ⌝ }
-    ensures { λ r. ⌜ r ≡ setClean width disks size (now (stripe .entry)) 1 number ⌝ }
-{
-    let none = disks + 2;
-    let n = set_offsets::surviving(width, disks, size, 1, number, none, none, at);
-    xor::is_zero(stripe, size, &at[..n])
-}
-
-// Do the cells of every diagonal set XOR to zero?
-fn diagonals_are_clean(width: usize, disks: usize, size: usize, stripe: &[u8]) -> bool
-    requires { ⌜ Sized width disks size (now stripe) ⌝ }
-    ensures { λ r. ⌜ r ≡ allTo width (λ i. setClean width disks size (now (stripe .entry)) 1 i) ⌝ }
-{
-    let mut at = offsets::no_offsets();
-    let mut number = 0;
-    while number < width {
-        if !diagonal_is_clean(width, disks, size, number, stripe, &mut at) {
-            return false;
-        }
-        number += 1;
-    }
-    true
-}
-
-// Do all sets XOR to zero? The diagonal sets are looked at where the row sets do.
-fn is_clean(width: usize, disks: usize, size: usize, stripe: &[u8]) -> bool
-    requires { ⌜ Sized width disks size (now stripe) × (0 < width) ⌝ }
-    ensures { λ r. ⌜ r ≡ clean width disks size (now (stripe .entry)) ⌝ }
-{
-    if !rows_are_clean(width, disks, size, stripe) {
-        return false;
-    }
-    diagonals_are_clean(width, disks, size, stripe)
-}
-
 // The refusal of a call on a stripe of `long` bytes, 0 for none.
-fn stripe_fault(width: usize, disks: usize, size: usize, long: usize) -> u8
+pub fn stripe_fault(width: usize, disks: usize, size: usize, long: usize) -> u8
     ensures { λ r. ⌜ r ≡ firstOf (shapeFault width disks size) (when (not (eqb long (stripeLong width disks size))) 5) ⌝ }
 {
     let fault = refusals::shape_fault(width, disks, size);
@@ -167,22 +105,4 @@ pub fn encode_stripe(shape: Shape, stripe: &mut [u8]) -> Answer
     );
     solve_diagonals(shape.width, shape.disks, shape.cell_size, stripe);
     refusals::answered(0)
-}
-
-// Is a stripe clean? Refusals: 1, 13, 2, 5.
-pub fn check_stripe(shape: Shape, stripe: &[u8]) -> Checked
-    ensures { λ r. ⌜ CheckSays (shape .width) (shape .disks) (shape .«cell_size») (now (stripe .entry)) r ⌝ }
-{
-    let refusal = stripe_fault(shape.width, shape.disks, shape.cell_size, stripe.len());
-    if refusal != 0 {
-        return Checked {
-            answer: refusals::answered(refusal),
-            clean: false,
-        };
-    }
-    let clean = is_clean(shape.width, shape.disks, shape.cell_size, stripe);
-    Checked {
-        answer: refusals::answered(0),
-        clean,
-    }
 }

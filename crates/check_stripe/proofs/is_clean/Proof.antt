@@ -1,9 +1,9 @@
 -- `is_clean`: the sets of both kinds, the diagonals only where all rows are clean.
 use borrow.Author.Tests.{not-true, not-false}
 use borrow.Author.Needs.{needs}
-use Rattle.stripes.proofs.StripeRefusals.{clean-rows, clean-both}
-use Rattle.stripes.proofs.is_clean.Statement.{statement}
-use Rattle.stripes.proofs.is_clean.Tie as tie
+use Rattle.check_stripe.proofs.CheckLaws.{clean-rows, clean-both}
+use Rattle.check_stripe.proofs.is_clean.Statement.{statement}
+use Rattle.check_stripe.proofs.is_clean.Tie as tie
 
 rows-are-clean-requires : tie.Need-rows-are-clean-requires
 rows-are-clean-requires c κs = search needs

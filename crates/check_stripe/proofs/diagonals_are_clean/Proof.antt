@@ -7,9 +7,9 @@ use lib.ListN.{length}
 use borrow.Author.Needs.{needs}
 use Rattle.laws.specs.Sums.{allTo}
 use Rattle.liberation_stripes.specs.Stripes.{setClean}
 use Rattle.stripes.proofs.LoopLaws.{all-start, all-more, all-fails, all-seen}
-use Rattle.stripes.proofs.diagonals_are_clean.Statement.{statement}
-use Rattle.stripes.proofs.diagonals_are_clean.Tie as tie
+use Rattle.check_stripe.proofs.diagonals_are_clean.Statement.{statement}
+use Rattle.check_stripe.proofs.diagonals_are_clean.Tie as tie
 
 abbrev Inv-loop : tie.InvT-loop
 Inv-loop width disks size stripe at₀ number₀ at number = (number ≤ width) × (length at ≡ 33) × (allTo number (λ j. setClean width disks size stripe 1 j) ≡ true)

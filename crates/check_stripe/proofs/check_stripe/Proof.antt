@@ -5,11 +5,12 @@ use Prim.Native.Nat.{_<_}
 use borrow.Author.Needs.{needs}
 use Rattle.laws.specs.Xor.{allBytes}
 use Rattle.xor.proofs.SourceLaws.{bytes-all}
 use Rattle.stripes.specs.Cells.{Sized}
 use Rattle.stripes.specs.Says.{stripeFault}
-use Rattle.stripes.proofs.StripeRefusals.{fault-none, check-refused, check-done}
-use Rattle.stripes.proofs.check_stripe.Statement.{statement}
-use Rattle.stripes.proofs.check_stripe.Tie as tie
+use Rattle.stripes.proofs.StripeRefusals.{fault-none}
+use Rattle.check_stripe.proofs.CheckLaws.{check-refused, check-done}
+use Rattle.check_stripe.proofs.check_stripe.Statement.{statement}
+use Rattle.check_stripe.proofs.check_stripe.Tie as tie
 
 -- past the refusals
 passed : (c : tie.Else1) → let a = c .before .before .before .args in stripeFault (a .shape .width) (a .shape .disks) (a .shape .«cell_size») (a .stripe .now) ≡ 0

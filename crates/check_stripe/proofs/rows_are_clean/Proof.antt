@@ -7,9 +7,10 @@ use lib.Seq.{length-take-le}
 use borrow.Author.Needs.{needs}
 use Rattle.xor.specs.Reach.{Reached}
 use Rattle.liberation_stripes.proofs.CellLaws.{cell-fits}
-use Rattle.stripes.proofs.ColumnLaws.{columns-reached, first-row, rows-clean}
-use Rattle.stripes.proofs.rows_are_clean.Statement.{statement}
-use Rattle.stripes.proofs.rows_are_clean.Tie as tie
+use Rattle.stripes.proofs.ColumnLaws.{columns-reached}
+use Rattle.check_stripe.proofs.CheckLaws.{first-row, rows-clean}
+use Rattle.check_stripe.proofs.rows_are_clean.Statement.{statement}
+use Rattle.check_stripe.proofs.rows_are_clean.Tie as tie
 
 -- the numbers of the list that are in use
 long : (c : tie.After-push-row) → length (take (c .push-row .result) (c .push-row .last .1 .1 .1 .1 .1 .0)) ≡ c .push-row .result

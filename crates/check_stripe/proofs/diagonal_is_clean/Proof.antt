@@ -5,9 +5,9 @@ use lib.ListN.{length}
 use lib.Seq.{length-take-le}
 use borrow.Author.Needs.{needs}
 use Rattle.set_offsets.proofs.SetLists.{size-fits, survivors-reached}
-use Rattle.stripes.proofs.OrdinaryLaws.{none-lost}
-use Rattle.stripes.proofs.diagonal_is_clean.Statement.{statement}
-use Rattle.stripes.proofs.diagonal_is_clean.Tie as tie
+use Rattle.check_stripe.proofs.CheckLaws.{none-lost}
+use Rattle.check_stripe.proofs.diagonal_is_clean.Statement.{statement}
+use Rattle.check_stripe.proofs.diagonal_is_clean.Tie as tie
 
 -- the list is as long as before
 room : (c : tie.After-surviving) → length (c .surviving .last .1 .1 .1 .1 .1 .1 .1 .0) ≡ 33

@@ -1,0 +1,2 @@
+-- The sets of a stripe tested, and the promise of the check.
+pub mod CheckLaws

@@ -1,0 +1,2 @@
+-- What checking a stripe promises.
+pub mod Says
