@@ -24,8 +24,8 @@ use Rattle.sets.proofs.MarkLaws.{marked-read, marked-few}
 use Rattle.liberation.proofs.MarkLists.{length-marks, mark-set}
 use Rattle.refusals.specs.declared.Answer.{Answer}
 use Rattle.refusals.specs.Answers.{Answers}
+use Rattle.judge_step.proofs.StepRefusals.{outOfForm}
 use Rattle.judge.specs.Says.{StepsSay}
-use Rattle.judge.proofs.StepRefusals.{outOfForm}
 
 -- a step that is not refused is in form
 pub record InForm (p : ℕ) (s : Step) : Type 0 where

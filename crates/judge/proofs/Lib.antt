@@ -1,5 +1,4 @@
 -- The laws that the judge's proofs plug their places into.
-pub mod StepRefusals
 pub mod JudgingLoop
 pub mod FormRefusals
 pub mod AcceptLaws

@@ -1,3 +1,2 @@
--- What the judge promises, and what its functions ask of width and lost disk.
+-- What the judge promises.
 pub mod Says
-pub mod Limits

@@ -11,7 +11,7 @@ use Rattle.liberation.specs.Sets.{planFault, longFault}
 use Rattle.liberation.proofs.Widths.{width-least, width-most}
 use Rattle.liberation.proofs.FaultLaws.{plan-of, long-of}
 use Rattle.liberation.proofs.MarkLists.{length-marks, take-marks, cells-most}
-use Rattle.judge.specs.Limits.{InArray}
+use Rattle.judge_step.specs.Limits.{InArray}
 use Rattle.judge.specs.Says.{formFault}
 use Rattle.judge.proofs.FormRefusals.{form-refused, steps-decide}
 use Rattle.judge.proofs.judge_plan.Statement.{statement}

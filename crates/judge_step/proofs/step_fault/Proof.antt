@@ -13,9 +13,9 @@ use Rattle.laws.specs.Lists.{isIn}
 use Rattle.liberation.specs.Sets.{setOf, lostIn}
 use Rattle.liberation.specs.Judging.{stepFault}
 use Rattle.liberation.specs.Plans.{step, marksFrom}
-use Rattle.judge.proofs.StepRefusals.{there, outOfForm, row-out, number-out, kind-out, all-in-form, byte-one, fault-is}
-use Rattle.judge.proofs.step_fault.Statement.{statement}
-use Rattle.judge.proofs.step_fault.Tie as tie
+use Rattle.judge_step.proofs.StepRefusals.{there, outOfForm, row-out, number-out, kind-out, all-in-form, byte-one, fault-is}
+use Rattle.judge_step.proofs.step_fault.Statement.{statement}
+use Rattle.judge_step.proofs.step_fault.Tie as tie
 
 returns : tie.Need-returns
 returns c = λ ds e.

@@ -4,9 +4,9 @@ use Prim.Native.Nat.{_%_, _<_}
 use native.Mathlib.Nat.{mod-lt}
 use native.Mathlib.Omega.{arith}
 use borrow.Author.Needs.{needs}
-use Rattle.judge.proofs.StepRefusals.{there-elsewhere, there-itself, there-other, byte-none}
-use Rattle.judge.proofs.is_missing.Statement.{statement}
-use Rattle.judge.proofs.is_missing.Tie as tie
+use Rattle.judge_step.proofs.StepRefusals.{there-elsewhere, there-itself, there-other, byte-none}
+use Rattle.judge_step.proofs.is_missing.Statement.{statement}
+use Rattle.judge_step.proofs.is_missing.Tie as tie
 
 div-if1 : tie.Need-div-if1
 div-if1 c = search needs

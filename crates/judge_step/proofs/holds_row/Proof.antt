@@ -9,8 +9,8 @@ use Rattle.laws.proofs.SearchLaws.{seek-turn, seek-here, seek-end}
 use Rattle.liberation.specs.Sets.{place, setOf}
 use Rattle.liberation.proofs.SetLaws.{in-lost}
 use Rattle.liberation.proofs.SetSizes.{place-small}
-use Rattle.judge.proofs.holds_row.Statement.{statement}
-use Rattle.judge.proofs.holds_row.Tie as tie
+use Rattle.judge_step.proofs.holds_row.Statement.{statement}
+use Rattle.judge_step.proofs.holds_row.Tie as tie
 
 abbrev Inv-loop : tie.InvT-loop
 Inv-loop width disks lost row kind number wanted size at₀ at =

@@ -7,9 +7,9 @@ use lib.ListN.{length, drop}
 use borrow.Author.Needs.{needs}
 use Rattle.liberation.specs.Sets.{setOf}
 use Rattle.liberation.specs.Plans.{marksFrom}
-use Rattle.judge.proofs.StepRefusals.{there, there-turn, there-stop, there-end}
-use Rattle.judge.proofs.others_there.Statement.{statement}
-use Rattle.judge.proofs.others_there.Tie as tie
+use Rattle.judge_step.proofs.StepRefusals.{there, there-turn, there-stop, there-end}
+use Rattle.judge_step.proofs.others_there.Statement.{statement}
+use Rattle.judge_step.proofs.others_there.Tie as tie
 
 abbrev Inv-loop : tie.InvT-loop
 Inv-loop width disks lost row kind number done size at₀ at =

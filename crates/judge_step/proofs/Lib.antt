@@ -1,0 +1,2 @@
+-- The refusal of one step.
+pub mod StepRefusals
