@@ -24,8 +24,9 @@ use Rattle.liberation_updates.proofs.Updating.{updated-stripe, updated-new, upd
 use Rattle.refusals.specs.declared.Answer.{Answer}
 use Rattle.refusals.proofs.AnswerLaws.{answers-none}
 use Rattle.stripes.specs.Says.{stripeFault, EncodeSays}
-use Rattle.update.specs.Says.{DataCell, dataFault, updateFault, UpdateSays}
-use Rattle.update.proofs.CellPlaces.{own-fits}
+use Rattle.update_parity.specs.Cells.{DataCell}
+use Rattle.update_parity.proofs.CellPlaces.{own-fits}
+use Rattle.update.specs.Says.{dataFault, updateFault, UpdateSays}
 use Rattle.update.proofs.UpdateRefusals.{lastFaults, fault-none}
 
 -- The parity cells of data cell (r, c): "its P cell and the Q cells of the diagonals holding it".

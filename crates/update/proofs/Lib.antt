@@ -1,4 +1,3 @@
--- Laws: the cells that an update reads and writes, bytes added from cell to cell, the refusals.
-pub mod CellPlaces
-pub mod FromCell
+-- The update in place, and the promise from what was refused or done.
+pub mod PutLaws
 pub mod UpdateRefusals

@@ -18,7 +18,8 @@ use Rattle.liberation_updates.specs.Updates.{updated}
 use Rattle.refusals.specs.declared.Answer.{Answer}
 use Rattle.refusals.specs.Answers.{Answers}
 use Rattle.refusals.proofs.AnswerLaws.{answers-as}
-use Rattle.update.specs.Says.{DataCell, dataFault, rowFault, lengthsFault, updateFault, UpdateSays}
+use Rattle.update_parity.specs.Cells.{DataCell}
+use Rattle.update.specs.Says.{dataFault, rowFault, lengthsFault, updateFault, UpdateSays}
 
 pub row-refused : (p r : ℕ) → p ≤ r → 15 ≡ rowFault p r
 row-refused p r h = sym (ap (λ (b : Bool). when b 15) (le-leb p r h))

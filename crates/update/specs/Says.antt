@@ -1,8 +1,8 @@
--- The promise of `update_cell` (document 02, ask 4), for accepted and refused calls alike, and what the functions below it ask: p rows, k data disks, cells of s bytes.
+-- The promise of `update_cell` (document 02, ask 4), for accepted and refused calls alike: p rows, k data disks, cells of s bytes.
 use mathlib.Core.Path.{_≡_}
 use mathlib.Core.Bool.{true, not}
 use mathlib.Core.List.{List}
-use Prim.Native.Nat.{ℕ, _%_, _≤_, _<_}
+use Prim.Native.Nat.{ℕ}
 use lib.Dec.{eqb, leb}
 use lib.ListN.{length}
 use Rattle.laws.specs.Choice.{pick, when, firstOf}
@@ -12,15 +12,6 @@ use Rattle.liberation_stripes.specs.Stripes.{stripeLong}
 use Rattle.liberation_updates.specs.Updates.{updated}
 use Rattle.refusals.specs.declared.Answer.{Answer}
 use Rattle.refusals.specs.Answers.{Answers}
-
--- row r of data disk c is a cell of the stripe t, within the widest array
-pub record DataCell (p k s r c : ℕ) (t : List ℕ) : Type 0 where
-  pub odd : p % 2 ≡ 1
-  pub widest : p ≤ 31
-  pub disks : k ≤ p
-  pub row : r < p
-  pub disk : c < k
-  pub long : length t ≡ stripeLong p k s
 
 -- "P and Q as the disk give refusal 3"; "15: row p or more"
 abbrev pub dataFault : ℕ → ℕ → ℕ

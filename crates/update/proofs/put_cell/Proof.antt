@@ -12,8 +12,8 @@ use Rattle.liberation_stripes.specs.Stripes.{withCell}
 use Rattle.xor.specs.Parts.{part}
 use Rattle.xor.proofs.PartLaws.{put-part}
 use Rattle.xor.proofs.SourceLaws.{bytes-all}
-use Rattle.update.proofs.CellPlaces.{places-small, own-fits}
-use Rattle.update.proofs.FromCell.{change-put, cell-put}
+use Rattle.update_parity.proofs.CellPlaces.{places-small, own-fits}
+use Rattle.update.proofs.PutLaws.{change-put, cell-put}
 use Rattle.update.proofs.put_cell.Statement.{statement}
 use Rattle.update.proofs.put_cell.Tie as tie
 

@@ -10,7 +10,7 @@ use Rattle.liberation.specs.Sets.{place}
 use Rattle.liberation.specs.Plans.{diagonalOf}
 use Rattle.liberation.proofs.SetLaws.{place-below}
 use Rattle.liberation_stripes.proofs.CellLaws.{cell-fits}
-use Rattle.update.specs.Says.{DataCell}
+use Rattle.update_parity.specs.Cells.{DataCell}
 
 -- (r - c) mod p, where c ≤ r and where not
 pub diagonal-low : (p r c : ℕ) → r < p → c ≤ r → r - c ≡ diagonalOf p c r

@@ -2,11 +2,11 @@
 use Prim.Native.Nat.{_+_, _*_, _≤_, _<_}
 use native.Mathlib.Omega.{arith}
 use borrow.Author.Needs.{needs}
-use Rattle.update.specs.Says.{DataCell}
-use Rattle.update.proofs.CellPlaces.{diagonal-below, places-small, row-fits, diagonal-fits}
-use Rattle.update.proofs.FromCell.{same-cell, added-once, added-twice}
-use Rattle.update.proofs.add_to_parity.Statement.{statement}
-use Rattle.update.proofs.add_to_parity.Tie as tie
+use Rattle.update_parity.specs.Cells.{DataCell}
+use Rattle.update_parity.proofs.CellPlaces.{diagonal-below, places-small, row-fits, diagonal-fits}
+use Rattle.update_parity.proofs.FromCell.{same-cell, added-once, added-twice}
+use Rattle.update_parity.proofs.add_to_parity.Statement.{statement}
+use Rattle.update_parity.proofs.add_to_parity.Tie as tie
 
 small : (c : tie.Start) → let a = c .args in (a .disk * a .width ≤ 961) × (a .disks * a .width ≤ 961) × ((a .disks + 1) * a .width ≤ 992)
 small c = let a = c .args in places-small (a .width) (a .disks) (a .size) (a .row) (a .disk) (a .stripe .now) (c .pre)

@@ -1,4 +1,4 @@
--- Bytes added from one cell to others: one gather of two offsets is one addition, and the additions in a row are the list's. With the change in the data cell this is the update in place.
+-- Bytes added from one cell to others: one gather of two offsets is one addition, and the additions in a row are the list's.
 use mathlib.Core.Path.{_≡_, sym, ap, ap₂, _∙_}
 use mathlib.Core.Bool.{Bool, true}
 use mathlib.Core.Logic.{_⊎_, inl, inr}
@@ -7,7 +7,6 @@ use Prim.Native.Nat.{ℕ, zero, suc, _+_, _-_, _*_, _≤_, _<_}
 use native.Mathlib.Omega.{arith}
 use lib.Dec.{eqb}
 use lib.ListN.{length, getD}
-use lib.Seq.{take-all}
 use borrow.Author.Tests.{eq-eqb, ne-eqb}
 use Rattle.laws.specs.Choice.{pick}
 use Rattle.laws.specs.Xor.{xorL, allBytes}
@@ -16,14 +15,12 @@ use Rattle.liberation.specs.Sets.{place, extraRow}
 use Rattle.liberation.specs.Plans.{diagonalOf}
 use Rattle.liberation_stripes.specs.Stripes.{cellAt, withCell}
 use Rattle.liberation_stripes.proofs.CellLaws.{cell-fits, cell-long}
-use Rattle.liberation_stripes.proofs.Solving.{cell-bytes, stripe-of}
-use Rattle.liberation_updates.specs.Updates.{parityOf, addedFrom, change, updated, updatedInPlace}
+use Rattle.liberation_stripes.proofs.Solving.{cell-bytes}
+use Rattle.liberation_updates.specs.Updates.{parityOf, addedFrom}
 use Rattle.liberation_updates.proofs.ParityCells.{parity-list}
-use Rattle.liberation_updates.proofs.InPlace.{in-place}
-use Rattle.xor.specs.Parts.{part, xorOffsets}
+use Rattle.xor.specs.Parts.{xorOffsets}
 use Rattle.xor_within.specs.Beside.{Beside}
-use Rattle.update.specs.Says.{DataCell}
-use Rattle.update.proofs.CellPlaces.{own-fits}
+use Rattle.update_parity.specs.Cells.{DataCell}
 
 -- a cell y of t, and a cell x before it
 module _ (s x y : ℕ) (t : List ℕ) (h : x < y) (fits : y * s + s ≤ length t) where
@@ -87,17 +84,3 @@ module _ (p k s r c z : ℕ) (t : List ℕ) (d : DataCell p k s r c t) (e : z �
       ∙ ap₂ (plus s (place p r c)) o (ev ∙ ap₂ (plus s (place p r c)) q eu)
       ∙ ap (λ (b : Bool). addedFrom s (place p r c) (place p r k ∷ (place p z (suc k) ∷ pick b (place p (suc z) (suc k) ∷ []) [])) t) (sym (eq-eqb (suc z) (extraRow p r) (omega arith)))
       ∙ ap (λ (ys : List ℕ). addedFrom s (place p r c) ys t) (sym parity-is)
-
--- a data cell of a stripe, and new bytes for it
-module _ (p k s r c : ℕ) (new t : List ℕ) (d : DataCell p k s r c t) (nl : length new ≡ s) where
-  -- the new bytes added to the cell are the change
-  pub change-put : xorL (cellAt s t (place p r c)) (part (length (cellAt s t (place p r c))) 0 new) ≡ change s (place p r c) new t
-  change-put = ap (xorL (cellAt s t (place p r c))) (take-all (length (cellAt s t (place p r c))) new (omega (arith, nl, cell-long s (place p r c) t (own-fits p k s r c t d))))
-
-  -- with the change in the cell, handed on, and the new bytes put in last, the stripe is updated
-  pub cell-put : (u v w : List ℕ) → allBytes t ≡ true → u ≡ withCell s (place p r c) (change s (place p r c) new t) t → v ≡ addedFrom s (place p r c) (parityOf p k r c) u → w ≡ withCell s (place p r c) new v → w ≡ updated p k s r c new t
-  unfolding updatedInPlace
-  cell-put u v w b eu ev ew =
-      ew
-      ∙ ap (withCell s (place p r c) new) (ev ∙ ap (addedFrom s (place p r c) (parityOf p k r c)) eu)
-      ∙ in-place p k s r c (d .odd) (d .row) (d .disk) new nl t (stripe-of p k s t (omega (arith, d .long)) b)

@@ -1,8 +1,8 @@
 -- `diagonal_of`: the difference of row and disk, and the width more where the disk is the larger.
 use borrow.Author.Needs.{needs}
-use Rattle.update.proofs.CellPlaces.{diagonal-low, diagonal-high}
-use Rattle.update.proofs.diagonal_of.Statement.{statement}
-use Rattle.update.proofs.diagonal_of.Tie as tie
+use Rattle.update_parity.proofs.CellPlaces.{diagonal-low, diagonal-high}
+use Rattle.update_parity.proofs.diagonal_of.Statement.{statement}
+use Rattle.update_parity.proofs.diagonal_of.Tie as tie
 
 returns : tie.Need-returns
 returns c = let o = c .before in let a = o .args in diagonal-low (a .width) (a .row) (a .disk) (o .pre .1) (c .if1 .taken)

@@ -4,9 +4,9 @@ use native.Mathlib.Omega.{arith}
 use borrow.Author.Needs.{needs}
 use Rattle.liberation_stripes.proofs.CellLaws.{cell-fits}
 use Rattle.xor.proofs.SourceLaws.{bytes-all}
-use Rattle.update.proofs.FromCell.{two-beside, two-added}
-use Rattle.update.proofs.add_cell.Statement.{statement}
-use Rattle.update.proofs.add_cell.Tie as tie
+use Rattle.update_parity.proofs.FromCell.{two-beside, two-added}
+use Rattle.update_parity.proofs.add_cell.Statement.{statement}
+use Rattle.update_parity.proofs.add_cell.Tie as tie
 
 mul-offset : tie.Need-mul-offset
 mul-offset c = search needs

@@ -1,0 +1,2 @@
+-- A data cell of a stripe.
+pub mod Cells
