@@ -1,3 +1,2 @@
--- Laws: the stripes of the other servers, the refusals, and the promises from what was refused or done.
-pub mod OtherServers
+-- The promises from what was refused or done.
 pub mod ServerRefusals

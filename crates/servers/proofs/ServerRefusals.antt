@@ -1,55 +1,25 @@
 -- Refusals 1, 13, 2, 18, 5, then 3 and 4 of the two calls, and their promises from what was refused or done.
-use mathlib.Core.Path.{_≡_, refl, sym, ap, ap₂, _∙_}
-use mathlib.Core.Bool.{Bool, true, not, _||_}
+use mathlib.Core.Path.{_≡_, sym, ap, ap₂, _∙_}
+use mathlib.Core.Bool.{true, not}
 use mathlib.Core.List.{List}
-use Prim.Native.Nat.{ℕ, suc, _+_, _*_, _≤_, _<_}
-use native.Mathlib.Nat.{mul-le-mul}
+use Prim.Native.Nat.{ℕ, _+_, _*_, _≤_}
 use native.Mathlib.Numerals.{add-one}
 use native.Mathlib.Omega.{arith}
-use lib.Dec.{eqb, ltb}
+use lib.Dec.{eqb}
 use lib.ListN.{length}
-use borrow.Author.Tests.{lt-ltb, le-ltb}
-use Rattle.laws.specs.Choice.{pick, when, firstOf}
+use Rattle.laws.specs.Choice.{when, firstOf}
 use Rattle.laws.specs.Xor.{allBytes}
-use Rattle.laws.proofs.Flags.{or-r}
 use Rattle.laws.proofs.ChoiceLaws.{first-none, pick-refused, pick-done}
 use Rattle.liberation.specs.Sets.{shapeFault}
 use Rattle.liberation.proofs.FaultLaws.{array-none, size-accepted, shape-most}
 use Rattle.liberation_stripes.specs.Stripes.{stripeLong, solved}
-use Rattle.liberation_servers.specs.Servers.{upTo, serversLong, written, mendedAll, serverRebuilt, serversFault, serverFault, writeFault, rebuildFault}
+use Rattle.liberation_servers.specs.Servers.{upTo, serversLong, written, mendedAll, serverRebuilt, serverFault, writeFault, rebuildFault}
 use Rattle.liberation_servers.specs.Claims.{Given}
 use Rattle.liberation_servers.proofs.RefusalLaws.{count-of, server-of, server-last}
 use Rattle.refusals.specs.declared.Answer.{Answer}
 use Rattle.refusals.specs.Answers.{Answers}
 use Rattle.refusals.proofs.AnswerLaws.{answers-as}
 use Rattle.servers.specs.Says.{rebuildTests, WriteServerSays, RebuildServerSays}
-
--- 18, by the tests of a number of servers and of a server
-module _ (m j : ℕ) where
-  pub too-few : m < 2 → 18 ≡ serverFault m j
-  too-few h = sym (ap (λ (b : Bool). firstOf (when (b || ltb 16 m) 18) (when (ltb m j) 18)) (lt-ltb m 2 h))
-
-  pub too-many : 16 < m → 18 ≡ serverFault m j
-  too-many h = sym (ap (λ (b : Bool). firstOf (when b 18) (when (ltb m j) 18)) (or-r (ltb m 2) (ltb 16 m) (lt-ltb 16 m h)))
-
-  -- within the limits
-  module _ (few : 2 ≤ m) (many : m ≤ 16) where
-    past : (b : Bool) → ltb m j ≡ b → serverFault m j ≡ when b 18
-    past b e = ap₂ (λ (x y : Bool). firstOf (when (x || y) 18) (when (ltb m j) 18)) (le-ltb m 2 few) (le-ltb 16 m many) ∙ ap (λ (x : Bool). when x 18) e
-
-    pub number-over : m < j → 18 ≡ serverFault m j
-    number-over h = sym (past _ (lt-ltb m j h))
-
-    pub number-fine : j ≤ m → 0 ≡ serverFault m j
-    number-fine h = sym (past _ (le-ltb m j h))
-
--- the bytes of one stripe and of all can be counted
-pub servers-small : (p k s m j : ℕ) → shapeFault p k s ≡ 0 → serverFault m j ≡ 0 → (m ≤ 16) × (k + 2 ≤ 33) × (p * s ≤ 126976) × ((k + 2) * (p * s) ≤ 4190208) × ((m + 1) * ((k + 2) * (p * s)) ≤ 17 * 4190208)
-servers-small p k s m j e z =
-    let q = shape-most p k s e in
-    let most : m ≤ 16 = count-of m (server-of m j z .0) .1 in
-    let l : m + 1 ≤ 17 = omega arith in
-    (most, omega (arith, q .0, q .1), q .2, q .3, mul-le-mul l (q .3))
 
 pub call-few : (p k s m j n : ℕ) → firstOf (shapeFault p k s) (firstOf (serverFault m j) n) ≡ 0 → m ≤ 16
 call-few p k s m j n e = count-of m (server-of m j (first-none (serverFault m j) n (first-none (shapeFault p k s) (firstOf (serverFault m j) n) e .1) .0) .0) .1

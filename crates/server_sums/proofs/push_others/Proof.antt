@@ -6,9 +6,9 @@ use lib.ListN.{length}
 use Rattle.liberation_stripes.specs.Stripes.{without}
 use Rattle.liberation_servers.specs.Servers.{upTo}
 use Rattle.offsets.specs.Offsets.{scaled, Pushed}
-use Rattle.servers.proofs.OtherServers.{others-none, others-more, others-few}
-use Rattle.servers.proofs.push_others.Statement.{statement}
-use Rattle.servers.proofs.push_others.Tie as tie
+use Rattle.server_sums.proofs.OtherServers.{others-none, others-more, others-few}
+use Rattle.server_sums.proofs.push_others.Statement.{statement}
+use Rattle.server_sums.proofs.push_others.Tie as tie
 
 abbrev Inv-loop : tie.InvT-loop
 Inv-loop long servers out at₀ n₀ i₀ at n i = (i ≤ servers + 1) × (length at ≡ length at₀) × Pushed at₀ at 0 n (scaled long (without out (upTo i)))

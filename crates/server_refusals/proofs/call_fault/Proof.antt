@@ -11,9 +11,9 @@ use Rattle.laws.proofs.ChoiceLaws.{first-kept, first-next}
 use Rattle.liberation.specs.Sets.{shapeFault}
 use Rattle.liberation_stripes.specs.Stripes.{stripeLong}
 use Rattle.liberation_servers.specs.Servers.{serverFault}
-use Rattle.servers.proofs.ServerRefusals.{servers-small}
-use Rattle.servers.proofs.call_fault.Statement.{statement}
-use Rattle.servers.proofs.call_fault.Tie as tie
+use Rattle.server_refusals.proofs.ServerFaults.{servers-small}
+use Rattle.server_refusals.proofs.call_fault.Statement.{statement}
+use Rattle.server_refusals.proofs.call_fault.Tie as tie
 
 returns : tie.Need-returns
 returns c = let f = c .before .shape-fault in first-kept (f .result) _ _ (f .ensures) (c .if1 .taken)

@@ -2,9 +2,9 @@
 use native.Mathlib.Nat.{mul-le-mul}
 use native.Mathlib.Omega.{arith}
 use borrow.Author.Needs.{needs}
-use Rattle.servers.proofs.OtherServers.{turn-out, turn-in}
-use Rattle.servers.proofs.push_server.Statement.{statement}
-use Rattle.servers.proofs.push_server.Tie as tie
+use Rattle.server_sums.proofs.OtherServers.{turn-out, turn-in}
+use Rattle.server_sums.proofs.push_server.Statement.{statement}
+use Rattle.server_sums.proofs.push_server.Tie as tie
 
 returns : tie.Need-returns
 returns c = let a = c .before .args in turn-out (a .long) (a .out) (a .i) (a .count) (a .at .now) (c .if1 .taken) (omega arith)

@@ -6,9 +6,9 @@ use lib.ListN.{length, take}
 use lib.Seq.{length-take-le}
 use borrow.Author.Needs.{needs}
 use Rattle.xor_within.specs.Beside.{Apart}
-use Rattle.servers.proofs.OtherServers.{others-apart, others-solve}
-use Rattle.servers.proofs.solve_server.Statement.{statement}
-use Rattle.servers.proofs.solve_server.Tie as tie
+use Rattle.server_sums.proofs.OtherServers.{others-apart, others-solve}
+use Rattle.server_sums.proofs.solve_server.Statement.{statement}
+use Rattle.server_sums.proofs.solve_server.Tie as tie
 
 lies : (c : tie.After-push-others) → let a = c .before .before .before .before .args in Apart (a .server * a .long) (a .long) (length (a .stripes .now)) (take (c .push-others .result) (c .push-others .last .1 .1 .1 .0))
 lies c =

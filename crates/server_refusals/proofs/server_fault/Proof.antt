@@ -1,7 +1,7 @@
 -- `server_fault`: 18 for fewer than 2 servers, more than 16, or a server over the last.
-use Rattle.servers.proofs.ServerRefusals.{too-few, too-many, number-over, number-fine}
-use Rattle.servers.proofs.server_fault.Statement.{statement}
-use Rattle.servers.proofs.server_fault.Tie as tie
+use Rattle.server_refusals.proofs.ServerFaults.{too-few, too-many, number-over, number-fine}
+use Rattle.server_refusals.proofs.server_fault.Statement.{statement}
+use Rattle.server_refusals.proofs.server_fault.Tie as tie
 
 returns : tie.Need-returns
 returns c = let a = c .before .args in too-few (a .servers) (a .server) (c .if1 .taken)

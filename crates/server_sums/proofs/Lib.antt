@@ -1,0 +1,2 @@
+-- The stripes of the other servers.
+pub mod OtherServers
