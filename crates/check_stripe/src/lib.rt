@@ -23,7 +23,7 @@ fn rows_are_clean(width: usize, disks: usize, size: usize, stripe: &[u8]) -> boo
 {
     let mut at = offsets::no_offsets();
     let n = offsets::push_row(width, size, 0, 0, disks + 1, &mut at, 0);
-    xor::is_zero(stripe, width * size, &at[..n])
+    xor_zero::is_zero(stripe, width * size, &at[..n])
 }
 
 // Do the cells of a diagonal set XOR to zero? There is no disk past Q, so all are pushed.
@@ -40,7 +40,7 @@ fn diagonal_is_clean(
 {
     let none = disks + 2;
     let n = set_offsets::surviving(width, disks, size, 1, number, none, none, at);
-    xor::is_zero(stripe, size, &at[..n])
+    xor_zero::is_zero(stripe, size, &at[..n])
 }
 
 // Do the cells of every diagonal set XOR to zero?

@@ -61,7 +61,7 @@ pub fn rebuild_cell(
     let n = set_offsets::surviving(width, disks, size, kind, number, disk, disk, &mut at);
     let start = row * size;
     let end = start + size;
-    xor::gather(&mut column[start..end], stripe, &at[..n]);
+    xor_gather::gather(&mut column[start..end], stripe, &at[..n]);
     let other = other_row(width, disks, disk, row, kind, number);
     if other < width {
         at[0] = start;

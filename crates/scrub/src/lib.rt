@@ -2,6 +2,7 @@
 ghost use mathlib.Core.Path.{_≡_};
 ghost use mathlib.Core.Bool.{true};
 ghost use Prim.Native.Nat.{_+_, _*_, _≤_, _<_};
+ghost use lib.ListN.{length};
 ghost use Rattle.liberation.specs.Sets.{isWidth};
 ghost use Rattle.liberation_survivors.specs.Survivors.{suspect};
 ghost use Rattle.refusals.specs.Answers.{Answers};
@@ -30,15 +31,15 @@ fn found(refusal: u8, verdict: u8, disk: usize) -> Scrubbed
 }
 
 // A set of a dirty stripe that is not clean: the number of a row set, or the width and the number of a diagonal set. No answer depends on it, so its bound is all that is promised.
-fn dirty_set(width: usize, disks: usize, size: usize, stripe: &[u8]) -> usize
-    requires { ⌜ Sized width disks size (now stripe) × (0 < width) ⌝ }
+fn dirty_set(width: usize, disks: usize, size: usize, stripe: &[u8], at: &mut [usize]) -> usize
+    requires { ⌜ Sized width disks size (now stripe) × (isWidth width ≡ true) × (0 < width) × (length (now at) ≡ 99) ⌝ }
     ensures { λ r. ⌜ r < 2 * width ⌝ }
 {
-    let row = survivors::first_unbalanced(width, disks, size, disks + 1, stripe);
+    let row = survivors::balances_passed(width, disks, size, disks + 1, 0, stripe, at);
     if row < width {
         return row;
     }
-    let diagonal = survivors::first_unbalanced(width, disks, size, disks, stripe);
+    let diagonal = survivors::balances_passed(width, disks, size, disks, 0, stripe, at);
     if diagonal < width {
         return width + diagonal;
     }
@@ -71,21 +72,53 @@ fn extra_diagonal(width: usize, disk: usize) -> usize
     (twice + width) / 2 % width
 }
 
-// The first disk that fits, two more than the data disks if none does.
-fn first_fit(width: usize, disks: usize, size: usize, dirty: usize, stripe: &[u8]) -> usize
-    requires { ⌜ Sized width disks size (now stripe) × (isWidth width ≡ true) × (dirty < 2 * width) ⌝ }
+// The number of the balance of a disk that is tested first: that of the extra cell, or the one that has a set that is not clean.
+fn first_number(width: usize, disks: usize, disk: usize, dirty: usize, extra: bool) -> usize
+    requires { ⌜ (0 < width) × (width ≤ 31) × (disks ≤ width) × (disk ≤ width + 1) × (dirty < 2 * width) ⌝ }
+    ensures { λ r. ⌜ r < width ⌝ }
+{
+    if extra {
+        return extra_diagonal(width, disk);
+    }
+    start(width, disks, disk, dirty)
+}
+
+// The first disk that fits, two more than the data disks if none does. Where the first balance of a disk did not refuse it, that of the next one is chosen the other way.
+fn first_fit(
+    width: usize,
+    disks: usize,
+    size: usize,
+    dirty: usize,
+    stripe: &[u8],
+    at: &mut [usize],
+) -> usize
+    requires { ⌜ Sized width disks size (now stripe) × (isWidth width ≡ true) × (0 < width) × (dirty < 2 * width) × (length (now at) ≡ 99) ⌝ }
     ensures { λ r. ⌜ r ≡ suspect width disks size (now (stripe .entry)) ⌝ }
 {
+    let mut extra = false;
     let mut disk = 0;
     while disk < disks + 2 {
-        let first = start(width, disks, disk, dirty);
-        let second = extra_diagonal(width, disk);
-        if survivors::disk_fits_from(width, disks, size, disk, first, second, stripe) {
+        let from = first_number(width, disks, disk, dirty, extra);
+        let passed = survivors::balances_passed(width, disks, size, disk, from, stripe, at);
+        if passed == width {
             return disk;
+        }
+        if 0 < passed {
+            extra = !extra;
         }
         disk += 1;
     }
     disk
+}
+
+// The same of a dirty stripe, with one list for all balances.
+fn suspected(width: usize, disks: usize, size: usize, stripe: &[u8]) -> usize
+    requires { ⌜ Sized width disks size (now stripe) × (isWidth width ≡ true) × (0 < width) ⌝ }
+    ensures { λ r. ⌜ r ≡ suspect width disks size (now (stripe .entry)) ⌝ }
+{
+    let mut at = survivors::no_balance();
+    let dirty = dirty_set(width, disks, size, stripe, &mut at);
+    first_fit(width, disks, size, dirty, stripe, &mut at)
 }
 
 // Is a stripe clean, and if not, is there a disk whose cells alone can make it so? Refusals: 1, 13, 2, 5.
@@ -102,8 +135,7 @@ pub fn scrub_stripe(shape: Shape, stripe: &[u8]) -> Scrubbed
     if checked.clean {
         return found(0, 0, 0);
     }
-    let dirty = dirty_set(width, disks, size, stripe);
-    let disk = first_fit(width, disks, size, dirty, stripe);
+    let disk = suspected(width, disks, size, stripe);
     if disk < disks + 2 {
         return found(0, 1, disk);
     }

@@ -3,6 +3,7 @@ use mathlib.Core.Path.{_≡_, sym, ap, subst, _∙_}
 use mathlib.Core.Bool.{Bool, true, false, _&&_, not, and-false}
 use mathlib.Core.List.{List, [], _∷_, _++_, append-nil}
 use Prim.Native.Nat.{ℕ, suc, _+_, _-_, _*_, _%_, _≤_, _<_}
+use native.Mathlib.Nat.{mod-lt, mod-eq-of-lt, add-mod-mod, add-mod-right}
 use native.Mathlib.Omega.{arith}
 use lib.Dec.{eqb, leb}
 use lib.ListN.{length, take, replicate}
@@ -13,6 +14,7 @@ use Rattle.laws.specs.Choice.{pick}
 use Rattle.laws.specs.Lists.{same}
 use Rattle.laws.specs.Xor.{allBytes}
 use Rattle.laws.specs.Sums.{allTo}
+use Rattle.laws.proofs.AllLaws.{all-at, all-of}
 use Rattle.laws.proofs.Flags.{and-i}
 use Rattle.laws.proofs.KeptLaws.{kept-append}
 use Rattle.liberation.specs.Sets.{isWidth, place, rowSet, diagonalSet, setOf, extraRow, extraDisk, lostIn, survivingIn}
@@ -119,24 +121,24 @@ module _ (p k s d i n : ℕ) (old at t : List ℕ) (numbered : i < p) (disk : d 
   pub balance-tested : (r : Bool) → r ≡ same (xorOffsets s t (take n at)) (replicate s 0) → r ≡ balanced p k s d t i
   balance-tested r e = e ∙ ap (λ (l : List ℕ). same l (replicate s 0)) (ap (xorOffsets s t) (pushed .list) ∙ over-offsets s t (survivingIn p d (balance p k d i)))
 
--- the loop over the balances: the first that is not zero, or none
-module _ (p k s d i : ℕ) (t : List ℕ) where
-  pub first-found : (r : Bool) → i < p → r ≡ balanced p k s d t i → not r ≡ true → (i ≤ p) × (eqb i p ≡ allBalanced p k s d t)
-  unfolding allBalanced
-  first-found r l e n = (omega arith, ne-eqb i p (λ q. omega arith) ∙ sym (all-fails p i (λ j. balanced p k s d t j) r l e n))
-
-  pub none-found : i ≤ p → p ≤ i → allTo i (λ j. balanced p k s d t j) ≡ true → (i ≤ p) × (eqb i p ≡ allBalanced p k s d t)
-  unfolding allBalanced
-  none-found l m e = let q : i ≡ p = omega arith in (l, eq-eqb i p q ∙ sym (all-seen p i (λ j. balanced p k s d t j) q e))
-
--- what the balances say of the disk
-module _ (p k s d : ℕ) (t : List ℕ) (width : isWidth p ≡ true) (most : k ≤ p) (disk : d < k + 2) (long : length t ≡ stripeLong p k s) (bytes : allBytes t ≡ true) where
+-- what the balances say of the disk, tested from number b on and round
+module _ (p k s d b : ℕ) (t : List ℕ) (width : isWidth p ≡ true) (most : k ≤ p) (disk : d < k + 2) (long : length t ≡ stripeLong p k s) (bytes : allBytes t ≡ true) (below : b < p) where
   fits-is : fits p k s d t ≡ allBalanced p k s d t
   fits-is = fits-balanced p k s d width most disk t (stripe-of p k s t (long ∙ omega arith) bytes)
 
-  pub one-refuses : (i : ℕ) (r : Bool) → i < p → r ≡ balanced p k s d t i → not r ≡ true → false ≡ fits p k s d t
-  unfolding allBalanced
-  one-refuses i r l e n = sym (fits-is ∙ all-fails p i (λ j. balanced p k s d t j) r l e n)
+  -- every number comes in its turn
+  in-turn : (n : ℕ) → n < p → (b + (n + p - b) % p) % p ≡ n
+  in-turn n l = let e : b + (n + p - b) ≡ n + p = omega arith in add-mod-mod b (n + p - b) p ∙ ap (λ (m : ℕ). m % p) e ∙ add-mod-right n p ∙ mod-eq-of-lt l
 
-  pub all-say : (i : ℕ) → eqb i p ≡ allBalanced p k s d t → eqb i p ≡ fits p k s d t
-  all-say i e = e ∙ sym fits-is
+  pub one-refuses : (i : ℕ) (r : Bool) → i < p → r ≡ balanced p k s d t ((b + i) % p) → not r ≡ true → (i ≤ p) × (eqb i p ≡ fits p k s d t)
+  unfolding allBalanced
+  one-refuses i r l e n =
+      (omega arith, ne-eqb i p (λ q. omega arith) ∙ sym (fits-is ∙ all-fails p ((b + i) % p) (λ j. balanced p k s d t j) r (mod-lt (b + i) (omega arith)) e n))
+
+  pub none-refuses : (i : ℕ) → i ≤ p → p ≤ i → allTo i (λ j. balanced p k s d t ((b + j) % p)) ≡ true → (i ≤ p) × (eqb i p ≡ fits p k s d t)
+  unfolding allBalanced
+  none-refuses i l m e =
+      let q : i ≡ p = omega arith in
+      let f : ℕ → Bool = λ j. balanced p k s d t j in
+      let each : (n : ℕ) → n < p → f n ≡ true = λ n h. sym (ap f (in-turn n h)) ∙ all-at i (λ j. f ((b + j) % p)) e ((n + p - b) % p) (omega (arith, mod-lt (n + p - b) {m = p} (omega arith))) in
+      (l, eq-eqb i p q ∙ sym (fits-is ∙ all-of p f each))

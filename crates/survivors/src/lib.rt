@@ -3,15 +3,18 @@ ghost use mathlib.Core.Path.{_≡_};
 ghost use mathlib.Core.Bool.{true};
 ghost use Prim.Native.Nat.{_+_, _≤_, _<_};
 ghost use lib.Dec.{eqb};
-ghost use lib.ListN.{length};
+ghost use lib.ListN.{length, replicate};
+ghost use Rattle.laws.specs.Lists.{same};
+ghost use Rattle.xor.specs.Parts.{xorOffsets};
+ghost use Rattle.xor.specs.Reach.{Reached};
 ghost use Rattle.liberation.specs.Sets.{isWidth, setOf, diagonalSet, lostIn, survivingIn};
-ghost use Rattle.liberation_survivors.specs.Survivors.{rowSets, balance, balanced, allBalanced, fits};
+ghost use Rattle.liberation_survivors.specs.Survivors.{rowSets, balance, balanced, fits};
 ghost use Rattle.offsets.specs.Offsets.{scaled, Pushed};
 ghost use Rattle.stripes.specs.Cells.{Sized};
 ghost use Rattle.survivors.specs.Tests.{Listed};
 
 // A list with room for the cells of any three sets.
-fn no_balance() -> [usize; 99]
+pub fn no_balance() -> [usize; 99]
     ensures { λ r. ⌜ length r ≡ 99 ⌝ }
 {
     [0; 99]
@@ -91,6 +94,17 @@ fn push_balance(
     push_rows(width, disks, size, disk, number, at, n)
 }
 
+// Is the XOR of the parts of n bytes zero? What is shorter than a stretch goes block by block at once.
+fn is_zero(stripe: &[u8], n: usize, at: &[usize]) -> bool
+    requires { ⌜ (n ≤ length (now stripe)) × Reached n (length (now stripe)) (now at) ⌝ }
+    ensures { λ r. ⌜ r ≡ same (xorOffsets n (now (stripe .entry)) (now (at .entry))) (replicate n 0) ⌝ }
+{
+    if n < 2048 {
+        return xor_zero::blocks_are_zero(stripe, n, at);
+    }
+    xor_zero::is_zero(stripe, n, at)
+}
+
 // Do the survivors of one balance XOR to zero?
 fn is_balanced(
     width: usize,
@@ -105,29 +119,31 @@ fn is_balanced(
     ensures { λ r. ⌜ r ≡ balanced width disks size disk (now (stripe .entry)) number ⌝ }
 {
     let n = push_balance(width, disks, size, disk, number, at);
-    xor::is_zero(stripe, size, &at[..n])
+    is_zero(stripe, size, &at[..n])
 }
 
-// The first number whose balance is not zero, the width if every one is.
-pub fn first_unbalanced(
+// How many balances of a disk are zero, from number `from` on and round, before one is not: the width exactly if some clean stripe is alike this one off the disk. The first of them decides most often, and no other answer depends on `from`.
+pub fn balances_passed(
     width: usize,
     disks: usize,
     size: usize,
     disk: usize,
+    from: usize,
     stripe: &[u8],
+    at: &mut [usize],
 ) -> usize
-    requires { ⌜ Sized width disks size (now stripe) × (disk < disks + 2) ⌝ }
-    ensures { λ r. ⌜ (r ≤ width) × (eqb r width ≡ allBalanced width disks size disk (now (stripe .entry))) ⌝ }
+    requires { ⌜ Sized width disks size (now stripe) × (isWidth width ≡ true) × (disk < disks + 2) × (from < width) × (length (now at) ≡ 99) ⌝ }
+    ensures { λ r. ⌜ (r ≤ width) × (eqb r width ≡ fits width disks size disk (now (stripe .entry))) ⌝ }
 {
-    let mut at = no_balance();
-    let mut number = 0;
-    while number < width {
-        if !is_balanced(width, disks, size, disk, number, stripe, &mut at) {
-            return number;
+    let mut passed = 0;
+    while passed < width {
+        let number = offsets::row_on(width, from, passed);
+        if !is_balanced(width, disks, size, disk, number, stripe, at) {
+            return passed;
         }
-        number += 1;
+        passed += 1;
     }
-    number
+    passed
 }
 
 // Is some clean stripe alike this one off the disk?
@@ -135,28 +151,6 @@ pub fn disk_fits(width: usize, disks: usize, size: usize, disk: usize, stripe: &
     requires { ⌜ Sized width disks size (now stripe) × (isWidth width ≡ true) × (disk < disks + 2) ⌝ }
     ensures { λ r. ⌜ r ≡ fits width disks size disk (now (stripe .entry)) ⌝ }
 {
-    first_unbalanced(width, disks, size, disk, stripe) == width
-}
-
-// The same, with two balances tested before all of them: no answer depends on these, but a caller that knows a set that is not clean has most disks refused by one balance or two.
-pub fn disk_fits_from(
-    width: usize,
-    disks: usize,
-    size: usize,
-    disk: usize,
-    first: usize,
-    second: usize,
-    stripe: &[u8],
-) -> bool
-    requires { ⌜ Sized width disks size (now stripe) × (isWidth width ≡ true) × (disk < disks + 2) × (first < width) × (second < width) ⌝ }
-    ensures { λ r. ⌜ r ≡ fits width disks size disk (now (stripe .entry)) ⌝ }
-{
     let mut at = no_balance();
-    if !is_balanced(width, disks, size, disk, first, stripe, &mut at) {
-        return false;
-    }
-    if !is_balanced(width, disks, size, disk, second, stripe, &mut at) {
-        return false;
-    }
-    disk_fits(width, disks, size, disk, stripe)
+    balances_passed(width, disks, size, disk, 0, stripe, &mut at) == width
 }

@@ -61,7 +61,7 @@ fn add_four(dst: &mut [u8], t: &[u8], a: usize, b: usize, c: usize, e: usize)
 }
 
 // dst ^= the parts of t at the offsets, four a pass.
-fn add_all(dst: &mut [u8], t: &[u8], at: &[usize])
+pub fn add_all(dst: &mut [u8], t: &[u8], at: &[usize])
     requires { ⌜ Reached (length (now dst)) (length (now t)) (now at) ⌝ }
     ensures { λ _. ⌜ now (dst .exit) ≡ xorL (now (dst .entry)) (xorOffsets (length (now (dst .entry))) (now (t .entry)) (now (at .entry))) ⌝ }
 {
@@ -121,65 +121,6 @@ pub fn rest_of(t: &[u8], at: &[usize], m: usize) -> [u8; 64]
     block
 }
 
-// The 64 bytes of dst from b on = those of the XOR of the parts. The 64 is a literal at the call, so that the compiler keeps the block in registers.
-fn put_block(dst: &mut [u8], t: &[u8], at: &[usize], b: usize)
-    requires { ⌜ (b + 64 ≤ length (now dst)) × (b ≤ length (now t)) × Reached (length (now dst)) (length (now t)) (now at) ⌝ }
-    ensures { λ _. ⌜ now (dst .exit) ≡ withPart 64 b (xorOffsets 64 (drop b (now (t .entry))) (now (at .entry))) (now (dst .entry)) ⌝ }
-{
-    let e = b + 64;
-    let block = block_of(&t[b..], at);
-    copy(&mut dst[b..e], &block[..64]);
-}
-
-// The same of 128 bytes.
-fn put_wide_block(dst: &mut [u8], t: &[u8], at: &[usize], b: usize)
-    requires { ⌜ (b + 128 ≤ length (now dst)) × (b ≤ length (now t)) × Reached (length (now dst)) (length (now t)) (now at) ⌝ }
-    ensures { λ _. ⌜ now (dst .exit) ≡ withPart 128 b (xorOffsets 128 (drop b (now (t .entry))) (now (at .entry))) (now (dst .entry)) ⌝ }
-{
-    let e = b + 128;
-    let block = wide_block_of(&t[b..], at);
-    copy(&mut dst[b..e], &block[..128]);
-}
-
-// The bytes of dst from b on, at most 64, = those of the XOR of the parts.
-fn put_rest(dst: &mut [u8], t: &[u8], at: &[usize], b: usize)
-    requires { ⌜ (b ≤ length (now dst)) × (length (now dst) ≤ b + 64) × (b ≤ length (now t)) × Reached (length (now dst)) (length (now t)) (now at) ⌝ }
-    ensures { λ _. ⌜ now (dst .exit) ≡ withPart (length (now (dst .entry)) - b) b (xorOffsets (length (now (dst .entry)) - b) (drop b (now (t .entry))) (now (at .entry))) (now (dst .entry)) ⌝ }
-{
-    let n = dst.len();
-    let m = n - b;
-    let block = rest_of(&t[b..], at, m);
-    copy(&mut dst[b..n], &block[..m]);
-}
-
-// dst = the XOR of the parts of t at the offsets, in blocks of 64 bytes.
-fn gather_small(dst: &mut [u8], t: &[u8], at: &[usize])
-    requires { ⌜ (length (now dst) ≤ length (now t)) × Reached (length (now dst)) (length (now t)) (now at) ⌝ }
-    ensures { λ _. ⌜ now (dst .exit) ≡ xorOffsets (length (now (dst .entry))) (now (t .entry)) (now (at .entry)) ⌝ }
-{
-    let n = dst.len();
-    let mut b = 0;
-    while 64 <= n - b {
-        put_block(dst, t, at, b);
-        b += 64;
-    }
-    put_rest(dst, t, at, b);
-}
-
-// The same in blocks of 128 bytes, and what is left in one of 64.
-fn gather_blocks(dst: &mut [u8], t: &[u8], at: &[usize])
-    requires { ⌜ (length (now dst) ≤ length (now t)) × Reached (length (now dst)) (length (now t)) (now at) ⌝ }
-    ensures { λ _. ⌜ now (dst .exit) ≡ xorOffsets (length (now (dst .entry))) (now (t .entry)) (now (at .entry)) ⌝ }
-{
-    let n = dst.len();
-    let mut b = 0;
-    while 128 <= n - b {
-        put_wide_block(dst, t, at, b);
-        b += 128;
-    }
-    gather_small(&mut dst[b..], &t[b..], at);
-}
-
 // How many parts of n bytes go into one list. Parts that are as far apart as cells of 4,096 bytes share a set of the cache, and a core may keep no more than eight lines of it; for short parts a second list costs more. No result depends on it, so its bounds are all that is promised.
 pub fn list_most(n: usize) -> usize
     ensures { λ r. ⌜ (8 ≤ r) × (r ≤ 33) ⌝ }
@@ -187,126 +128,10 @@ pub fn list_most(n: usize) -> usize
     if n < 512 { 33 } else { 8 }
 }
 
-// dst = the XOR of the parts of t at the offsets: one list block by block; of a longer one eight parts, and the others four a pass.
-pub fn gather(dst: &mut [u8], t: &[u8], at: &[usize])
-    requires { ⌜ (length (now dst) ≤ length (now t)) × Reached (length (now dst)) (length (now t)) (now at) ⌝ }
-    ensures { λ _. ⌜ now (dst .exit) ≡ xorOffsets (length (now (dst .entry))) (now (t .entry)) (now (at .entry)) ⌝ }
+// Where a list of at most `most` numbers from index i on ends, of `count` numbers.
+pub fn list_end(i: usize, most: usize, count: usize) -> usize
+    requires { ⌜ (i ≤ count) × (0 < most) ⌝ }
+    ensures { λ r. ⌜ (i ≤ r) × (r ≤ count) × (i < count → i < r) ⌝ }
 {
-    if at.len() <= list_most(dst.len()) {
-        gather_blocks(dst, t, at);
-        return;
-    }
-    gather_blocks(dst, t, &at[..8]);
-    add_all(dst, t, &at[8..]);
-}
-
-// Is the XOR of the parts of 64 bytes zero?
-fn block_is_zero(t: &[u8], at: &[usize]) -> bool
-    requires { ⌜ Reached 64 (length (now t)) (now at) ⌝ }
-    ensures { λ r. ⌜ r ≡ same (xorOffsets 64 (now (t .entry)) (now (at .entry))) (replicate 64 0) ⌝ }
-{
-    let block = block_of(t, at);
-    all_zero(&block[..64])
-}
-
-// Is the XOR of the parts of 128 bytes zero?
-fn wide_block_is_zero(t: &[u8], at: &[usize]) -> bool
-    requires { ⌜ Reached 128 (length (now t)) (now at) ⌝ }
-    ensures { λ r. ⌜ r ≡ same (xorOffsets 128 (now (t .entry)) (now (at .entry))) (replicate 128 0) ⌝ }
-{
-    let block = wide_block_of(t, at);
-    all_zero(&block[..128])
-}
-
-// Is the XOR of the parts of m bytes, at most 64, zero?
-fn rest_is_zero(t: &[u8], at: &[usize], m: usize) -> bool
-    requires { ⌜ (m ≤ 64) × Reached m (length (now t)) (now at) ⌝ }
-    ensures { λ r. ⌜ r ≡ same (xorOffsets m (now (t .entry)) (now (at .entry))) (replicate m 0) ⌝ }
-{
-    let block = rest_of(t, at, m);
-    all_zero(&block[..m])
-}
-
-// Is the XOR of the parts of n bytes zero? In blocks of 64 bytes.
-fn small_is_zero(t: &[u8], n: usize, at: &[usize]) -> bool
-    requires { ⌜ (n ≤ length (now t)) × Reached n (length (now t)) (now at) ⌝ }
-    ensures { λ r. ⌜ r ≡ same (xorOffsets n (now (t .entry)) (now (at .entry))) (replicate n 0) ⌝ }
-{
-    let mut b = 0;
-    while 64 <= n - b {
-        if !block_is_zero(&t[b..], at) {
-            return false;
-        }
-        b += 64;
-    }
-    rest_is_zero(&t[b..], at, n - b)
-}
-
-// The same in blocks of 128 bytes, and what is left in one of 64.
-fn blocks_are_zero(t: &[u8], n: usize, at: &[usize]) -> bool
-    requires { ⌜ (n ≤ length (now t)) × Reached n (length (now t)) (now at) ⌝ }
-    ensures { λ r. ⌜ r ≡ same (xorOffsets n (now (t .entry)) (now (at .entry))) (replicate n 0) ⌝ }
-{
-    let mut b = 0;
-    while 128 <= n - b {
-        if !wide_block_is_zero(&t[b..], at) {
-            return false;
-        }
-        b += 128;
-    }
-    small_is_zero(&t[b..], n - b, at)
-}
-
-// A stretch of zeros.
-fn no_stretch() -> [u8; 2048]
-    ensures { λ r. ⌜ r ≡ replicate 2048 0 ⌝ }
-{
-    [0; 2048]
-}
-
-// Is the XOR of the parts of 2,048 bytes zero? They are gathered first, eight of them block by block, as for a long list.
-fn stretch_is_zero(t: &[u8], at: &[usize]) -> bool
-    requires { ⌜ (8 ≤ length (now at)) × (2048 ≤ length (now t)) × Reached 2048 (length (now t)) (now at) ⌝ }
-    ensures { λ r. ⌜ r ≡ same (xorOffsets 2048 (now (t .entry)) (now (at .entry))) (replicate 2048 0) ⌝ }
-{
-    let mut stretch = no_stretch();
-    gather_blocks(&mut stretch[..2048], t, &at[..8]);
-    add_all(&mut stretch[..2048], t, &at[8..]);
-    all_zero(&stretch[..2048])
-}
-
-// Is the XOR of the parts of so many stretches zero?
-fn stretches_are_zero(t: &[u8], count: usize, at: &[usize]) -> bool
-    requires { ⌜ (0 < count → 8 ≤ length (now at)) × (count * 2048 ≤ length (now t)) × Reached (count * 2048) (length (now t)) (now at) ⌝ }
-    ensures { λ r. ⌜ r ≡ same (xorOffsets (count * 2048) (now (t .entry)) (now (at .entry))) (replicate (count * 2048) 0) ⌝ }
-{
-    let n = count * 2048;
-    let mut b = 0;
-    while b < n {
-        if !stretch_is_zero(&t[b..], at) {
-            return false;
-        }
-        b += 2048;
-    }
-    true
-}
-
-// How many stretches of n bytes are tested as such: none of few parts, which go faster block by block; of more the cache may keep too few lines, as for a gather. No answer depends on it.
-fn stretch_count(n: usize, parts: usize) -> usize
-    ensures { λ r. ⌜ (r * 2048 ≤ n) × (0 < r → 8 ≤ parts) ⌝ }
-{
-    if parts < 10 { 0 } else { n / 2048 }
-}
-
-// Is the XOR of the parts of n bytes zero? The stretches, then what is left block by block.
-pub fn is_zero(t: &[u8], n: usize, at: &[usize]) -> bool
-    requires { ⌜ (n ≤ length (now t)) × Reached n (length (now t)) (now at) ⌝ }
-    ensures { λ r. ⌜ r ≡ same (xorOffsets n (now (t .entry)) (now (at .entry))) (replicate n 0) ⌝ }
-{
-    let count = stretch_count(n, at.len());
-    if !stretches_are_zero(t, count, at) {
-        return false;
-    }
-    let b = count * 2048;
-    blocks_are_zero(&t[b..], n - b, at)
+    if count - i < most { count } else { i + most }
 }

@@ -31,35 +31,32 @@ returns-2 c =
     let a = e .before .before .before .before .args in
     scrub-clean (a .shape .width) (a .shape .disks) (a .shape .«cell_size») (a .stripe .now) (c .found2 .result) (k .ensures .bytes) (k .result .clean) (passed e) (k .ensures .clean) (c .before .if2 .taken) (c .found2 .ensures)
 
-dirty-set-requires : tie.Need-dirty-set-requires
-dirty-set-requires c κs = sized (c .before)
-
-first-fit-requires : tie.Need-first-fit-requires
-first-fit-requires c κs =
-    let e = c .before .before in
+suspected-requires : tie.Need-suspected-requires
+suspected-requires c κs =
+    let e = c .before in
     let a = e .before .before .before .before .args in
-    (sized e .0, width-is (a .shape .width) (a .shape .disks) (a .shape .«cell_size») (a .stripe .now) (passed e), c .dirty-set .ensures)
+    (sized e .0, width-is (a .shape .width) (a .shape .disks) (a .shape .«cell_size») (a .stripe .now) (passed e), sized e .1)
 
 add-if3 : tie.Need-add-if3
-add-if3 c = let z = sized (c .before .before .before) .0 in omega (arith, z .widest, z .disks)
+add-if3 c = let z = sized (c .before .before) .0 in omega (arith, z .widest, z .disks)
 
 returns-3 : tie.Need-returns-3
 returns-3 c =
     let i = c .before in
-    let f = i .before .first-fit in
-    let e = i .before .before .before .before in
+    let f = i .before .suspected in
+    let e = i .before .before .before in
     let k = e .before .before .check-stripe in
     let a = e .before .before .before .before .args in
-    scrub-one (a .shape .width) (a .shape .disks) (a .shape .«cell_size») (a .stripe .now) (c .found3 .result) (k .ensures .bytes) (k .result .clean) (passed e) (k .ensures .clean) (f .result) (i .before .before .before .if2 .left) (f .ensures) (omega arith) (c .found3 .ensures)
+    scrub-one (a .shape .width) (a .shape .disks) (a .shape .«cell_size») (a .stripe .now) (c .found3 .result) (k .ensures .bytes) (k .result .clean) (passed e) (k .ensures .clean) (f .result) (i .before .before .if2 .left) (f .ensures) (omega arith) (c .found3 .ensures)
 
 returns-4 : tie.Need-returns-4
 returns-4 c =
     let i = c .before in
-    let f = i .before .first-fit in
-    let e = i .before .before .before .before in
+    let f = i .before .suspected in
+    let e = i .before .before .before in
     let k = e .before .before .check-stripe in
     let a = e .before .before .before .before .args in
-    scrub-more (a .shape .width) (a .shape .disks) (a .shape .«cell_size») (a .stripe .now) (c .found4 .result) (k .ensures .bytes) (k .result .clean) (passed e) (k .ensures .clean) (f .result) (i .before .before .before .if2 .left) (f .ensures) (omega arith) (c .found4 .ensures)
+    scrub-more (a .shape .width) (a .shape .disks) (a .shape .«cell_size») (a .stripe .now) (c .found4 .result) (k .ensures .bytes) (k .result .clean) (passed e) (k .ensures .clean) (f .result) (i .before .before .if2 .left) (f .ensures) (omega arith) (c .found4 .ensures)
 
 pub scrub-stripe-spec : {M : Type 1} → statement M
 scrub-stripe-spec =
@@ -70,8 +67,7 @@ scrub-stripe-spec =
     returns
     (λ c κs. search needs)
     returns-2
-    dirty-set-requires
-    first-fit-requires
+    suspected-requires
     add-if3
     (λ c κs. search needs)
     returns-3

@@ -1,24 +1,16 @@
--- `disk_fits`: all balances say whether the disk fits.
+-- `disk_fits`: all balances are passed exactly if the disk fits.
 use mathlib.Core.Path.{_≡_}
-use mathlib.Core.Bool.{true}
+use native.Mathlib.Omega.{arith}
 use borrow.Author.Needs.{needs}
-use Rattle.laws.specs.Xor.{allBytes}
-use Rattle.xor.proofs.SourceLaws.{bytes-all}
-use Rattle.survivors.proofs.BalanceLists.{all-say}
+use Rattle.liberation.proofs.Widths.{width-least}
 use Rattle.survivors.proofs.disk_fits.Statement.{statement}
 use Rattle.survivors.proofs.disk_fits.Tie as tie
 
--- the lent stripe is bytes
-bytes : (c : tie.After-shared-slice-known) → allBytes (c .before .args .stripe .now) ≡ true
-bytes c = bytes-all (c .before .args .stripe .now) (c .shared-slice-known .given)
-
-returns : tie.Need-returns
-returns c =
-    let v = c .first-unbalanced in
-    let w = c .before in
-    let o = w .before in
-    let a = o .args in
-    all-say (a .width) (a .disks) (a .size) (a .disk) (a .stripe .now) (o .pre .1) (o .pre .0 .disks) (o .pre .2) (o .pre .0 .long) (bytes w) (v .result) (v .ensures .1)
+balances-passed-requires : tie.Need-balances-passed-requires
+balances-passed-requires c κs =
+    let z = c .before .no-balance in
+    let o = c .before .before .before in
+    (o .pre .0, o .pre .1, o .pre .2, omega (arith, width-least (o .args .width) (o .pre .1)), z .ensures)
 
 pub disk-fits-spec : {M : Type 1} → statement M
-disk-fits-spec = tie.close (tie.spec (λ c κs. search needs) returns)
+disk-fits-spec = tie.close (tie.spec (λ c κs. search needs) (λ c. search needs) balances-passed-requires (λ c. search needs))

@@ -1,4 +1,4 @@
--- `gather_small`: block after block of 64 bytes, then the rest. The invariant: the first b bytes from d on are new.
+-- `gather_small`: block after block of 64 bytes, then the rest, if there is one. The invariant: the first b bytes from d on are new.
 use mathlib.Core.Path.{_≡_, refl}
 use Prim.Native.Nat.{_+_, _-_, _≤_}
 use native.Mathlib.Omega.{arith}
@@ -32,19 +32,26 @@ loop-again c =
 
 put-rest-requires : tie.Need-put-rest-requires Inv-loop μ-loop
 put-rest-requires c κs =
-    let l = c .before .before .loop in
-    let o = c .before .before .before .before .before in
+    let l = c .before .before .before .loop in
+    let o = c .before .before .before .before .before .before in
     (omega arith, omega arith, reach-less (l .b + (o .args .n - l .b)) (length (l .t)) (omega arith) (l .inv .1) (o .pre .sources))
 
 returns : tie.Need-returns Inv-loop μ-loop
 returns c =
-    let l = c .before .before .before .before .before .loop in
-    let o = c .before .before .before .before .before .before .before .before in
+    let l = c .before .before .before .before .before .before .loop in
+    let o = c .before .before .before .before .before .before .before .before .before in
     let a = o .args in
     let m = a .n - l .b in
     let y = c .before .before .put-rest in
     within-all (a .d) (a .n) (a .t .now) (a .at .now) (o .pre) (l .b + m) (y .last .0) (omega arith)
     (within-next (a .d) (a .n) (a .t .now) (a .at .now) (o .pre) (l .b) m (l .t) (y .last .0) (omega arith) (l .inv .2) (y .ensures))
+
+returns-2 : tie.Need-returns-2 Inv-loop μ-loop
+returns-2 c =
+    let l = c .before .before .loop in
+    let o = c .before .before .before .before .before in
+    let a = o .args in
+    within-all (a .d) (a .n) (a .t .now) (a .at .now) (o .pre) (l .b) (l .t) (omega arith) (l .inv .2)
 
 pub gather-small-spec : {M : Type 1} → statement M
 gather-small-spec =
@@ -61,4 +68,6 @@ gather-small-spec =
     (λ c. omega arith)
     put-rest-requires
     (λ c. omega arith)
-    returns)
+    returns
+    (λ c. omega arith)
+    returns-2)
