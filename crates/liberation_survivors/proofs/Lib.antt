@@ -1,5 +1,5 @@
--- Theorems: the disk that explains a stripe, the balances of its survivors, the verdict.
+-- Theorems: the disk that explains a stripe, the equations of the other disks' cells, the verdict.
 pub mod Explaining
-pub mod BalanceCells
-pub mod Balancing
+pub mod EquationCells
+pub mod EquationLaws
 pub mod Verdicts

@@ -1,5 +1,5 @@
 -- The inconsistent disk, and a rebuild with tested survivors (document 02, asks 2 and 11): p rows, k data disks, cells of s bytes.
--- A disk fits if the stripe is clean once that disk is rebuilt from the others. The same is told by p balances, of surviving cells alone.
+-- A disk fits if the stripe is clean once that disk is rebuilt from the others. The same is told by p equations of surviving cells alone (document 000's decoding equations, those without a cell of the disk).
 use mathlib.Core.Bool.{Bool}
 use mathlib.Core.List.{List, [], _∷_, _++_}
 use Prim.Native.Nat.{ℕ, suc, _+_}
@@ -15,6 +15,7 @@ use Rattle.liberation_stripes.specs.Stripes.{cellAt, xorOver, clean, withColumn
 abbrev pub withRebuilt : ℕ → ℕ → ℕ → ℕ → List ℕ → List ℕ
 withRebuilt p k s d t = withColumn p s d (rebuilt p k s d t) t
 
+-- "replacing that disk's cells alone can make it so" (proofs/Explaining.antt): rebuilding it does
 unfoldable pub fits : ℕ → ℕ → ℕ → ℕ → List ℕ → Bool
 fits p k s d t = clean p k s (withRebuilt p k s d t)
 
@@ -22,7 +23,7 @@ fits p k s d t = clean p k s (withRebuilt p k s d t)
 unfoldable pub suspect : ℕ → ℕ → ℕ → List ℕ → ℕ
 suspect p k s t = firstFit (k + 2) (λ d. fits p k s d t)
 
--- 0: the stripe is clean; 1: one disk explains it, the suspect; 2: no one disk does
+-- the three answers of ask 2, "clean, one disk's number, or more than one". 0: the stripe is clean; 1: one disk explains it, the suspect; 2: no one disk does
 unfoldable pub verdict : ℕ → ℕ → ℕ → List ℕ → ℕ
 verdict p k s t = pick (clean p k s t) 0 (pick (ltb (suspect p k s t) (k + 2)) 1 2)
 
@@ -31,13 +32,13 @@ unfoldable pub rowSets : ℕ → ℕ → List ℕ → List ℕ
 rowSets p k [] = []
 rowSets p k (r ∷ rs) = rowSet p k r ++ rowSets p k rs
 
--- balance i of disk d: R i for Q; for any other disk D i and the row set of each row that D i has on d. Each cell on d is in it twice or not at all.
-unfoldable pub balance : ℕ → ℕ → ℕ → ℕ → List ℕ
-balance p k d i = pick (eqb d (suc k)) (rowSet p k i) (diagonalSet p k i ++ rowSets p k (lostIn p d (diagonalSet p k i)))
+-- equation i of disk d, as the cells of its sets: R i for Q; for any other disk D i and the row set of each row that D i has on d. Each cell on d is in it twice or not at all, and cancels.
+unfoldable pub equation : ℕ → ℕ → ℕ → ℕ → List ℕ
+equation p k d i = pick (eqb d (suc k)) (rowSet p k i) (diagonalSet p k i ++ rowSets p k (lostIn p d (diagonalSet p k i)))
 
--- its surviving cells XOR to zero
-abbrev pub balanced : ℕ → ℕ → ℕ → ℕ → List ℕ → ℕ → Bool
-balanced p k s d t i = same (xorOver s (cellAt s t) (survivingIn p d (balance p k d i))) (replicate s 0)
+-- it holds: its surviving cells XOR to zero
+abbrev pub equationHolds : ℕ → ℕ → ℕ → ℕ → List ℕ → ℕ → Bool
+equationHolds p k s d t i = same (xorOver s (cellAt s t) (survivingIn p d (equation p k d i))) (replicate s 0)
 
-unfoldable pub allBalanced : ℕ → ℕ → ℕ → ℕ → List ℕ → Bool
-allBalanced p k s d t = allTo p (λ i. balanced p k s d t i)
+unfoldable pub equationsHold : ℕ → ℕ → ℕ → ℕ → List ℕ → Bool
+equationsHold p k s d t = allTo p (λ i. equationHolds p k s d t i)

@@ -35,18 +35,18 @@ fn dirty_set(width: usize, disks: usize, size: usize, stripe: &[u8], at: &mut [u
     requires { ⌜ Sized width disks size (now stripe) × (isWidth width ≡ true) × (0 < width) × (length (now at) ≡ 99) ⌝ }
     ensures { λ r. ⌜ r < 2 * width ⌝ }
 {
-    let row = survivors::balances_passed(width, disks, size, disks + 1, 0, stripe, at);
+    let row = survivors::equations_passed(width, disks, size, disks + 1, 0, stripe, at);
     if row < width {
         return row;
     }
-    let diagonal = survivors::balances_passed(width, disks, size, disks, 0, stripe, at);
+    let diagonal = survivors::equations_passed(width, disks, size, disks, 0, stripe, at);
     if diagonal < width {
         return width + diagonal;
     }
     0
 }
 
-// The disk's balance that has this set, or another one. No answer depends on it either.
+// The disk's equation that has this set, or another one. No answer depends on it either.
 fn start(width: usize, disks: usize, disk: usize, dirty: usize) -> usize
     requires { ⌜ (width ≤ 31) × (disks ≤ width) × (dirty < 2 * width) ⌝ }
     ensures { λ r. ⌜ r < width ⌝ }
@@ -60,7 +60,7 @@ fn start(width: usize, disks: usize, disk: usize, dirty: usize) -> usize
     (dirty + width - disk) % width
 }
 
-// The number of the diagonal whose extra cell is on a data disk. Where every cell of one disk has changed by the same bytes, the two sets of most balances cancel, but the three of this one do not. No answer depends on it either.
+// The number of the diagonal whose extra cell is on a data disk. Where every cell of one disk has changed by the same bytes, the two sets of most equations cancel, but the three of this one do not. No answer depends on it either.
 fn extra_diagonal(width: usize, disk: usize) -> usize
     requires { ⌜ (0 < width) × (width ≤ 31) × (disk ≤ width + 1) ⌝ }
     ensures { λ r. ⌜ r < width ⌝ }
@@ -72,7 +72,7 @@ fn extra_diagonal(width: usize, disk: usize) -> usize
     (twice + width) / 2 % width
 }
 
-// The number of the balance of a disk that is tested first: that of the extra cell, or the one that has a set that is not clean.
+// The number of the equation of a disk that is tested first: that of the extra cell, or the one that has a set that is not clean.
 fn first_number(width: usize, disks: usize, disk: usize, dirty: usize, extra: bool) -> usize
     requires { ⌜ (0 < width) × (width ≤ 31) × (disks ≤ width) × (disk ≤ width + 1) × (dirty < 2 * width) ⌝ }
     ensures { λ r. ⌜ r < width ⌝ }
@@ -83,7 +83,7 @@ fn first_number(width: usize, disks: usize, disk: usize, dirty: usize, extra: bo
     start(width, disks, disk, dirty)
 }
 
-// The first disk that fits, two more than the data disks if none does. Where the first balance of a disk did not refuse it, that of the next one is chosen the other way.
+// The first disk that fits, two more than the data disks if none does. Where the first equation of a disk did not refuse it, that of the next one is chosen the other way.
 fn first_fit(
     width: usize,
     disks: usize,
@@ -99,7 +99,7 @@ fn first_fit(
     let mut disk = 0;
     while disk < disks + 2 {
         let from = first_number(width, disks, disk, dirty, extra);
-        let passed = survivors::balances_passed(width, disks, size, disk, from, stripe, at);
+        let passed = survivors::equations_passed(width, disks, size, disk, from, stripe, at);
         if passed == width {
             return disk;
         }
@@ -111,12 +111,12 @@ fn first_fit(
     disk
 }
 
-// The same of a dirty stripe, with one list for all balances.
+// The same of a dirty stripe, with one list for all equations.
 fn suspected(width: usize, disks: usize, size: usize, stripe: &[u8]) -> usize
     requires { ⌜ Sized width disks size (now stripe) × (isWidth width ≡ true) × (0 < width) ⌝ }
     ensures { λ r. ⌜ r ≡ suspect width disks size (now (stripe .entry)) ⌝ }
 {
-    let mut at = survivors::no_balance();
+    let mut at = survivors::no_offsets();
     let dirty = dirty_set(width, disks, size, stripe, &mut at);
     first_fit(width, disks, size, dirty, stripe, &mut at)
 }

@@ -1,2 +1,2 @@
--- The balances of a disk as lists of offsets.
-pub mod BalanceLists
+-- The equations of a disk as lists of offsets.
+pub mod EquationLists

@@ -1,4 +1,4 @@
-// The test of one disk by the cells of the others: the survivors of each of its balances XOR to zero. The offsets of a balance's survivors, at most three sets, go into one list, so no bytes are kept.
+// The test of one disk by the cells of the others: each of its equations holds, which is that the equation's survivors XOR to zero. The offsets of an equation's survivors, at most three sets, go into one list, so no bytes are kept.
 ghost use mathlib.Core.Path.{_≡_};
 ghost use mathlib.Core.Bool.{true};
 ghost use Prim.Native.Nat.{_+_, _≤_, _<_};
@@ -8,13 +8,13 @@ ghost use Rattle.laws.specs.Lists.{same};
 ghost use Rattle.xor.specs.Parts.{xorOffsets};
 ghost use Rattle.xor.specs.Reach.{Reached};
 ghost use Rattle.liberation.specs.Sets.{isWidth, setOf, diagonalSet, lostIn, survivingIn};
-ghost use Rattle.liberation_survivors.specs.Survivors.{rowSets, balance, balanced, fits};
+ghost use Rattle.liberation_survivors.specs.Survivors.{rowSets, equation, equationHolds, fits};
 ghost use Rattle.offsets.specs.Offsets.{scaled, Pushed};
 ghost use Rattle.stripes.specs.Cells.{Sized};
 ghost use Rattle.survivors.specs.Tests.{Listed};
 
 // A list with room for the cells of any three sets.
-pub fn no_balance() -> [usize; 99]
+pub fn no_offsets() -> [usize; 99]
     ensures { λ r. ⌜ length r ≡ 99 ⌝ }
 {
     [0; 99]
@@ -72,8 +72,8 @@ fn push_rows(
     push_set(width, disks, size, disk, 0, width - 1 - number, at, n)
 }
 
-// The offsets of a balance's survivors in a lent list; their count. A row set for Q; a diagonal set for P; for a data disk a diagonal set and the row sets of its rows there.
-fn push_balance(
+// The offsets of an equation's survivors in a lent list; their count. A row set for Q; a diagonal set for P; for a data disk a diagonal set and the row sets of its rows there.
+fn push_equation(
     width: usize,
     disks: usize,
     size: usize,
@@ -82,7 +82,7 @@ fn push_balance(
     at: &mut [usize],
 ) -> usize
     requires { ⌜ Listed width disks size disk number (length (now at)) ⌝ }
-    ensures { λ r. ⌜ Pushed (now (at .entry)) (now (at .exit)) 0 r (scaled size (survivingIn width disk (balance width disks disk number))) ⌝ }
+    ensures { λ r. ⌜ Pushed (now (at .entry)) (now (at .exit)) 0 r (scaled size (survivingIn width disk (equation width disks disk number))) ⌝ }
 {
     if disk == disks + 1 {
         return push_set(width, disks, size, disk, 0, number, at, 0);
@@ -105,8 +105,8 @@ fn is_zero(stripe: &[u8], n: usize, at: &[usize]) -> bool
     xor_zero::is_zero(stripe, n, at)
 }
 
-// Do the survivors of one balance XOR to zero?
-fn is_balanced(
+// Does an equation hold: do its survivors XOR to zero?
+fn equation_holds(
     width: usize,
     disks: usize,
     size: usize,
@@ -116,14 +116,14 @@ fn is_balanced(
     at: &mut [usize],
 ) -> bool
     requires { ⌜ Sized width disks size (now stripe) × (disk < disks + 2) × (number < width) × (length (now at) ≡ 99) ⌝ }
-    ensures { λ r. ⌜ r ≡ balanced width disks size disk (now (stripe .entry)) number ⌝ }
+    ensures { λ r. ⌜ r ≡ equationHolds width disks size disk (now (stripe .entry)) number ⌝ }
 {
-    let n = push_balance(width, disks, size, disk, number, at);
+    let n = push_equation(width, disks, size, disk, number, at);
     is_zero(stripe, size, &at[..n])
 }
 
-// How many balances of a disk are zero, from number `from` on and round, before one is not: the width exactly if some clean stripe is alike this one off the disk. The first of them decides most often, and no other answer depends on `from`.
-pub fn balances_passed(
+// How many equations of a disk hold, from number `from` on and round, before one does not: the width exactly if some clean stripe is alike this one off the disk. The first of them decides most often, and no other answer depends on `from`.
+pub fn equations_passed(
     width: usize,
     disks: usize,
     size: usize,
@@ -138,7 +138,7 @@ pub fn balances_passed(
     let mut passed = 0;
     while passed < width {
         let number = offsets::row_on(width, from, passed);
-        if !is_balanced(width, disks, size, disk, number, stripe, at) {
+        if !equation_holds(width, disks, size, disk, number, stripe, at) {
             return passed;
         }
         passed += 1;
@@ -151,6 +151,6 @@ pub fn disk_fits(width: usize, disks: usize, size: usize, disk: usize, stripe: &
     requires { ⌜ Sized width disks size (now stripe) × (isWidth width ≡ true) × (disk < disks + 2) ⌝ }
     ensures { λ r. ⌜ r ≡ fits width disks size disk (now (stripe .entry)) ⌝ }
 {
-    let mut at = no_balance();
-    balances_passed(width, disks, size, disk, 0, stripe, &mut at) == width
+    let mut at = no_offsets();
+    equations_passed(width, disks, size, disk, 0, stripe, &mut at) == width
 }

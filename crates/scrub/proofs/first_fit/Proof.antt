@@ -21,15 +21,15 @@ abbrev μ-loop : tie.MeasureT-loop
 loop-holds : tie.Need-loop-holds Inv-loop μ-loop
 loop-holds c = let o = c .before .before in let a = o .args in (omega arith, o .pre .4, first-all (a .width) (a .disks) (a .size) (a .stripe .now))
 
-balances-passed-requires : tie.Need-balances-passed-requires Inv-loop μ-loop
-balances-passed-requires c κs =
+equations-passed-requires : tie.Need-equations-passed-requires Inv-loop μ-loop
+equations-passed-requires c κs =
     let w = c .before in
     let o = w .before .before .before .before .before in
     (o .pre .0, o .pre .1, omega arith, w .first-number .ensures, w .before .before .loop .inv .1)
 
 returns : tie.Need-returns Inv-loop μ-loop
 returns c =
-    let v = c .before .before .before .balances-passed in
+    let v = c .before .before .before .equations-passed in
     let w = c .before .before .before .before .before in
     let l = w .before .before .loop in
     let a = w .before .before .before .before .before .args in
@@ -38,7 +38,7 @@ returns c =
 loop-again : tie.Need-loop-again Inv-loop μ-loop
 loop-again c =
     let e = c .before in
-    let v = e .before .before .before .balances-passed in
+    let v = e .before .before .before .equations-passed in
     let w = e .before .before .before .before .before in
     let l = w .before .before .loop in
     let a = w .before .before .before .before .before .args in
@@ -59,7 +59,7 @@ first-fit-spec =
     loop-holds
     (λ c. search needs)
     (λ c κs. search needs)
-    balances-passed-requires
+    equations-passed-requires
     (λ c. search needs)
     returns
     (λ c. search needs)

@@ -4,7 +4,7 @@ use Prim.Native.Nat.{_+_, _%_, _<_}
 use native.Mathlib.Nat.{mod-lt}
 use native.Mathlib.Omega.{arith}
 use borrow.Author.Needs.{needs}
-use Rattle.survivors.proofs.BalanceLists.{rows-zero, rows-apart, rows-both}
+use Rattle.survivors.proofs.EquationLists.{rows-zero, rows-apart, rows-both}
 use Rattle.survivors.proofs.push_rows.Statement.{statement}
 use Rattle.survivors.proofs.push_rows.Tie as tie
 

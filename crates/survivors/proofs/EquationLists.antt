@@ -1,4 +1,4 @@
--- The survivors of a balance as one list of offsets: pushes into a part of a list, the sets of a balance one after another, and the test of the whole list.
+-- The survivors of an equation as one list of offsets: pushes into a part of a list, the sets of an equation one after another, and the test of the whole list.
 use mathlib.Core.Path.{_≡_, sym, ap, subst, _∙_}
 use mathlib.Core.Bool.{Bool, true, false, _&&_, not, and-false}
 use mathlib.Core.List.{List, [], _∷_, _++_, append-nil}
@@ -23,9 +23,9 @@ use Rattle.liberation.proofs.LostLaws.{extraOn, lost-diagonal}
 use Rattle.liberation_stripes.specs.Stripes.{stripeLong}
 use Rattle.liberation_stripes.proofs.CellLaws.{cell-fits}
 use Rattle.liberation_stripes.proofs.Solving.{stripe-of}
-use Rattle.liberation_survivors.specs.Survivors.{rowSets, balance, balanced, allBalanced, fits}
-use Rattle.liberation_survivors.proofs.BalanceCells.{balance-last, balance-other, balance-row-parity, balance-below}
-use Rattle.liberation_survivors.proofs.Balancing.{fits-balanced}
+use Rattle.liberation_survivors.specs.Survivors.{rowSets, equation, equationHolds, equationsHold, fits}
+use Rattle.liberation_survivors.proofs.EquationCells.{equation-last, equation-other, equation-row-parity, equation-below}
+use Rattle.liberation_survivors.proofs.EquationLaws.{fits-equations}
 use Rattle.xor.specs.Parts.{xorOffsets}
 use Rattle.xor.specs.Reach.{Reached}
 use Rattle.offsets.specs.Offsets.{scaled, Pushed}
@@ -92,53 +92,53 @@ module _ (p k s d i row : ℕ) (l : i < p) (h : d < k) (e : row ≡ (i + d) % p)
       u
       v
 
--- the balances of Q, of P, and of a data disk
+-- the equations of Q, of P, and of a data disk
 module _ (p k s d i : ℕ) (l : i < p) where
-  pub last-pushed : {a b : List ℕ} {r : ℕ} → d ≡ k + 1 → Pushed a b 0 r (scaled s (survivingIn p d (setOf p k 0 i))) → Pushed a b 0 r (scaled s (survivingIn p d (balance p k d i)))
-  last-pushed e u = let q : d ≡ suc k = omega arith in named s (ap (survivingIn p d) (ap (λ (c : ℕ). balance p k c i) q ∙ balance-last p k i)) u
+  pub last-pushed : {a b : List ℕ} {r : ℕ} → d ≡ k + 1 → Pushed a b 0 r (scaled s (survivingIn p d (setOf p k 0 i))) → Pushed a b 0 r (scaled s (survivingIn p d (equation p k d i)))
+  last-pushed e u = let q : d ≡ suc k = omega arith in named s (ap (survivingIn p d) (ap (λ (c : ℕ). equation p k c i) q ∙ equation-last p k i)) u
 
-  pub row-parity-pushed : {a b : List ℕ} {r : ℕ} → d ≡ k → Pushed a b 0 r (scaled s (survivingIn p d (setOf p k 1 i))) → Pushed a b 0 r (scaled s (survivingIn p d (balance p k d i)))
-  row-parity-pushed e u = named s (ap (survivingIn p d) (ap (λ (c : ℕ). balance p k c i) e ∙ balance-row-parity p k i l)) u
+  pub row-parity-pushed : {a b : List ℕ} {r : ℕ} → d ≡ k → Pushed a b 0 r (scaled s (survivingIn p d (setOf p k 1 i))) → Pushed a b 0 r (scaled s (survivingIn p d (equation p k d i)))
+  row-parity-pushed e u = named s (ap (survivingIn p d) (ap (λ (c : ℕ). equation p k c i) e ∙ equation-row-parity p k i l)) u
 
-  pub data-pushed : {a b c : List ℕ} {n r : ℕ} → d ≤ k → Pushed a b 0 n (scaled s (survivingIn p d (setOf p k 1 i))) → Pushed b c n r (scaled s (survivingIn p d (rowSets p k (lostIn p d (diagonalSet p k i))))) → Pushed a c 0 r (scaled s (survivingIn p d (balance p k d i)))
+  pub data-pushed : {a b c : List ℕ} {n r : ℕ} → d ≤ k → Pushed a b 0 n (scaled s (survivingIn p d (setOf p k 1 i))) → Pushed b c n r (scaled s (survivingIn p d (rowSets p k (lostIn p d (diagonalSet p k i))))) → Pushed a c 0 r (scaled s (survivingIn p d (equation p k d i)))
   data-pushed h u v =
       both-pushed s (survivingIn p d (diagonalSet p k i)) (survivingIn p d (rowSets p k (lostIn p d (diagonalSet p k i))))
-      (ap (survivingIn p d) (balance-other p k d i h) ∙ kept-append (surviving-keeps p d) (diagonalSet p k i) (rowSets p k (lostIn p d (diagonalSet p k i))))
+      (ap (survivingIn p d) (equation-other p k d i h) ∙ kept-append (surviving-keeps p d) (diagonalSet p k i) (rowSets p k (lostIn p d (diagonalSet p k i))))
       u
       v
 
--- the list of a balance's survivors in a stripe t, and the test of their XOR
-module _ (p k s d i n : ℕ) (old at t : List ℕ) (numbered : i < p) (disk : d < k + 2) (room : length at ≡ 99) (long : length t ≡ stripeLong p k s) (pushed : Pushed old at 0 n (scaled s (survivingIn p d (balance p k d i)))) where
+-- the list of an equation's survivors in a stripe t, and the test of their XOR
+module _ (p k s d i n : ℕ) (old at t : List ℕ) (numbered : i < p) (disk : d < k + 2) (room : length at ≡ 99) (long : length t ≡ stripeLong p k s) (pushed : Pushed old at 0 n (scaled s (survivingIn p d (equation p k d i)))) where
   pub size-fits : s ≤ length t
   size-fits = let l : 0 < k + 2 = omega arith in omega (arith, cell-fits (p * (k + 2)) s (place p i 0) (place-below p (k + 2) i 0 numbered l))
 
-  pub balance-reached : Reached s (length t) (take n at)
-  balance-reached =
-      let xs = survivingIn p d (balance p k d i) in
+  pub equation-reached : Reached s (length t) (take n at)
+  equation-reached =
+      let xs = survivingIn p d (equation p k d i) in
       subst (Reached s (length t)) (sym (pushed .list))
-      (cells-reached s (p * (k + 2)) (length t) xs (surviving-below (p * (k + 2)) p d (balance p k d i) (balance-below p k d i numbered disk)) (omega arith) (omega (arith, pushed .count, pushed .fits, length-scaled s xs)))
+      (cells-reached s (p * (k + 2)) (length t) xs (surviving-below (p * (k + 2)) p d (equation p k d i) (equation-below p k d i numbered disk)) (omega arith) (omega (arith, pushed .count, pushed .fits, length-scaled s xs)))
 
-  pub balance-tested : (r : Bool) → r ≡ same (xorOffsets s t (take n at)) (replicate s 0) → r ≡ balanced p k s d t i
-  balance-tested r e = e ∙ ap (λ (l : List ℕ). same l (replicate s 0)) (ap (xorOffsets s t) (pushed .list) ∙ over-offsets s t (survivingIn p d (balance p k d i)))
+  pub equation-tested : (r : Bool) → r ≡ same (xorOffsets s t (take n at)) (replicate s 0) → r ≡ equationHolds p k s d t i
+  equation-tested r e = e ∙ ap (λ (l : List ℕ). same l (replicate s 0)) (ap (xorOffsets s t) (pushed .list) ∙ over-offsets s t (survivingIn p d (equation p k d i)))
 
--- what the balances say of the disk, tested from number b on and round
+-- what the equations say of the disk, tested from number b on and round
 module _ (p k s d b : ℕ) (t : List ℕ) (width : isWidth p ≡ true) (most : k ≤ p) (disk : d < k + 2) (long : length t ≡ stripeLong p k s) (bytes : allBytes t ≡ true) (below : b < p) where
-  fits-is : fits p k s d t ≡ allBalanced p k s d t
-  fits-is = fits-balanced p k s d width most disk t (stripe-of p k s t (long ∙ omega arith) bytes)
+  fits-is : fits p k s d t ≡ equationsHold p k s d t
+  fits-is = fits-equations p k s d width most disk t (stripe-of p k s t (long ∙ omega arith) bytes)
 
   -- every number comes in its turn
   in-turn : (n : ℕ) → n < p → (b + (n + p - b) % p) % p ≡ n
   in-turn n l = let e : b + (n + p - b) ≡ n + p = omega arith in add-mod-mod b (n + p - b) p ∙ ap (λ (m : ℕ). m % p) e ∙ add-mod-right n p ∙ mod-eq-of-lt l
 
-  pub one-refuses : (i : ℕ) (r : Bool) → i < p → r ≡ balanced p k s d t ((b + i) % p) → not r ≡ true → (i ≤ p) × (eqb i p ≡ fits p k s d t)
-  unfolding allBalanced
+  pub one-refuses : (i : ℕ) (r : Bool) → i < p → r ≡ equationHolds p k s d t ((b + i) % p) → not r ≡ true → (i ≤ p) × (eqb i p ≡ fits p k s d t)
+  unfolding equationsHold
   one-refuses i r l e n =
-      (omega arith, ne-eqb i p (λ q. omega arith) ∙ sym (fits-is ∙ all-fails p ((b + i) % p) (λ j. balanced p k s d t j) r (mod-lt (b + i) (omega arith)) e n))
+      (omega arith, ne-eqb i p (λ q. omega arith) ∙ sym (fits-is ∙ all-fails p ((b + i) % p) (λ j. equationHolds p k s d t j) r (mod-lt (b + i) (omega arith)) e n))
 
-  pub none-refuses : (i : ℕ) → i ≤ p → p ≤ i → allTo i (λ j. balanced p k s d t ((b + j) % p)) ≡ true → (i ≤ p) × (eqb i p ≡ fits p k s d t)
-  unfolding allBalanced
+  pub none-refuses : (i : ℕ) → i ≤ p → p ≤ i → allTo i (λ j. equationHolds p k s d t ((b + j) % p)) ≡ true → (i ≤ p) × (eqb i p ≡ fits p k s d t)
+  unfolding equationsHold
   none-refuses i l m e =
       let q : i ≡ p = omega arith in
-      let f : ℕ → Bool = λ j. balanced p k s d t j in
+      let f : ℕ → Bool = λ j. equationHolds p k s d t j in
       let each : (n : ℕ) → n < p → f n ≡ true = λ n h. sym (ap f (in-turn n h)) ∙ all-at i (λ j. f ((b + j) % p)) e ((n + p - b) % p) (omega (arith, mod-lt (n + p - b) {m = p} (omega arith))) in
       (l, eq-eqb i p q ∙ sym (fits-is ∙ all-of p f each))

@@ -1,9 +1,9 @@
--- `push_balance`: a row set for Q, a diagonal set for P, a diagonal set and the row sets of its rows there for a data disk.
+-- `push_equation`: a row set for Q, a diagonal set for P, a diagonal set and the row sets of its rows there for a data disk.
 use native.Mathlib.Omega.{arith}
 use borrow.Author.Needs.{needs}
-use Rattle.survivors.proofs.BalanceLists.{last-pushed, row-parity-pushed, data-pushed}
-use Rattle.survivors.proofs.push_balance.Statement.{statement}
-use Rattle.survivors.proofs.push_balance.Tie as tie
+use Rattle.survivors.proofs.EquationLists.{last-pushed, row-parity-pushed, data-pushed}
+use Rattle.survivors.proofs.push_equation.Statement.{statement}
+use Rattle.survivors.proofs.push_equation.Tie as tie
 
 returns : tie.Need-returns
 returns c =
@@ -29,8 +29,8 @@ returns-3 c =
     let a = o .args in
     data-pushed (a .width) (a .disks) (a .size) (a .disk) (a .number) (o .pre .numbered) (omega (arith, e .before .before .before .before .before .if1 .left)) (u .ensures .0) (v .ensures)
 
-pub push-balance-spec : {M : Type 1} → statement M
-push-balance-spec =
+pub push-equation-spec : {M : Type 1} → statement M
+push-equation-spec =
     tie.close
     (tie.spec
     (λ c. search needs)

@@ -1,4 +1,4 @@
--- `balances_passed`: the balances so far are zero, and the first that is not ends the loop. From `from` on and round every number comes in its turn.
+-- `equations_passed`: the equations so far are zero, and the first that is not ends the loop. From `from` on and round every number comes in its turn.
 use mathlib.Core.Path.{_≡_, ap, _∙_}
 use mathlib.Core.Bool.{true}
 use Prim.Native.Nat.{_+_, _-_, _%_, _≤_}
@@ -7,15 +7,15 @@ use lib.ListN.{length}
 use borrow.Author.Needs.{needs}
 use Rattle.laws.specs.Sums.{allTo}
 use Rattle.liberation.proofs.DiagonalRows.{row-below}
-use Rattle.liberation_survivors.specs.Survivors.{balanced}
+use Rattle.liberation_survivors.specs.Survivors.{equationHolds}
 use Rattle.xor.proofs.SourceLaws.{bytes-all}
 use Rattle.stripes.proofs.LoopLaws.{all-start, all-more}
-use Rattle.survivors.proofs.BalanceLists.{one-refuses, none-refuses}
-use Rattle.survivors.proofs.balances_passed.Statement.{statement}
-use Rattle.survivors.proofs.balances_passed.Tie as tie
+use Rattle.survivors.proofs.EquationLists.{one-refuses, none-refuses}
+use Rattle.survivors.proofs.equations_passed.Statement.{statement}
+use Rattle.survivors.proofs.equations_passed.Tie as tie
 
 abbrev Inv-loop : tie.InvT-loop
-Inv-loop width disks size disk from stripe at₀ passed₀ at passed = (passed ≤ width) × (length at ≡ 99) × (allTo passed (λ j. balanced width disks size disk stripe ((from + j) % width)) ≡ true)
+Inv-loop width disks size disk from stripe at₀ passed₀ at passed = (passed ≤ width) × (length at ≡ 99) × (allTo passed (λ j. equationHolds width disks size disk stripe ((from + j) % width)) ≡ true)
 
 abbrev μ-loop : tie.MeasureT-loop
 μ-loop width disks size disk from stripe at₀ passed₀ at passed = width - passed
@@ -24,14 +24,14 @@ loop-holds : tie.Need-loop-holds Inv-loop μ-loop
 loop-holds c =
     let o = c .before .before in
     let a = o .args in
-    (omega arith, o .pre .4, all-start (λ j. balanced (a .width) (a .disks) (a .size) (a .disk) (a .stripe .now) ((a .from + j) % a .width)))
+    (omega arith, o .pre .4, all-start (λ j. equationHolds (a .width) (a .disks) (a .size) (a .disk) (a .stripe .now) ((a .from + j) % a .width)))
 
 -- the number that is tested
 number-is : (c : tie.After-row-on Inv-loop μ-loop) → let o = c .before .before .before .before .before in c .row-on .result ≡ (o .args .from + c .before .before .loop .passed) % o .args .width
 number-is c = c .row-on .ensures (omega arith)
 
-is-balanced-requires : tie.Need-is-balanced-requires Inv-loop μ-loop
-is-balanced-requires c κs =
+equation-holds-requires : tie.Need-equation-holds-requires Inv-loop μ-loop
+equation-holds-requires c κs =
     let w = c .before in
     let l = w .before .before .loop in
     let o = w .before .before .before .before .before in
@@ -39,25 +39,25 @@ is-balanced-requires c κs =
 
 returns : tie.Need-returns Inv-loop μ-loop
 returns c =
-    let v = c .before .before .before .is-balanced in
+    let v = c .before .before .before .equation-holds in
     let w = c .before .before .before .before .before in
     let l = w .before .before .loop in
     let g = w .before .before .before .before in
     let o = g .before in
     let a = o .args in
     one-refuses (a .width) (a .disks) (a .size) (a .disk) (a .from) (a .stripe .now) (o .pre .1) (o .pre .0 .disks) (o .pre .2) (o .pre .0 .long) (bytes-all (a .stripe .now) (g .shared-slice-known .given)) (o .pre .3)
-    (l .passed) (v .result) (omega arith) (v .ensures ∙ ap (balanced (a .width) (a .disks) (a .size) (a .disk) (a .stripe .now)) (number-is w)) (c .if1 .taken)
+    (l .passed) (v .result) (omega arith) (v .ensures ∙ ap (equationHolds (a .width) (a .disks) (a .size) (a .disk) (a .stripe .now)) (number-is w)) (c .if1 .taken)
 
 loop-again : tie.Need-loop-again Inv-loop μ-loop
 loop-again c =
-    let v = c .before .before .before .is-balanced in
+    let v = c .before .before .before .equation-holds in
     let w = c .before .before .before .before .before in
     let l = w .before .before .loop in
     let a = w .before .before .before .before .before .args in (
       omega arith,
       search needs,
-      all-more (l .passed) (λ j. balanced (a .width) (a .disks) (a .size) (a .disk) (a .stripe .now) ((a .from + j) % a .width)) (v .result) (l .inv .2)
-          (v .ensures ∙ ap (balanced (a .width) (a .disks) (a .size) (a .disk) (a .stripe .now)) (number-is w)) (c .if1 .left),
+      all-more (l .passed) (λ j. equationHolds (a .width) (a .disks) (a .size) (a .disk) (a .stripe .now) ((a .from + j) % a .width)) (v .result) (l .inv .2)
+          (v .ensures ∙ ap (equationHolds (a .width) (a .disks) (a .size) (a .disk) (a .stripe .now)) (number-is w)) (c .if1 .left),
     )
 
 returns-2 : tie.Need-returns-2 Inv-loop μ-loop
@@ -69,15 +69,15 @@ returns-2 c =
     none-refuses (a .width) (a .disks) (a .size) (a .disk) (a .from) (a .stripe .now) (o .pre .1) (o .pre .0 .disks) (o .pre .2) (o .pre .0 .long) (bytes-all (a .stripe .now) (g .shared-slice-known .given)) (o .pre .3)
     (l .passed) (l .inv .0) (omega arith) (l .inv .2)
 
-pub balances-passed-spec : {M : Type 1} → statement M
-balances-passed-spec =
+pub equations-passed-spec : {M : Type 1} → statement M
+equations-passed-spec =
     tie.close
     (tie.spec
     Inv-loop
     μ-loop
     loop-holds
     (λ c κs. search needs)
-    is-balanced-requires
+    equation-holds-requires
     (λ c. search needs)
     returns
     (λ c. search needs)
