@@ -13,7 +13,7 @@ use Rattle.laws.proofs.ChoiceLaws.{first-none, first-kept, first-next, first-ze
 use Rattle.laws.proofs.OrderLaws.{lt-or-le}
 use Rattle.liberation.specs.Sets.{diskFault, shapeFault, longFault}
 use Rattle.liberation.proofs.FaultLaws.{shape-of, long-of, disk-refused, disk-accepted}
-use Rattle.liberation_servers.specs.Servers.{serversLong, lost, firstLoss, secondLoss, serversFault, serverFault, lostFault, lossFault, lossesFault, callFault, writeFault, rebuildFault}
+use Rattle.liberation_servers.specs.Servers.{serversLong, lost, firstLoss, secondLoss, serversFault, serverFault, byteFault, pairFault, lossesFault, callFault, writeFault, rebuildFault}
 use Rattle.liberation_servers.specs.Claims.{Given, GivenLosses}
 
 -- one pair of losses
@@ -22,61 +22,61 @@ pub record Losses (k a b : ℕ) : Type 0 where
   pub second : lost b ≡ true → b ≤ k + 1
   pub apart : lost a ≡ true → a ≡ b → ⊥
 
-pub losses-of : (k a b : ℕ) → lossFault k a b ≡ 0 → Losses k a b
+pub losses-of : (k a b : ℕ) → pairFault k a b ≡ 0 → Losses k a b
 losses-of k a b h =
-    let x = first-none (lostFault k a) (firstOf (lostFault k b) (when (lost a && eqb a b) 4)) h in
-    let y = first-none (lostFault k b) (when (lost a && eqb a b) 4) (x .1) in
+    let x = first-none (byteFault k a) (firstOf (byteFault k b) (when (lost a && eqb a b) 4)) h in
+    let y = first-none (byteFault k b) (when (lost a && eqb a b) 4) (x .1) in
     record {
       first = λ e. low a (x .0) e;
       second = λ e. low b (y .0) e;
       apart = λ e. eqb-false a b (sym (ap (λ (c : Bool). c && eqb a b) e) ∙ when-none (lost a && eqb a b) 3 (y .1));
     }
   where
-    low : (d : ℕ) → lostFault k d ≡ 0 → lost d ≡ true → d ≤ k + 1
+    low : (d : ℕ) → byteFault k d ≡ 0 → lost d ≡ true → d ≤ k + 1
     low d z e = ltb-false (k + 1) d (when-none (ltb (k + 1) d) 2 (sym (ap (λ (c : Bool). pick c (diskFault k d) 0) e) ∙ z))
 
 -- no loss is none twice, not one disk twice; a disk over k + 1 is refused before one named twice
-pub loss-none : (k : ℕ) → lossFault k 255 255 ≡ 0
-loss-none k = refl
+pub pair-no-loss : (k : ℕ) → pairFault k 255 255 ≡ 0
+pair-no-loss k = refl
 
-over-fault : (k d : ℕ) → lost d ≡ true → k + 1 < d → lostFault k d ≡ 3
+over-fault : (k d : ℕ) → lost d ≡ true → k + 1 < d → byteFault k d ≡ 3
 over-fault k d h l = ap (λ (c : Bool). pick c (diskFault k d) 0) h ∙ disk-refused k d l
 
-pub loss-over : (k a b : ℕ) → lost a ≡ true → k + 1 < a → lossFault k a b ≡ 3
-loss-over k a b h l = ap (λ (n : ℕ). firstOf n (firstOf (lostFault k b) (when (lost a && eqb a b) 4))) (over-fault k a h l)
+pub pair-over : (k a b : ℕ) → lost a ≡ true → k + 1 < a → pairFault k a b ≡ 3
+pair-over k a b h l = ap (λ (n : ℕ). firstOf n (firstOf (byteFault k b) (when (lost a && eqb a b) 4))) (over-fault k a h l)
 
-pub loss-twice : (k a : ℕ) → lost a ≡ true → a ≤ k + 1 → lossFault k a a ≡ 4
-loss-twice k a h l =
+pub pair-twice : (k a : ℕ) → lost a ≡ true → a ≤ k + 1 → pairFault k a a ≡ 4
+pair-twice k a h l =
     ap₂ (λ (n : ℕ) (d : Bool). firstOf n (firstOf n (when d 4)))
     (ap (λ (c : Bool). pick c (diskFault k a) 0) h ∙ disk-accepted k a l)
     (and-i (lost a) (eqb a a) h (eq-eqb a a refl))
 
 -- every server but j
-pub losses-at : (n k j : ℕ) (ls : List ℕ) → lossesFault n k j ls ≡ 0 → (i : ℕ) → i < n → (i ≡ j → ⊥) → lossFault k (firstLoss ls i) (secondLoss ls i) ≡ 0
+pub losses-at : (n k j : ℕ) (ls : List ℕ) → lossesFault n k j ls ≡ 0 → (i : ℕ) → i < n → (i ≡ j → ⊥) → pairFault k (firstLoss ls i) (secondLoss ls i) ≡ 0
 unfolding lossesFault
 losses-at zero k j ls h i l a = absurd (omega arith)
 losses-at (suc n) k j ls h i l a =
-    let x = first-none (lossesFault n k j ls) (pick (eqb n j) 0 (lossFault k (firstLoss ls n) (secondLoss ls n))) h in
+    let x = first-none (lossesFault n k j ls) (pick (eqb n j) 0 (pairFault k (firstLoss ls n) (secondLoss ls n))) h in
     ⊎-elim (λ m. losses-at n k j ls (x .0) i m a) (λ m. let e : i ≡ n = omega arith in last e (x .1)) (lt-or-le i n)
   where
-    last : i ≡ n → pick (eqb n j) 0 (lossFault k (firstLoss ls n) (secondLoss ls n)) ≡ 0 → lossFault k (firstLoss ls i) (secondLoss ls i) ≡ 0
+    last : i ≡ n → pick (eqb n j) 0 (pairFault k (firstLoss ls n) (secondLoss ls n)) ≡ 0 → pairFault k (firstLoss ls i) (secondLoss ls i) ≡ 0
     last e z =
-        ap (λ (c : ℕ). lossFault k (firstLoss ls c) (secondLoss ls c)) e
-        ∙ sym (ap (λ (b : Bool). pick b 0 (lossFault k (firstLoss ls n) (secondLoss ls n))) (ne-eqb n j (λ q. a (e ∙ q))))
+        ap (λ (c : ℕ). pairFault k (firstLoss ls c) (secondLoss ls c)) e
+        ∙ sym (ap (λ (b : Bool). pick b 0 (pairFault k (firstLoss ls n) (secondLoss ls n))) (ne-eqb n j (λ q. a (e ∙ q))))
         ∙ z
 
 -- the first server whose pair is refused decides
-pub losses-first : (n k j : ℕ) (ls : List ℕ) (i r : ℕ) → i < n → lossesFault i k j ls ≡ 0 → r ≡ pick (eqb i j) 0 (lossFault k (firstLoss ls i) (secondLoss ls i)) → (r ≡ 0 → ⊥) → r ≡ lossesFault n k j ls
+pub losses-first : (n k j : ℕ) (ls : List ℕ) (i r : ℕ) → i < n → lossesFault i k j ls ≡ 0 → r ≡ pick (eqb i j) 0 (pairFault k (firstLoss ls i) (secondLoss ls i)) → (r ≡ 0 → ⊥) → r ≡ lossesFault n k j ls
 unfolding lossesFault
 losses-first zero k j ls i r l z e f = absurd (omega arith)
-losses-first (suc n) k j ls i r l z e f = ⊎-elim (λ h. first-kept r (lossesFault n k j ls) (pick (eqb n j) 0 (lossFault k (firstLoss ls n) (secondLoss ls n))) (losses-first n k j ls i r h z e f) f) here (lt-or-le i n)
+losses-first (suc n) k j ls i r l z e f = ⊎-elim (λ h. first-kept r (lossesFault n k j ls) (pick (eqb n j) 0 (pairFault k (firstLoss ls n) (secondLoss ls n))) (losses-first n k j ls i r h z e f) f) here (lt-or-le i n)
   where
     here : n ≤ i → r ≡ lossesFault (suc n) k j ls
     here h =
         let q : i ≡ n = omega arith in
-        first-next r (lossesFault n k j ls) (pick (eqb n j) 0 (lossFault k (firstLoss ls n) (secondLoss ls n)))
+        first-next r (lossesFault n k j ls) (pick (eqb n j) 0 (pairFault k (firstLoss ls n) (secondLoss ls n)))
         (sym (ap (λ (c : ℕ). lossesFault c k j ls) q) ∙ z)
-        (e ∙ ap (λ (c : ℕ). pick (eqb c j) 0 (lossFault k (firstLoss ls c) (secondLoss ls c))) q)
+        (e ∙ ap (λ (c : ℕ). pick (eqb c j) 0 (pairFault k (firstLoss ls c) (secondLoss ls c))) q)
 
 -- the limits of m, and of a server's number
 pub count-of : (m : ℕ) → serversFault m ≡ 0 → (2 ≤ m) × (m ≤ 16)

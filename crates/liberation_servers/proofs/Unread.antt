@@ -9,7 +9,7 @@ use lib.ListN.{length}
 use borrow.Author.Tests.{eqb-false}
 use Rattle.laws.specs.Choice.{pick, when, firstOf}
 use Rattle.liberation_stripes.specs.Stripes.{withCell, stripeLong}
-use Rattle.liberation_servers.specs.Servers.{serverAt, firstLoss, secondLoss, serverSolved, mended, mendedAt, mendedAll, serverRebuilt, serverFault, lossFault, lossesFault, callFault, rebuildFault}
+use Rattle.liberation_servers.specs.Servers.{serverAt, firstLoss, secondLoss, serverSolved, mended, mendedAt, mendedAll, serverRebuilt, serverFault, pairFault, lossesFault, callFault, rebuildFault}
 
 -- two lists of losses alike but for server j's
 module _ (p k s m j : ℕ) (ls ms : List ℕ) (same : (i : ℕ) → i < suc m → (i ≡ j → ⊥) → (firstLoss ls i ≡ firstLoss ms i) × (secondLoss ls i ≡ secondLoss ms i)) where
@@ -18,9 +18,9 @@ module _ (p k s m j : ℕ) (ls ms : List ℕ) (same : (i : ℕ) → i < suc m �
   losses-unread zero h = refl
   losses-unread (suc n) h = ap₂ firstOf (losses-unread n (omega arith)) (go (eqb n j) refl)
     where
-      go : (b : Bool) → eqb n j ≡ b → pick b 0 (lossFault k (firstLoss ls n) (secondLoss ls n)) ≡ pick b 0 (lossFault k (firstLoss ms n) (secondLoss ms n))
+      go : (b : Bool) → eqb n j ≡ b → pick b 0 (pairFault k (firstLoss ls n) (secondLoss ls n)) ≡ pick b 0 (pairFault k (firstLoss ms n) (secondLoss ms n))
       go true e = refl
-      go false e = let w = same n (omega arith) (eqb-false n j e) in ap₂ (lossFault k) (w .0) (w .1)
+      go false e = let w = same n (omega arith) (eqb-false n j e) in ap₂ (pairFault k) (w .0) (w .1)
 
   mended-unread : (n : ℕ) (ts : List ℕ) → n ≤ suc m → mendedAll n p k s j ls ts ≡ mendedAll n p k s j ms ts
   unfolding mendedAll

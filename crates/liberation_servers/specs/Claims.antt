@@ -6,7 +6,7 @@ use Prim.Native.Nat.{ℕ, suc, _+_, _*_, _≤_, _<_}
 use lib.ListN.{length}
 use Rattle.liberation.specs.Sets.{isWidth, diskAt}
 use Rattle.liberation_stripes.specs.Stripes.{cellAt, xorOver, stripeLong, clean}
-use Rattle.liberation_servers.specs.Servers.{upTo, serverAt, serversLong, isServers, firstLoss, secondLoss, lossFault}
+use Rattle.liberation_servers.specs.Servers.{upTo, serverAt, serversLong, isServers, firstLoss, secondLoss, pairFault}
 
 -- "all m + 1 stripes were clean and the extra the XOR of the rest"
 pub record CleanServers (p k s m : ℕ) (us : List ℕ) : Type 0 where
@@ -35,4 +35,4 @@ pub record Given (p k s m : ℕ) (ts : List ℕ) : Type 0 where
 pub record GivenLosses (k m j : ℕ) (ls : List ℕ) : Type 0 where
   pub server : j < suc m
   pub long : length ls ≡ 2 * suc m
-  pub pairs : (i : ℕ) → i < suc m → (i ≡ j → ⊥) → lossFault k (firstLoss ls i) (secondLoss ls i) ≡ 0
+  pub pairs : (i : ℕ) → i < suc m → (i ≡ j → ⊥) → pairFault k (firstLoss ls i) (secondLoss ls i) ≡ 0

@@ -76,15 +76,15 @@ abbrev pub serverFault : ℕ → ℕ → ℕ
 serverFault m j = firstOf (serversFault m) (when (ltb m j) 18)
 
 -- "then 3 and 4 server by server": one byte, one server's pair, and those of the first n servers but j
-abbrev pub lostFault : ℕ → ℕ → ℕ
-lostFault k d = pick (lost d) (diskFault k d) 0
+abbrev pub byteFault : ℕ → ℕ → ℕ
+byteFault k d = pick (lost d) (diskFault k d) 0
 
-abbrev pub lossFault : ℕ → ℕ → ℕ → ℕ
-lossFault k a b = firstOf (lostFault k a) (firstOf (lostFault k b) (when (lost a && eqb a b) 4))
+abbrev pub pairFault : ℕ → ℕ → ℕ → ℕ
+pairFault k a b = firstOf (byteFault k a) (firstOf (byteFault k b) (when (lost a && eqb a b) 4))
 
 unfoldable pub lossesFault : ℕ → ℕ → ℕ → List ℕ → ℕ
 lossesFault zero k j ls = 0
-lossesFault (suc n) k j ls = firstOf (lossesFault n k j ls) (pick (eqb n j) 0 (lossFault k (firstLoss ls n) (secondLoss ls n)))
+lossesFault (suc n) k j ls = firstOf (lossesFault n k j ls) (pick (eqb n j) 0 (pairFault k (firstLoss ls n) (secondLoss ls n)))
 
 -- the refusals of the two calls, in order: 1, 13, 2, 18 by the test n, 5 for the stripes; then, of a rebuild, 5 for the losses, 3 and 4
 abbrev pub callFault : ℕ → ℕ → ℕ → ℕ → ℕ → List ℕ → ℕ

@@ -9,7 +9,7 @@ use borrow.Author.Tests.{eq-eqb, ne-eqb}
 use Rattle.laws.specs.Choice.{pick, when, firstOf}
 use Rattle.laws.proofs.ChoiceLaws.{first-next}
 use Rattle.liberation.specs.Sets.{diskFault}
-use Rattle.liberation_servers.specs.Servers.{lost, firstLoss, secondLoss, lostFault, lossFault, lossesFault}
+use Rattle.liberation_servers.specs.Servers.{lost, firstLoss, secondLoss, byteFault, pairFault, lossesFault}
 
 -- 255 is no disk
 pub lost-false : (d : ℕ) → d ≡ 255 → lost d ≡ false
@@ -18,36 +18,36 @@ lost-false d e = ap not (eq-eqb d 255 e)
 pub lost-true : (d : ℕ) → (d ≡ 255 → ⊥) → lost d ≡ true
 lost-true d n = ap not (ne-eqb d 255 n)
 
-pub fault-none : (k d : ℕ) → d ≡ 255 → 0 ≡ lostFault k d
+pub fault-none : (k d : ℕ) → d ≡ 255 → 0 ≡ byteFault k d
 fault-none k d e = sym (ap (λ (b : Bool). pick b (diskFault k d) 0) (lost-false d e))
 
-pub fault-disk : (k d r : ℕ) → (d ≡ 255 → ⊥) → r ≡ diskFault k d → r ≡ lostFault k d
+pub fault-disk : (k d r : ℕ) → (d ≡ 255 → ⊥) → r ≡ diskFault k d → r ≡ byteFault k d
 fault-disk k d r n e = e ∙ sym (ap (λ (b : Bool). pick b (diskFault k d) 0) (lost-true d n))
 
 -- neither of a pair is refused by itself
-module _ (k a b : ℕ) (za : lostFault k a ≡ 0) (zb : lostFault k b ≡ 0) where
-  last : (n : ℕ) → n ≡ when (lost a && eqb a b) 4 → n ≡ lossFault k a b
-  last n e = first-next n (lostFault k a) (firstOf (lostFault k b) (when (lost a && eqb a b) 4)) za (first-next n (lostFault k b) (when (lost a && eqb a b) 4) zb e)
+module _ (k a b : ℕ) (za : byteFault k a ≡ 0) (zb : byteFault k b ≡ 0) where
+  last : (n : ℕ) → n ≡ when (lost a && eqb a b) 4 → n ≡ pairFault k a b
+  last n e = first-next n (byteFault k a) (firstOf (byteFault k b) (when (lost a && eqb a b) 4)) za (first-next n (byteFault k b) (when (lost a && eqb a b) 4) zb e)
 
-  pub pair-none : a ≡ 255 → 0 ≡ lossFault k a b
+  pub pair-none : a ≡ 255 → 0 ≡ pairFault k a b
   pair-none e = last 0 (sym (ap (λ (c : Bool). when (c && eqb a b) 4) (lost-false a e)))
 
-  pub pair-same : (a ≡ 255 → ⊥) → a ≡ b → 4 ≡ lossFault k a b
+  pub pair-same : (a ≡ 255 → ⊥) → a ≡ b → 4 ≡ pairFault k a b
   pair-same n e = last 4 (sym (ap₂ (λ (c d : Bool). when (c && d) 4) (lost-true a n) (eq-eqb a b e)))
 
-  pub pair-apart : (a ≡ 255 → ⊥) → (a ≡ b → ⊥) → 0 ≡ lossFault k a b
+  pub pair-apart : (a ≡ 255 → ⊥) → (a ≡ b → ⊥) → 0 ≡ pairFault k a b
   pair-apart n e = last 0 (sym (ap₂ (λ (c d : Bool). when (c && d) 4) (lost-true a n) (ne-eqb a b e)))
 
 -- the lost server's turn, and another one's
 module _ (k j i : ℕ) (ls : List ℕ) where
-  pub turn-none : i ≡ j → 0 ≡ pick (eqb i j) 0 (lossFault k (firstLoss ls i) (secondLoss ls i))
-  turn-none e = sym (ap (λ (b : Bool). pick b 0 (lossFault k (firstLoss ls i) (secondLoss ls i))) (eq-eqb i j e))
+  pub turn-none : i ≡ j → 0 ≡ pick (eqb i j) 0 (pairFault k (firstLoss ls i) (secondLoss ls i))
+  turn-none e = sym (ap (λ (b : Bool). pick b 0 (pairFault k (firstLoss ls i) (secondLoss ls i))) (eq-eqb i j e))
 
-  pub turn-pair : (r : ℕ) → (i ≡ j → ⊥) → r ≡ lossFault k (firstLoss ls i) (secondLoss ls i) → r ≡ pick (eqb i j) 0 (lossFault k (firstLoss ls i) (secondLoss ls i))
-  turn-pair r n e = e ∙ sym (ap (λ (b : Bool). pick b 0 (lossFault k (firstLoss ls i) (secondLoss ls i))) (ne-eqb i j n))
+  pub turn-pair : (r : ℕ) → (i ≡ j → ⊥) → r ≡ pairFault k (firstLoss ls i) (secondLoss ls i) → r ≡ pick (eqb i j) 0 (pairFault k (firstLoss ls i) (secondLoss ls i))
+  turn-pair r n e = e ∙ sym (ap (λ (b : Bool). pick b 0 (pairFault k (firstLoss ls i) (secondLoss ls i))) (ne-eqb i j n))
 
 -- the pairs so far have no refusal, and this one has none
-pub losses-more : (i k j r : ℕ) (ls : List ℕ) → lossesFault i k j ls ≡ 0 → r ≡ pick (eqb i j) 0 (lossFault k (firstLoss ls i) (secondLoss ls i)) → r ≡ 0 → lossesFault (i + 1) k j ls ≡ 0
+pub losses-more : (i k j r : ℕ) (ls : List ℕ) → lossesFault i k j ls ≡ 0 → r ≡ pick (eqb i j) 0 (pairFault k (firstLoss ls i) (secondLoss ls i)) → r ≡ 0 → lossesFault (i + 1) k j ls ≡ 0
 unfolding lossesFault
 losses-more i k j r ls h e z = ap (λ (n : ℕ). lossesFault n k j ls) (add-one i) ∙ ap₂ firstOf h (sym e ∙ z)
 

@@ -18,7 +18,7 @@ use Rattle.liberation.proofs.FaultLaws.{array-of, array-none, plan-none}
 use Rattle.liberation_stripes.specs.Stripes.{withCell, stripeLong, followed}
 use Rattle.liberation_stripes.proofs.CellLaws.{cell-fits}
 use Rattle.liberation_pairs.specs.Pairs.{pairSolved}
-use Rattle.liberation_servers.specs.Servers.{lost, firstLoss, secondLoss, lossFault, mended, mendedAt, mendedTurn, mendedAll}
+use Rattle.liberation_servers.specs.Servers.{lost, firstLoss, secondLoss, pairFault, mended, mendedAt, mendedTurn, mendedAll}
 use Rattle.liberation_servers.specs.Claims.{Given, GivenLosses}
 use Rattle.liberation_servers.proofs.RefusalLaws.{losses-of}
 use Rattle.server_losses.specs.Turns.{onlyLoss, Turn}
@@ -72,7 +72,7 @@ module _ (a b d : ℕ) (e : d ≡ onlyLoss a b) where
   second-too z n v = n (only-first a b n v ∙ sym e ∙ z)
 
   -- an array that is not refused, with a pair of losses that is not
-  module _ (p k : ℕ) (array : arrayFault p k ≡ 0) (pair : lossFault k a b ≡ 0) where
+  module _ (p k : ℕ) (array : arrayFault p k ≡ 0) (pair : pairFault k a b ≡ 0) where
     pub only-plan : (d ≡ 255 → ⊥) → planFault p k d ≡ 0
     only-plan n = let q = array-of p k array in plan-none p k d (q .0) (q .1) (q .2) (go (one-lost n))
       where
@@ -87,7 +87,7 @@ module _ (a b d : ℕ) (e : d ≡ onlyLoss a b) where
       go (first-is x y w) = first-lost p k s a b t u x y (q ∙ sym (ap (λ (f : ℕ). followed p k s f (planOf p k f) t) w))
       go (second-is x y w) = second-lost p k s a b t u x y (q ∙ sym (ap (λ (f : ℕ). followed p k s f (planOf p k f) t) w))
 
-pub both-disks : (p k a b : ℕ) → arrayFault p k ≡ 0 → lossFault k a b ≡ 0 → (a ≡ 255 → ⊥) → (b ≡ 255 → ⊥) → (p % 2 ≡ 1) × (a ≤ k + 1) × (b ≤ k + 1) × (a ≡ b → ⊥)
+pub both-disks : (p k a b : ℕ) → arrayFault p k ≡ 0 → pairFault k a b ≡ 0 → (a ≡ 255 → ⊥) → (b ≡ 255 → ⊥) → (p % 2 ≡ 1) × (a ≤ k + 1) × (b ≤ k + 1) × (a ≡ b → ⊥)
 both-disks p k a b array pair na nb =
     let l = losses-of k a b pair in
     (width-odd p (array-of p k array .0), l .first (lost-true a na), l .second (lost-true b nb), l .apart (lost-true a na))

@@ -6,7 +6,7 @@ use lib.ListN.{length}
 use Rattle.laws.specs.Choice.{pick}
 use Rattle.liberation.specs.Sets.{arrayFault}
 use Rattle.liberation_stripes.specs.Stripes.{stripeLong}
-use Rattle.liberation_servers.specs.Servers.{lost, firstLoss, secondLoss, lossFault}
+use Rattle.liberation_servers.specs.Servers.{lost, firstLoss, secondLoss, pairFault}
 
 -- the one lost disk of a pair, 255 if none is lost or two are
 abbrev pub onlyLoss : ℕ → ℕ → ℕ
@@ -18,4 +18,4 @@ pub record Turn (p k s j i : ℕ) (ls ts : List ℕ) : Type 0 where
   pub small : s ≤ 4096
   pub stripe : i * stripeLong p k s + stripeLong p k s ≤ length ts
   pub pair : 2 * i + 1 < length ls
-  pub losses : (i ≡ j → ⊥) → lossFault k (firstLoss ls i) (secondLoss ls i) ≡ 0
+  pub losses : (i ≡ j → ⊥) → pairFault k (firstLoss ls i) (secondLoss ls i) ≡ 0

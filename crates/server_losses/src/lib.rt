@@ -5,14 +5,14 @@ ghost use lib.Dec.{eqb};
 ghost use lib.ListN.{length};
 ghost use Rattle.laws.specs.Choice.{pick};
 ghost use Rattle.liberation.specs.Sets.{arrayFault};
-ghost use Rattle.liberation_servers.specs.Servers.{firstLoss, secondLoss, lostFault, lossFault, lossesFault, mended, mendedTurn, mendedAll};
+ghost use Rattle.liberation_servers.specs.Servers.{firstLoss, secondLoss, byteFault, pairFault, lossesFault, mended, mendedTurn, mendedAll};
 ghost use Rattle.liberation_servers.specs.Claims.{Given, GivenLosses};
 ghost use Rattle.stripes.specs.Cells.{Sized};
 ghost use Rattle.server_losses.specs.Turns.{onlyLoss, Turn};
 
 // The refusal of a lost disk by 3, 0 for none: 255 is no disk.
-fn lost_fault(disks: usize, disk: usize) -> u8
-    ensures { λ r. ⌜ r ≡ lostFault disks disk ⌝ }
+fn byte_fault(disks: usize, disk: usize) -> u8
+    ensures { λ r. ⌜ r ≡ byteFault disks disk ⌝ }
 {
     if disk == 255 {
         return 0;
@@ -21,14 +21,14 @@ fn lost_fault(disks: usize, disk: usize) -> u8
 }
 
 // The refusal of a server's two losses by 3 or 4, 0 for none.
-fn loss_fault(disks: usize, first: usize, second: usize) -> u8
-    ensures { λ r. ⌜ r ≡ lossFault disks first second ⌝ }
+fn pair_fault(disks: usize, first: usize, second: usize) -> u8
+    ensures { λ r. ⌜ r ≡ pairFault disks first second ⌝ }
 {
-    let fault = lost_fault(disks, first);
+    let fault = byte_fault(disks, first);
     if fault != 0 {
         return fault;
     }
-    let other = lost_fault(disks, second);
+    let other = byte_fault(disks, second);
     if other != 0 {
         return other;
     }
@@ -41,13 +41,13 @@ fn loss_fault(disks: usize, first: usize, second: usize) -> u8
 // The refusal of the losses of server i. Those of the lost server are not read.
 fn turn_fault(disks: usize, lost: usize, i: usize, losses: &[u8]) -> u8
     requires { ⌜ 2 * i + 1 < length (now losses) ⌝ }
-    ensures { λ r. ⌜ r ≡ pick (eqb i lost) 0 (lossFault disks (firstLoss (now (losses .entry)) i) (secondLoss (now (losses .entry)) i)) ⌝ }
+    ensures { λ r. ⌜ r ≡ pick (eqb i lost) 0 (pairFault disks (firstLoss (now (losses .entry)) i) (secondLoss (now (losses .entry)) i)) ⌝ }
 {
     if i == lost {
         return 0;
     }
     let at = 2 * i;
-    loss_fault(disks, losses[at] as usize, losses[at + 1] as usize)
+    pair_fault(disks, losses[at] as usize, losses[at + 1] as usize)
 }
 
 // The refusal of all losses, server by server, but the lost one's: the first that is refused.
@@ -86,7 +86,7 @@ fn mend_server(
     stripe: &mut [u8],
 )
     requires { ⌜ Sized width disks size (now stripe) ⌝ }
-    requires { ⌜ (arrayFault width disks ≡ 0) × (lossFault disks first second ≡ 0) ⌝ }
+    requires { ⌜ (arrayFault width disks ≡ 0) × (pairFault disks first second ≡ 0) ⌝ }
     ensures { λ _. ⌜ now (stripe .exit) ≡ mended width disks size first second (now (stripe .entry)) ⌝ }
 {
     let disk = only_loss(first, second);

@@ -9,17 +9,17 @@ use Rattle.server_losses.proofs.turn_fault.Tie as tie
 returns : tie.Need-returns
 returns c = let a = c .before .before .args in turn-none (a .disks) (a .lost) (a .i) (a .losses .now) (c .if1 .taken)
 
-cast-loss-fault : tie.Need-cast-loss-fault
-cast-loss-fault c = omega (arith, c .shared-slice-known2 .given (2 * c .before .before .before .args .i))
+cast-pair-fault : tie.Need-cast-pair-fault
+cast-pair-fault c = omega (arith, c .shared-slice-known2 .given (2 * c .before .before .before .args .i))
 
-cast-loss-fault-2 : tie.Need-cast-loss-fault-2
-cast-loss-fault-2 c = omega (arith, c .shared-slice-known3 .given (2 * c .before .before .before .before .args .i + 1))
+cast-pair-fault-2 : tie.Need-cast-pair-fault-2
+cast-pair-fault-2 c = omega (arith, c .shared-slice-known3 .given (2 * c .before .before .before .before .args .i + 1))
 
 returns-2 : tie.Need-returns-2
 returns-2 c =
     let e = c .before .before .before in
     let a = e .before .before .args in
-    turn-pair (a .disks) (a .lost) (a .i) (a .losses .now) (c .loss-fault .result) (e .if1 .left) (c .loss-fault .ensures)
+    turn-pair (a .disks) (a .lost) (a .i) (a .losses .now) (c .pair-fault .result) (e .if1 .left) (c .pair-fault .ensures)
 
 pub turn-fault-spec : {M : Type 1} → statement M
 turn-fault-spec =
@@ -28,9 +28,9 @@ turn-fault-spec =
     returns
     (λ c. search needs)
     (λ c. search needs)
-    cast-loss-fault
+    cast-pair-fault
     (λ c. search needs)
     (λ c. search needs)
-    cast-loss-fault-2
+    cast-pair-fault-2
     (λ c κs. search needs)
     returns-2)

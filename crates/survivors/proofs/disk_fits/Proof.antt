@@ -1,4 +1,4 @@
--- `disk_fits`: all equations are passed exactly if the disk fits.
+-- `disk_fits`: all equations hold exactly if the disk fits.
 use mathlib.Core.Path.{_≡_}
 use native.Mathlib.Omega.{arith}
 use borrow.Author.Needs.{needs}

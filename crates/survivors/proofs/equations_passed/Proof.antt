@@ -1,4 +1,4 @@
--- `equations_passed`: the equations so far are zero, and the first that is not ends the loop. From `from` on and round every number comes in its turn.
+-- `equations_passed`: the equations so far hold, and the first that does not ends the loop. From `from` on and round every number comes in its turn.
 use mathlib.Core.Path.{_≡_, ap, _∙_}
 use mathlib.Core.Bool.{true}
 use Prim.Native.Nat.{_+_, _-_, _%_, _≤_}

@@ -1,25 +1,25 @@
--- `loss_fault`: 3 for either byte, then 4 for a disk that is named twice.
+-- `pair_fault`: 3 for either byte, then 4 for a disk that is named twice.
 use mathlib.Core.Path.{_≡_, sym, _∙_}
 use borrow.Author.Needs.{needs}
 use Rattle.laws.proofs.ChoiceLaws.{first-kept, first-next}
-use Rattle.liberation_servers.specs.Servers.{lostFault}
+use Rattle.liberation_servers.specs.Servers.{byteFault}
 use Rattle.server_losses.proofs.LossFaults.{pair-none, pair-same, pair-apart}
-use Rattle.server_losses.proofs.loss_fault.Statement.{statement}
-use Rattle.server_losses.proofs.loss_fault.Tie as tie
+use Rattle.server_losses.proofs.pair_fault.Statement.{statement}
+use Rattle.server_losses.proofs.pair_fault.Tie as tie
 
 returns : tie.Need-returns
-returns c = let f = c .before .lost-fault in first-kept (f .result) _ _ (f .ensures) (c .if1 .taken)
+returns c = let f = c .before .byte-fault in first-kept (f .result) _ _ (f .ensures) (c .if1 .taken)
 
 -- the first byte has no refusal
-first : (c : tie.Else1) → let a = c .before .before .args in lostFault (a .disks) (a .first) ≡ 0
-first c = sym (c .before .lost-fault .ensures) ∙ c .if1 .left
+first : (c : tie.Else1) → let a = c .before .before .args in byteFault (a .disks) (a .first) ≡ 0
+first c = sym (c .before .byte-fault .ensures) ∙ c .if1 .left
 
 returns-2 : tie.Need-returns-2
-returns-2 c = let f = c .before .lost-fault2 in first-next (f .result) _ _ (first (c .before .before)) (first-kept (f .result) _ _ (f .ensures) (c .if2 .taken))
+returns-2 c = let f = c .before .byte-fault2 in first-next (f .result) _ _ (first (c .before .before)) (first-kept (f .result) _ _ (f .ensures) (c .if2 .taken))
 
 -- nor has the second
-second : (c : tie.Else2) → let a = c .before .before .before .before .args in lostFault (a .disks) (a .second) ≡ 0
-second c = sym (c .before .lost-fault2 .ensures) ∙ c .if2 .left
+second : (c : tie.Else2) → let a = c .before .before .before .before .args in byteFault (a .disks) (a .second) ≡ 0
+second c = sym (c .before .byte-fault2 .ensures) ∙ c .if2 .left
 
 returns-3 : tie.Need-returns-3
 returns-3 c = let a = c .before .before .before .before .before .args in pair-none (a .disks) (a .first) (a .second) (first (c .before .before .before)) (second (c .before)) (c .if3 .taken)
@@ -36,8 +36,8 @@ returns-5 c =
     let a = e .before .before .before .before .before .args in
     pair-apart (a .disks) (a .first) (a .second) (first (e .before .before .before)) (second (e .before)) (e .if3 .left) (c .if4 .left)
 
-pub loss-fault-spec : {M : Type 1} → statement M
-loss-fault-spec =
+pub pair-fault-spec : {M : Type 1} → statement M
+pair-fault-spec =
     tie.close
     (tie.spec
     (λ c κs. search needs)

@@ -1,8 +1,8 @@
--- `lost_fault`: 255 is refused by nothing, any other number as a disk.
+-- `byte_fault`: 255 is refused by nothing, any other number as a disk.
 use borrow.Author.Needs.{needs}
 use Rattle.server_losses.proofs.LossFaults.{fault-none, fault-disk}
-use Rattle.server_losses.proofs.lost_fault.Statement.{statement}
-use Rattle.server_losses.proofs.lost_fault.Tie as tie
+use Rattle.server_losses.proofs.byte_fault.Statement.{statement}
+use Rattle.server_losses.proofs.byte_fault.Tie as tie
 
 returns : tie.Need-returns
 returns c = fault-none (c .before .args .disks) (c .before .args .disk) (c .if1 .taken)
@@ -10,5 +10,5 @@ returns c = fault-none (c .before .args .disks) (c .before .args .disk) (c .if1 
 returns-2 : tie.Need-returns-2
 returns-2 c = let a = c .before .before .args in fault-disk (a .disks) (a .disk) (c .disk-fault .result) (c .before .if1 .left) (c .disk-fault .ensures)
 
-pub lost-fault-spec : {M : Type 1} → statement M
-lost-fault-spec = tie.close (tie.spec returns (λ c κs. search needs) returns-2)
+pub byte-fault-spec : {M : Type 1} → statement M
+byte-fault-spec = tie.close (tie.spec returns (λ c κs. search needs) returns-2)
