@@ -25,13 +25,13 @@ taken [] = []
 taken (r ∷ rs) = when (eqb r 2) 1 ∷ taken rs
 
 -- steps written out: row, kind, number
-abbrev pub written : List Step → List ℕ
-written [] = []
-written (s ∷ ss) = s .row ∷ (s .kind ∷ (s .number ∷ written ss))
+abbrev pub inBytes : List Step → List ℕ
+inBytes [] = []
+inBytes (s ∷ ss) = s .row ∷ (s .kind ∷ (s .number ∷ inBytes ss))
 
 -- what the judge gives for p data disks: number, place, count
-abbrev pub verdict : ℕ → ℕ → List Step → List ℕ
-verdict p f ss = judge p p f ss .number ∷ (judge p p f ss .place ∷ (readCount p p f ss ∷ []))
+abbrev pub judgement : ℕ → ℕ → List Step → List ℕ
+judgement p f ss = judge p p f ss .number ∷ (judge p p f ss .place ∷ (readCount p p f ss ∷ []))
 
 -- what a package of files of these lengths takes with p data disks: number, stripes
 abbrev pub takes : ℕ → ℕ → List ℕ → List ℕ
@@ -66,8 +66,8 @@ table =
     -- Losing disk 1 there gives 02 10 80, whatever its column holds
     ∷ ((rebuilt 3 3 1 1 (filmLost ++ filmParity) is (0x02 ∷ (0x10 ∷ (0x80 ∷ []))))
     -- by R0, D0, D1, with 7 reads
-    ∷ ((written (planOf 3 3 1) is (0 ∷ (0 ∷ (0 ∷ (1 ∷ (1 ∷ (0 ∷ (2 ∷ (1 ∷ (1 ∷ []))))))))))
-    ∷ ((verdict 3 1 (planOf 3 3 1) is (0 ∷ (0 ∷ (7 ∷ []))))
+    ∷ ((inBytes (planOf 3 3 1) is (0 ∷ (0 ∷ (0 ∷ (1 ∷ (1 ∷ (0 ∷ (2 ∷ (1 ∷ (1 ∷ []))))))))))
+    ∷ ((judgement 3 1 (planOf 3 3 1) is (0 ∷ (0 ∷ (7 ∷ []))))
     -- Routes
     ∷ ((taken (routes 3 0) is (1 ∷ (0 ∷ (0 ∷ []))))
     ∷ ((taken (routes 3 2) is (0 ∷ (1 ∷ (1 ∷ []))))
@@ -77,10 +77,10 @@ table =
     ∷ ((taken (routes 5 4) is (0 ∷ (0 ∷ (1 ∷ (0 ∷ (1 ∷ []))))))
     ∷ ((taken (routes 7 1) is (0 ∷ (1 ∷ (1 ∷ (0 ∷ (1 ∷ (0 ∷ (0 ∷ []))))))))
     -- p = 5, lost 1: all rows, 25; R0, R3, R4, row 1 by D0, row 2 by D2, 20
-    ∷ ((verdict 5 1 allRows is (0 ∷ (0 ∷ (25 ∷ []))))
-    ∷ ((verdict 5 1 mixed is (0 ∷ (0 ∷ (20 ∷ []))))
+    ∷ ((judgement 5 1 allRows is (0 ∷ (0 ∷ (25 ∷ []))))
+    ∷ ((judgement 5 1 mixed is (0 ∷ (0 ∷ (20 ∷ []))))
     -- p = 5, lost 0: R0, R2, R4, D1, D3, 21
-    ∷ ((verdict 5 0 evenRows is (0 ∷ (0 ∷ (21 ∷ []))))
+    ∷ ((judgement 5 0 evenRows is (0 ∷ (0 ∷ (21 ∷ []))))
     -- p = 5, s = 4,096: 102,400 bytes take 1 stripe, 20,480 bytes a disk; 102,401 take 2; "packages of one file" (document 02, ask 3)
     ∷ ((takes 5 4096 (102400 ∷ []) is (0 ∷ (1 ∷ [])))
     ∷ (((needOf 5 5 4096 (102400 ∷ []) ∷ []) is (20480 ∷ []))

@@ -7,7 +7,7 @@ use lib.Dec.{eqb, ltb}
 use lib.ListN.{replicate}
 use Rattle.laws.specs.Choice.{pick}
 use Rattle.laws.specs.Lists.{same}
-use Rattle.laws.specs.Sums.{allTo, firstFit}
+use Rattle.laws.specs.Sums.{allTo, firstBelow}
 use Rattle.liberation.specs.Sets.{rowSet, diagonalSet, lostIn, survivingIn}
 use Rattle.liberation_stripes.specs.Stripes.{cellAt, xorOver, clean, withColumn, rebuilt}
 
@@ -21,7 +21,7 @@ fits p k s d t = clean p k s (withRebuilt p k s d t)
 
 -- the first disk that fits, k + 2 if none does
 unfoldable pub suspect : ℕ → ℕ → ℕ → List ℕ → ℕ
-suspect p k s t = firstFit (k + 2) (λ d. fits p k s d t)
+suspect p k s t = firstBelow (k + 2) (λ d. fits p k s d t)
 
 -- the three answers of ask 2, "clean, one disk's number, or more than one". 0: the stripe is clean; 1: one disk explains it, the suspect; 2: no one disk does
 unfoldable pub verdict : ℕ → ℕ → ℕ → List ℕ → ℕ

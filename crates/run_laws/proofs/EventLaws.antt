@@ -16,7 +16,7 @@ use Rattle.runs.specs.Runs.{runFault, readFault, nextFault, skipFault, movedBy,
 use Rattle.run_steps.specs.Says.{stepFault, runColumn, StepSays}
 use Rattle.runs.proofs.RunRefusals.{skipped-few, read-passed, skip-passed}
 use Rattle.run_steps.proofs.StepRefusals.{step-passed}
-use Rattle.run_laws.specs.Claims.{Step, Skip, Event, step-of, skip-of, whichOf, refusalOf, runOf, isLong, stepsIn, skipsIn, columnsOf, rebuiltEach}
+use Rattle.run_laws.specs.Claims.{MadeStep, MadeSkip, Event, step-of, skip-of, whichOf, refusalOf, runOf, isLong, stepsAmong, skipsAmong, columnsOf, rebuiltEach}
 
 -- what an event counts, as a step and as a skip
 abbrev pub asStep : Event → ℕ
@@ -31,13 +31,13 @@ pub one-event : (e : Event) → asStep e + asSkip e ≡ 1
 one-event (step-of c) = refl
 one-event (skip-of c) = refl
 
-pub steps-first : (e : Event) (es : List Event) → length (stepsIn (e ∷ es)) ≡ asStep e + length (stepsIn es)
-unfolding stepsIn
+pub steps-first : (e : Event) (es : List Event) → length (stepsAmong (e ∷ es)) ≡ asStep e + length (stepsAmong es)
+unfolding stepsAmong
 steps-first (step-of c) es = omega arith
 steps-first (skip-of c) es = omega arith
 
-pub skips-first : (e : Event) (es : List Event) → length (skipsIn (e ∷ es)) ≡ asSkip e + length (skipsIn es)
-unfolding skipsIn
+pub skips-first : (e : Event) (es : List Event) → length (skipsAmong (e ∷ es)) ≡ asSkip e + length (skipsAmong es)
+unfolding skipsAmong
 skips-first (step-of c) es = omega arith
 skips-first (skip-of c) es = omega arith
 
@@ -46,7 +46,7 @@ abbrev pub at : ℕ → ℕ → Run → Run
 at n j x = record { shape = x .shape; lost = x .lost; stripes = x .stripes; next = n; skipped = j }
 
 -- the rebuilt disk of each step's own stripe, for the record's disk
-abbrev pub each : Run → List Step → List (List ℕ)
+abbrev pub each : Run → List MadeStep → List (List ℕ)
 each x cs = rebuiltEach (x .shape .width) (x .shape .disks) (x .shape .«cell_size») (x .lost) cs
 
 pub record Accepted (x : Run) (e : Event) : Type 0 where
@@ -54,7 +54,7 @@ pub record Accepted (x : Run) (e : Event) : Type 0 where
   pub few : x .skipped ≤ x .next
   pub which : whichOf e ≡ x .next
   pub room : x .next < x .stripes
-  pub columns : (es : List Event) → columnsOf (stepsIn es) ≡ each x (stepsIn es) → columnsOf (stepsIn (e ∷ es)) ≡ each x (stepsIn (e ∷ es))
+  pub columns : (es : List Event) → columnsOf (stepsAmong es) ≡ each x (stepsAmong es) → columnsOf (stepsAmong (e ∷ es)) ≡ each x (stepsAmong (e ∷ es))
 
 -- an event on the record x
 pub record Turn (x : Run) (e : Event) : Type 0 where
@@ -70,8 +70,8 @@ readable x r l = ap₂ firstOf r (skipped-few x l)
 in-turn : (x : Run) (i : ℕ) → eqb i (x .next) ≡ true → x .next < x .stripes → nextFault x i ≡ 0
 in-turn x i w l = ap₂ (λ (a b : Bool). when (a || not b) 10) (lt-leb (x .stripes) (x .next) l) w
 
-pub step-turn : (x : Run) (c : Step) → StepSays x (c .run) (c .which) (c .stripe) (c .column) (c .left) (c .answer) → Turn x (step-of c)
-unfolding stepsIn columnsOf rebuiltEach
+pub step-turn : (x : Run) (c : MadeStep) → StepSays x (c .run) (c .which) (c .stripe) (c .column) (c .left) (c .answer) → Turn x (step-of c)
+unfolding stepsAmong columnsOf rebuiltEach
 step-turn x c k =
     let fault = stepFault x (c .which) (c .stripe) (c .column) in
     let next : (n : ℕ) → Run = λ n. pick (eqb n 0) (movedBy x 0) x in
@@ -95,8 +95,8 @@ step-turn x c k =
           k .answer .refusal ∙ ap₂ firstOf (ap₂ firstOf (q .0) five) (ap₂ firstOf (skipped-few x (q .1)) (in-turn x (c .which) w m));
     }
 
-pub skip-turn : (x : Run) (c : Skip) → SkipSays x (c .run) (c .which) (c .answer) → Turn x (skip-of c)
-unfolding stepsIn
+pub skip-turn : (x : Run) (c : MadeSkip) → SkipSays x (c .run) (c .which) (c .answer) → Turn x (skip-of c)
+unfolding stepsAmong
 skip-turn x c k =
     let fault = skipFault x (c .which) in
     record {

@@ -21,7 +21,7 @@ use Rattle.run_progress.specs.declared.Progress.{Progress}
 use Rattle.runs.specs.Runs.{opened, noRun, readFault, OpenSays}
 use Rattle.run_progress.specs.Says.{isOver, readsOf, cellsSoFar, ProgressSays}
 use Rattle.runs.proofs.RunRefusals.{read-passed}
-use Rattle.run_laws.specs.Claims.{Event, whichOf, refusalOf, runOf, Made, step-made, skip-made, lastRun, acceptedIn, stepsIn, skipsIn, stepped, skipped, inOrder, isLong, allLong, columnsOf, rebuiltEach, RunMade, RunOn, RunRead, RunReadOn, Calls-right, Calls-on, Calls-go, Calls-go-on, Progress-right, Progress-on}
+use Rattle.run_laws.specs.Claims.{Event, whichOf, refusalOf, runOf, Made, step-made, skip-made, lastRun, acceptedIn, stepsAmong, skipsAmong, stepped, skipped, inOrder, isLong, allLong, columnsOf, rebuiltEach, RunMade, RunOn, RunRead, RunReadOn, Calls-right, Calls-on, Calls-go, Calls-go-on, Progress-right, Progress-on}
 use Rattle.run_laws.proofs.EventLaws.{asSkip, one-event, steps-first, skips-first, at, each, Accepted, Turn, readable, step-turn, skip-turn}
 
 -- the first event, and those after it
@@ -40,18 +40,18 @@ module _ {A : Type 0} (x : Run) (e : Event) (es : List Event) (t : Turn x e) whe
 -- what is counted then
 counted : (e : Event) (es : List Event) → acceptedIn (e ∷ es) ≡ e ∷ acceptedIn es → (stepped (e ∷ es) + skipped (e ∷ es) ≡ suc (stepped es + skipped es)) × (skipped (e ∷ es) ≡ asSkip e + skipped es)
 counted e es q =
-    let m = ap (λ (l : List Event). length (stepsIn l)) q ∙ steps-first e (acceptedIn es) in
-    let j = ap (λ (l : List Event). length (skipsIn l)) q ∙ skips-first e (acceptedIn es) in
+    let m = ap (λ (l : List Event). length (stepsAmong l)) q ∙ steps-first e (acceptedIn es) in
+    let j = ap (λ (l : List Event). length (skipsAmong l)) q ∙ skips-first e (acceptedIn es) in
     (omega (arith, m, j, one-event e), j)
 
 abbrev ahead : List Event → Run → Run
 ahead es x = at (x .next + (stepped es + skipped es)) (x .skipped + skipped es) x
 
 uncounted : (e : Event) (es : List Event) (x : Run) → acceptedIn (e ∷ es) ≡ acceptedIn es → ahead es x ≡ ahead (e ∷ es) x
-uncounted e es x q = ap (λ (l : List Event). at (x .next + (length (stepsIn l) + length (skipsIn l))) (x .skipped + length (skipsIn l)) x) (sym q)
+uncounted e es x q = ap (λ (l : List Event). at (x .next + (length (stepsAmong l) + length (skipsAmong l))) (x .skipped + length (skipsAmong l)) x) (sym q)
 
 made-run : (x : Run) (es : List Event) → Made x es → lastRun x es ≡ ahead es x
-unfolding lastRun acceptedIn stepsIn skipsIn
+unfolding lastRun acceptedIn stepsAmong skipsAmong
 made-run x [] m = let z : (n : ℕ) → n ≡ n + 0 = λ n. omega arith in ap₂ (λ (n j : ℕ). at n j x) (z (x .next)) (z (x .skipped))
 made-run x (e ∷ es) m =
     let q = first-made x e es m in
@@ -64,7 +64,7 @@ made-run x (e ∷ es) m =
     (λ a c. rest ∙ ap (ahead es) a ∙ uncounted e es x c)
 
 made-few : (x : Run) (es : List Event) → Made x es → x .next ≤ x .stripes → x .next + (stepped es + skipped es) ≤ x .stripes
-unfolding acceptedIn stepsIn skipsIn
+unfolding acceptedIn stepsAmong skipsAmong
 made-few x [] m l = omega arith
 made-few x (e ∷ es) m l =
     let q = first-made x e es m in
@@ -74,7 +74,7 @@ made-few x (e ∷ es) m l =
     omega (arith, made-few (runOf e) es (q .1) (omega (arith, n, s, a .room)), n, s, counted e es c .0))
     (λ a c. let n : runOf e .next ≡ x .next = ap (λ (y : Run). y .next) a in
     let s : runOf e .stripes ≡ x .stripes = ap (λ (y : Run). y .stripes) a in
-    let i = ap (λ (l : List Event). length (stepsIn l) + length (skipsIn l)) c in
+    let i = ap (λ (l : List Event). length (stepsAmong l) + length (skipsAmong l)) c in
     omega (arith, made-few (runOf e) es (q .1) (omega (arith, n, s)), n, s, i))
 
 made-order : (x : Run) (es : List Event) → Made x es → inOrder (x .next) (acceptedIn es) ≡ true
@@ -89,14 +89,14 @@ made-order x (e ∷ es) m =
     ∙ and-i (eqb (whichOf e) (x .next)) (inOrder (suc (x .next)) (acceptedIn es)) (eq-eqb (whichOf e) (x .next) (a .which)) (ap (λ (i : ℕ). inOrder i (acceptedIn es)) z ∙ rest))
     (λ a c. ap (inOrder (x .next)) c ∙ ap (λ (y : Run). inOrder (y .next) (acceptedIn es)) (sym a) ∙ rest)
 
-made-columns : (x : Run) (es : List Event) → Made x es → columnsOf (stepsIn (acceptedIn es)) ≡ each x (stepsIn (acceptedIn es))
-unfolding acceptedIn stepsIn columnsOf rebuiltEach
+made-columns : (x : Run) (es : List Event) → Made x es → columnsOf (stepsAmong (acceptedIn es)) ≡ each x (stepsAmong (acceptedIn es))
+unfolding acceptedIn stepsAmong columnsOf rebuiltEach
 made-columns x [] m = refl
 made-columns x (e ∷ es) m =
     let q = first-made x e es m in
     let rest = made-columns (runOf e) es (q .1) in
-    let Right : (l : List Event) → Type 0 = λ l. columnsOf (stepsIn l) ≡ each x (stepsIn l) in
-    let same : (y : Run) → List (List ℕ) = λ y. each y (stepsIn (acceptedIn es)) in
+    let Right : (l : List Event) → Type 0 = λ l. columnsOf (stepsAmong l) ≡ each x (stepsAmong l) in
+    let same : (y : Run) → List (List ℕ) = λ y. each y (stepsAmong (acceptedIn es)) in
     by-answer x e es (q .0)
     (λ a c. subst Right (sym c) (a .columns (acceptedIn es) (rest ∙ ap same (a .run))))
     (λ a c. subst Right (sym c) (rest ∙ ap same a))

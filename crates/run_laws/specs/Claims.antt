@@ -20,7 +20,7 @@ use Rattle.runs.specs.Runs.{resumed, resumedDisks, OpenSays, SkipSays}
 use Rattle.run_steps.specs.Says.{StepSays}
 
 -- a step that was made: what it was given besides the record, and what it left
-pub record Step : Type 0 where
+pub record MadeStep : Type 0 where
   pub which : ℕ
   pub stripe : List ℕ
   pub column : List ℕ
@@ -29,14 +29,14 @@ pub record Step : Type 0 where
   pub answer : Answer
 
 -- a skip that was made
-pub record Skip : Type 0 where
+pub record MadeSkip : Type 0 where
   pub which : ℕ
   pub run : Run
   pub answer : Answer
 
 pub data Event : Type 0 where
-  step-of : Step → Event
-  skip-of : Skip → Event
+  step-of : MadeStep → Event
+  skip-of : MadeSkip → Event
 
 abbrev pub whichOf : Event → ℕ
 whichOf (step-of c) = c .which
@@ -54,8 +54,8 @@ runOf (skip-of c) = c .run
 -- events one after another, each with the promise of its call, while nothing else wrote the record
 pub data Made : Run → List Event → Type 0 where
   none-made : (x : Run) → Made x []
-  step-made : (x : Run) (c : Step) (es : List Event) → StepSays x (c .run) (c .which) (c .stripe) (c .column) (c .left) (c .answer) → Made (c .run) es → Made x (step-of c ∷ es)
-  skip-made : (x : Run) (c : Skip) (es : List Event) → SkipSays x (c .run) (c .which) (c .answer) → Made (c .run) es → Made x (skip-of c ∷ es)
+  step-made : (x : Run) (c : MadeStep) (es : List Event) → StepSays x (c .run) (c .which) (c .stripe) (c .column) (c .left) (c .answer) → Made (c .run) es → Made x (step-of c ∷ es)
+  skip-made : (x : Run) (c : MadeSkip) (es : List Event) → SkipSays x (c .run) (c .which) (c .answer) → Made (c .run) es → Made x (skip-of c ∷ es)
 
 -- the record that they leave
 unfoldable pub lastRun : Run → List Event → Run
@@ -68,22 +68,22 @@ acceptedIn [] = []
 acceptedIn (e ∷ es) = pick (eqb (refusalOf e) 0) (e ∷ acceptedIn es) (acceptedIn es)
 
 -- the steps and the skips among events
-unfoldable pub stepsIn : List Event → List Step
-stepsIn [] = []
-stepsIn (step-of c ∷ es) = c ∷ stepsIn es
-stepsIn (skip-of c ∷ es) = stepsIn es
+unfoldable pub stepsAmong : List Event → List MadeStep
+stepsAmong [] = []
+stepsAmong (step-of c ∷ es) = c ∷ stepsAmong es
+stepsAmong (skip-of c ∷ es) = stepsAmong es
 
-unfoldable pub skipsIn : List Event → List Skip
-skipsIn [] = []
-skipsIn (step-of c ∷ es) = skipsIn es
-skipsIn (skip-of c ∷ es) = c ∷ skipsIn es
+unfoldable pub skipsAmong : List Event → List MadeSkip
+skipsAmong [] = []
+skipsAmong (step-of c ∷ es) = skipsAmong es
+skipsAmong (skip-of c ∷ es) = c ∷ skipsAmong es
 
 -- how many steps and how many skips were accepted
 abbrev pub stepped : List Event → ℕ
-stepped es = length (stepsIn (acceptedIn es))
+stepped es = length (stepsAmong (acceptedIn es))
 
 abbrev pub skipped : List Event → ℕ
-skipped es = length (skipsIn (acceptedIn es))
+skipped es = length (skipsAmong (acceptedIn es))
 
 -- stripe numbers go upward by one from i
 unfoldable pub inOrder : ℕ → List Event → Bool
@@ -100,11 +100,11 @@ allLong p k s [] = true
 allLong p k s (e ∷ es) = isLong p k s e && allLong p k s es
 
 -- the columns that steps left, and the rebuilt disk f of each step's own stripe
-unfoldable pub columnsOf : List Step → List (List ℕ)
+unfoldable pub columnsOf : List MadeStep → List (List ℕ)
 columnsOf [] = []
 columnsOf (c ∷ cs) = c .left ∷ columnsOf cs
 
-unfoldable pub rebuiltEach : ℕ → ℕ → ℕ → ℕ → List Step → List (List ℕ)
+unfoldable pub rebuiltEach : ℕ → ℕ → ℕ → ℕ → List MadeStep → List (List ℕ)
 rebuiltEach p k s f [] = []
 rebuiltEach p k s f (c ∷ cs) = rebuilt p k s f (c .stripe) ∷ rebuiltEach p k s f cs
 
@@ -116,7 +116,7 @@ pub record RunMade (p k s f n : ℕ) (x : Run) (es : List Event) : Type 0 where
   pub over : isOver (lastRun x es) ≡ eqb (stepped es + skipped es) n
   pub cells : cellsSoFar (lastRun x es) ≡ stepped es * readCount p k f (planOf p k f)
   pub order : inOrder 0 (acceptedIn es) ≡ true
-  pub columns : columnsOf (stepsIn (acceptedIn es)) ≡ rebuiltEach p k s f (stepsIn (acceptedIn es))
+  pub columns : columnsOf (stepsAmong (acceptedIn es)) ≡ rebuiltEach p k s f (stepsAmong (acceptedIn es))
 
 abbrev pub Calls-right : Type 0
 Calls-right = (p k s f n : ℕ) (r : RunAnswer) (es : List Event) → OpenSays p k s f n r → r .answer .refusal ≡ 0 → Made (r .run) es → RunMade p k s f n (r .run) es
@@ -129,7 +129,7 @@ pub record RunOn (x : Run) (es : List Event) : Type 0 where
   pub over : isOver (lastRun x es) ≡ eqb (x .next + (stepped es + skipped es)) (x .stripes)
   pub cells : cellsSoFar (lastRun x es) ≡ (x .next - x .skipped + stepped es) * readsOf x
   pub order : inOrder (x .next) (acceptedIn es) ≡ true
-  pub columns : columnsOf (stepsIn (acceptedIn es)) ≡ rebuiltEach (x .shape .width) (x .shape .disks) (x .shape .«cell_size») (x .lost) (stepsIn (acceptedIn es))
+  pub columns : columnsOf (stepsAmong (acceptedIn es)) ≡ rebuiltEach (x .shape .width) (x .shape .disks) (x .shape .«cell_size») (x .lost) (stepsAmong (acceptedIn es))
 
 abbrev pub Calls-on : Type 0
 Calls-on = (x : Run) (es : List Event) → x .skipped ≤ x .next → Made x es → RunOn x es

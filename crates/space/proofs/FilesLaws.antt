@@ -10,7 +10,7 @@ use lib.ListN.{length, getD, drop}
 use lib.Seq.{drop-cons, drop-length, ext-getD}
 use Rattle.laws.specs.Sums.{total}
 use Rattle.laws.proofs.OrderLaws.{lt-or-le}
-use Rattle.space.specs.Says.{upBy, upEach, filled, Few, Placed, Each}
+use Rattle.space.specs.Says.{upBy, upEach, nonempty, Few, Placed, Each}
 
 -- q times d are less than d above a, so one time fewer is below a
 one-fewer : (q a d : ℕ) → 0 < d → 0 < a → q * d ≤ a + (d - 1) → (q - 1) * d < a
@@ -73,24 +73,24 @@ module _ (d : ℕ) (h : 0 < d) where
   pub files-least : (ls : List ℕ) → upBy (total ls) d ≤ total (upEach d ls)
   files-least ls = up-least d h (total ls) (total (upEach d ls)) (whole ls)
 
-  pub files-most : (ls : List ℕ) → total (upEach d ls) * d ≤ total ls + filled ls * (d - 1)
-  unfolding total upEach filled
+  pub files-most : (ls : List ℕ) → total (upEach d ls) * d ≤ total ls + nonempty ls * (d - 1)
+  unfolding total upEach nonempty
   files-most [] = omega arith
   files-most (zero ∷ ls) = let e : upBy 0 d + total (upEach d ls) ≡ total (upEach d ls) = omega (arith, up-none d h 0 refl) in rw e (omega (arith, files-most ls))
   files-most (suc l ∷ ls) = omega (arith, files-most ls, up-below (suc l) d, add-mul (upBy (suc l) d) (total (upEach d ls)) d)
 
-filled-few : (ls : List ℕ) → filled ls ≤ length ls
-unfolding filled
-filled-few [] = omega arith
-filled-few (zero ∷ ls) = omega (arith, filled-few ls)
-filled-few (suc l ∷ ls) = omega (arith, filled-few ls)
+nonempty-few : (ls : List ℕ) → nonempty ls ≤ length ls
+unfolding nonempty
+nonempty-few [] = omega arith
+nonempty-few (zero ∷ ls) = omega (arith, nonempty-few ls)
+nonempty-few (suc l ∷ ls) = omega (arith, nonempty-few ls)
 
 -- few files: their stripes hold less than 2^49 bytes
 pub files-small : (d : ℕ) (ls : List ℕ) → Few d ls → total (upEach d ls) * d < 2 ^ 49
 files-small d ls f =
-    let n : filled ls ≤ 4096 = omega (arith, filled-few ls, f .files) in
+    let n : nonempty ls ≤ 4096 = omega (arith, nonempty-few ls, f .files) in
     let e : d - 1 ≤ 3936255 = omega (arith, f .holds) in
-    let m : filled ls * (d - 1) ≤ 4096 * 3936255 = mul-le-mul n e in
+    let m : nonempty ls * (d - 1) ≤ 4096 * 3936255 = mul-le-mul n e in
     omega (arith, f .bytes, files-most d (f .pos) ls)
 
 -- so they are fewer than 2^49 too

@@ -86,10 +86,10 @@ pub record Each (d : ℕ) (ls ns : List ℕ) : Type 0 where
   pub placed : (i : ℕ) → i < length ls → Placed d (getD ls i 0) (getD ns i 0)
 
 -- how many files are not empty
-unfoldable pub filled : List ℕ → ℕ
-filled [] = 0
-filled (zero ∷ ls) = filled ls
-filled (suc l ∷ ls) = suc (filled ls)
+unfoldable pub nonempty : List ℕ → ℕ
+nonempty [] = 0
+nonempty (zero ∷ ls) = nonempty ls
+nonempty (suc l ∷ ls) = suc (nonempty ls)
 
 -- What every accepted answer means.
 pub record SpaceMeans (p k s : ℕ) (ls : List ℕ) (free : ℕ) (r : Space) : Type 0 where
@@ -101,7 +101,7 @@ pub record SpaceMeans (p k s : ℕ) (ls : List ℕ) (free : ℕ) (r : Space) : T
   -- never fewer than one file of the whole length would take
   pub least : upBy (total ls) (k * (p * s)) ≤ r .stripes
   -- and at most one stripe less a byte more than the whole length for each file that is not empty
-  pub most : r .stripes * (k * (p * s)) ≤ total ls + filled ls * (k * (p * s) - 1)
+  pub most : r .stripes * (k * (p * s)) ≤ total ls + nonempty ls * (k * (p * s) - 1)
   -- the need, compared with the free bytes
   pub bytes : r .bytes ≡ r .stripes * (p * s)
   pub fits : (r .fits ≡ true) ↔ (r .bytes ≤ free)

@@ -14,7 +14,7 @@ use Rattle.states.specs.declared.ArrayState.{ArrayState}
 use Rattle.state_lists.specs.declared.Totals.{Totals}
 use Rattle.states.specs.States.{changed}
 use Rattle.state_lists.specs.Reports.{listFault, listAfter, noArray, totalsOf, ReportSays}
-use Rattle.state_laws.specs.Claims.{arrayAt, lostAt, Report, Made, report-made, lastList, acceptedIn, totalsIn, freshIn, lastTotals, lostSince, isNamed, Reports-right}
+use Rattle.state_laws.specs.Claims.{arrayAt, lostAt, Report, Made, report-made, lastList, acceptedIn, totalsIn, freshTotals, lastTotals, lostSince, isNamed, Reports-right}
 use Rattle.state_laws.proofs.OneReport.{Taken, Accepted, accepted, stood, after-none, after-lost}
 
 -- the first report and the rest
@@ -34,15 +34,15 @@ by-answer xs r rs k took left =
     ⊎-elim (λ t. took (accepted xs (r .which) (r .disk) (r .back) (r .left) (r .board) k (eqb-true n 0 t)) (ap kept t)) (λ f. left (stood xs (r .which) (r .disk) (r .back) (r .left) (r .board) k f) (ap kept f)) (flag (eqb n 0))
 
 -- ---- the totals
-made-totals : (xs : List ArrayState) (rs : List Report) → Made xs rs → totalsIn (acceptedIn rs) ≡ freshIn (acceptedIn rs)
-unfolding acceptedIn totalsIn freshIn
+made-totals : (xs : List ArrayState) (rs : List Report) → Made xs rs → totalsIn (acceptedIn rs) ≡ freshTotals (acceptedIn rs)
+unfolding acceptedIn totalsIn freshTotals
 made-totals xs [] m = refl
 made-totals xs (r ∷ rs) m =
     let q = first-made xs r rs m in
     let rest = made-totals (r .left) rs (q .1) in
     by-answer xs r rs (q .0)
-    (λ a e. ap totalsIn e ∙ ap₂ (λ (t : Totals) (ts : List Totals). t ∷ ts) (a .totals) rest ∙ sym (ap freshIn e))
-    (λ a e. ap totalsIn e ∙ rest ∙ sym (ap freshIn e))
+    (λ a e. ap totalsIn e ∙ ap₂ (λ (t : Totals) (ts : List Totals). t ∷ ts) (a .totals) rest ∙ sym (ap freshTotals e))
+    (λ a e. ap totalsIn e ∙ rest ∙ sym (ap freshTotals e))
 
 made-last : (xs : List ArrayState) (rs : List Report) → Made xs rs → lastTotals (totalsOf xs) (acceptedIn rs) ≡ totalsOf (lastList xs rs)
 unfolding acceptedIn lastTotals lastList

@@ -72,9 +72,9 @@ unfoldable pub totalsIn : List Report → List Totals
 totalsIn [] = []
 totalsIn (r ∷ rs) = r .board .totals ∷ totalsIn rs
 
-unfoldable pub freshIn : List Report → List Totals
-freshIn [] = []
-freshIn (r ∷ rs) = totalsOf (r .left) ∷ freshIn rs
+unfoldable pub freshTotals : List Report → List Totals
+freshTotals [] = []
+freshTotals (r ∷ rs) = totalsOf (r .left) ∷ freshTotals rs
 
 -- the totals that the last of them answered, t if there is none
 unfoldable pub lastTotals : Totals → List Report → Totals
@@ -93,7 +93,7 @@ isNamed i (r ∷ rs) = eqb i (r .which) || isNamed i rs
 
 -- Reports on the list xs: the totals of each accepted one are the fresh count over the list that it left, and those of the last one a fresh count over the list as it is; a disk is lost exactly if the last accepted report of it was its loss, or there was none and it was lost at the start; widths and data disks stand, and arrays that no accepted report names stand whole; a list with no record out of its limits stays one.
 pub record ReportsMade (xs : List ArrayState) (rs : List Report) : Type 0 where
-  pub totals : totalsIn (acceptedIn rs) ≡ freshIn (acceptedIn rs)
+  pub totals : totalsIn (acceptedIn rs) ≡ freshTotals (acceptedIn rs)
   pub last : lastTotals (totalsOf xs) (acceptedIn rs) ≡ totalsOf (lastList xs rs)
   pub lost : (i d : ℕ) → lostAt (lastList xs rs) i d ≡ lostSince i d (lostAt xs i d) (acceptedIn rs)
   pub width : (i : ℕ) → arrayAt (lastList xs rs) i .width ≡ arrayAt xs i .width
