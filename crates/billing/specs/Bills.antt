@@ -10,6 +10,7 @@ use Rattle.run_progress.specs.Says.{cellsSoFar}
 use Rattle.runs.specs.Runs.{readFault}
 use Rattle.billing.specs.declared.Bill.{Bill}
 
+-- the smaller of two numbers
 abbrev pub least : ℕ → ℕ → ℕ
 least a b = pick (leb a b) a b
 
@@ -39,6 +40,7 @@ evenOf q = pick (eqb (q % 2) 0) q (q + 1)
 abbrev pub rounded : ℕ → ℕ → ℕ
 rounded q e = pick (ltb (2 ^ 29) e) (q + 1) (pick (ltb e (2 ^ 29)) q (evenOf q))
 
+-- the cents of a charge
 abbrev pub nearest : ℕ → ℕ
 nearest c = rounded (c / gib) (c % gib)
 
@@ -73,6 +75,7 @@ pub record Says (n b r s t : ℕ) (x : Bill) : Type 0 where
   pub third : x .third ≡ pick (eqb n 0) (inThird b) 0
   pub cents : x .cents ≡ pick (eqb n 0) (centsOf b r s t) 0
 
+-- the bill of b bytes at the rates r, s and t
 abbrev pub BillSays : ℕ → ℕ → ℕ → ℕ → Bill → Type 0
 BillSays b r s t x = Says (billFault b r s t) b r s t x
 
@@ -83,6 +86,7 @@ runBytes x = cellsSoFar x * x .shape .«cell_size»
 abbrev pub runBillFault : Run → ℕ → ℕ → ℕ → ℕ
 runBillFault x r s t = firstOf (readFault x) (billFault (runBytes x) r s t)
 
+-- the bill of a run at the rates r, s and t
 abbrev pub RunBillSays : Run → ℕ → ℕ → ℕ → Bill → Type 0
 RunBillSays x r s t y = Says (runBillFault x r s t) (runBytes x) r s t y
 

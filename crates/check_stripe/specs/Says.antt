@@ -10,6 +10,7 @@ use Rattle.refusals.specs.Answers.{Answers}
 use Rattle.stripes.specs.Says.{stripeFault}
 use Rattle.check_stripe.specs.declared.Checked.{Checked}
 
+-- "The check says yes exactly for clean stripes."
 pub record CheckSays (p k s : ℕ) (t : List ℕ) (r : Checked) : Type 0 where
   pub answer : Answers (stripeFault p k s t) (r .answer)
   pub clean : r .clean ≡ (eqb (stripeFault p k s t) 0 && clean p k s t)

@@ -1,4 +1,4 @@
--- The judge's promise, for accepted and refused plans alike: refusals 1, 13, 3, 5, then 6 to 9 with the step as their place.
+-- The promise of `judge_plan` (document 01, "A plan for one lost disk"), for accepted and refused plans alike: refusals 1, 13, 3, 5, then 6 to 9 with the step as their place.
 use mathlib.Core.Path.{_≡_}
 use mathlib.Core.List.{List}
 use Prim.Native.Nat.{ℕ, _*_}
@@ -17,6 +17,7 @@ formFault p k f bs = firstOf (planFault p k f) (longFault (3 * p) bs)
 abbrev pub judgeFault : ℕ → ℕ → ℕ → List ℕ → ℕ
 judgeFault p k f bs = firstOf (formFault p k f bs) (judge p k f (stepsIn p bs) .number)
 
+-- "gives its read count or a refusal"
 pub record JudgeSays (p k f : ℕ) (bs : List ℕ) (r : Judged) : Type 0 where
   pub refusal : r .answer .refusal ≡ judgeFault p k f bs
   pub place : r .answer .place ≡ pick (eqb (formFault p k f bs) 0) (judge p k f (stepsIn p bs) .place) 0

@@ -4,7 +4,7 @@ use Prim.Native.Nat.{ℕ, zero, suc, _-_}
 use lib.ListN.{length, getD, replicate}
 use Rattle.liberation.specs.Plans.{Step, step}
 
--- one number of each step
+-- one number of each step: rows, kinds or set numbers
 abbrev pub listed : (Step → ℕ) → List Step → List ℕ
 listed g [] = []
 listed g (s ∷ ss) = g s ∷ listed g ss

@@ -1,4 +1,4 @@
--- What holds before the losses, what a loss leaves, and what both calls accept.
+-- What holds before the losses, what a loss leaves, and what both calls accept (document 02, ask 7).
 use mathlib.Core.Path.{_≡_}
 use mathlib.Core.Bool.{true}
 use mathlib.Core.List.{List}

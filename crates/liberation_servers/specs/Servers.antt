@@ -36,7 +36,7 @@ serverSolved p k s m j ts = solved (stripeLong p k s) j (upTo (suc m)) ts
 abbrev pub written : ℕ → ℕ → ℕ → ℕ → List ℕ → List ℕ
 written p k s m ts = serverSolved p k s m m ts
 
--- "These losses come as two bytes a server, 255 for none"
+-- "These losses come as two bytes a server, 255 for none": whether a byte names a disk, and the two bytes of server i
 abbrev pub lost : ℕ → Bool
 lost d = not (eqb d 255)
 
@@ -75,7 +75,7 @@ serversFault m = when (ltb m 2 || ltb 16 m) 18
 abbrev pub serverFault : ℕ → ℕ → ℕ
 serverFault m j = firstOf (serversFault m) (when (ltb m j) 18)
 
--- "then 3 and 4 server by server": one byte, one server's pair, and those of the first n servers but j
+-- "then 3 and 4 server by server": the refusal of one byte, of one server's pair, and of the pairs of the first n servers but j
 abbrev pub byteFault : ℕ → ℕ → ℕ
 byteFault k d = pick (lost d) (diskFault k d) 0
 
@@ -86,7 +86,7 @@ unfoldable pub lossesFault : ℕ → ℕ → ℕ → List ℕ → ℕ
 lossesFault zero k j ls = 0
 lossesFault (suc n) k j ls = firstOf (lossesFault n k j ls) (pick (eqb n j) 0 (pairFault k (firstLoss ls n) (secondLoss ls n)))
 
--- the refusals of the two calls, in order: 1, 13, 2, 18 by the test n, 5 for the stripes; then, of a rebuild, 5 for the losses, 3 and 4
+-- the refusals of the two calls, in order: 1, 13, 2, then 18, n being what its test gave, and 5 for the stripes; a rebuild goes on with 5 for the losses, 3 and 4
 abbrev pub callFault : ℕ → ℕ → ℕ → ℕ → ℕ → List ℕ → ℕ
 callFault n p k s m ts = firstOf (shapeFault p k s) (firstOf n (longFault (serversLong p k s m) ts))
 

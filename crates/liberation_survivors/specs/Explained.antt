@@ -1,4 +1,4 @@
--- What the verdict on a stripe claims, in terms of clean stripes alone.
+-- What the verdict on a stripe claims, in terms of clean stripes alone (document 02, asks 2 and 11).
 use mathlib.Core.Path.{_≡_}
 use mathlib.Core.Bool.{true, false}
 use mathlib.Core.List.{List}
@@ -7,7 +7,7 @@ use Rattle.liberation.specs.Sets.{diskAt}
 use Rattle.liberation_stripes.specs.Stripes.{cellAt, isStripe, clean}
 use Rattle.liberation_survivors.specs.Survivors.{suspect, verdict}
 
--- u is a clean stripe that is t off disk d
+-- disk d explains t by u: u is a clean stripe and agrees with t in every cell off disk d
 pub record Explains (p k s d : ℕ) (t u : List ℕ) : Type 0 where
   pub stripe : isStripe p k s u ≡ true
   pub cleans : clean p k s u ≡ true

@@ -7,6 +7,7 @@ use lib.ListN.{length}
 use Rattle.liberation.specs.Plans.{Step, step}
 use Rattle.liberation_texts.specs.Reading.{isDigit, valueFrom, names}
 
+-- every byte is a digit
 abbrev pub allDigits : List ℕ → Bool
 allDigits [] = true
 allDigits (b ∷ bs) = isDigit b && allDigits bs
@@ -35,6 +36,7 @@ pub data EndText : List ℕ → Type 0 where
 pub data LineText : List ℕ → Step → Type 0 where
   line : {ds es e : List ℕ} {b row kind number : ℕ} → NumberText ds row → LetterText b kind → NumberText es number → EndText e → LineText (ds ++ (44 ∷ (b ∷ (44 ∷ (es ++ e))))) (step row kind number)
 
+-- lines one after another, a line a step
 pub data LinesText : List ℕ → List Step → Type 0 where
   none : LinesText [] []
   next : {t u : List ℕ} {s : Step} {ss : List Step} → LineText t s → LinesText u ss → LinesText (t ++ u) (s ∷ ss)

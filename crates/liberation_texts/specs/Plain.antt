@@ -14,6 +14,7 @@ unfoldable pub plainLines : List Step → List ℕ
 plainLines [] = []
 plainLines (s ∷ ss) = plainLine s ++ plainLines ss
 
+-- the plain form of steps: the names line, then a line a step
 unfoldable pub plain : List Step → List ℕ
 plain ss = names ++ (10 ∷ plainLines ss)
 

@@ -30,6 +30,7 @@ unfoldable pub valueFrom : ℕ → List ℕ → ℕ
 valueFrom v [] = v
 valueFrom v (b ∷ bs) = valueFrom (10 * v + (b - 48)) bs
 
+-- the number at the front
 abbrev pub numberIn : List ℕ → ℕ
 numberIn t = valueFrom 0 (take (digitsIn t) t)
 
@@ -45,6 +46,7 @@ endIn t = pick (eqb (byteAt t 0) 10) 1 (pick (eqb (byteAt t 0) 13 && eqb (byteAt
 abbrev pub isLetter : ℕ → Bool
 isLetter b = isIn b (68 ∷ (82 ∷ (100 ∷ (114 ∷ []))))
 
+-- R or r is kind 0, D or d kind 1
 abbrev pub kindOf : ℕ → ℕ
 kindOf b = pick (isIn b (82 ∷ (114 ∷ []))) 0 1
 
@@ -106,6 +108,7 @@ readable p t =
     let b = linesIn p (drop (namesSize t) t) in
     isNames t && (b .ok && eqb (namesSize t + b .size) (length t))
 
+-- the steps that the p lines name
 unfoldable pub stepsRead : ℕ → List ℕ → List Step
 stepsRead p t = linesIn p (drop (namesSize t) t) .steps
 

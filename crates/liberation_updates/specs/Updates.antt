@@ -22,20 +22,20 @@ unfoldable pub cellsOn : ℕ → ℕ → List ℕ → List ℕ
 cellsOn p c [] = []
 cellsOn p c (i ∷ is) = place p i c ∷ cellsOn p c is
 
--- the parity cells of data cell (r, c)
+-- the parity cells of data cell (r, c): "its P cell and the Q cells of the diagonals holding it"
 unfoldable pub parityOf : ℕ → ℕ → ℕ → ℕ → List ℕ
 parityOf p k r c = place p r k ∷ cellsOn p (suc k) (holders p r c)
 
--- d added to each cell of a list
+-- d added, by XOR, to each cell of a list
 unfoldable pub addedEach : ℕ → List ℕ → List ℕ → List ℕ → List ℕ
 addedEach s d [] t = t
 addedEach s d (y ∷ ys) t = addedEach s d ys (withCell s y (xorL (cellAt s t y) d) t)
 
--- what an update with new bytes adds at place x
+-- what an update that puts new bytes at place x adds to the cell and to its parity cells
 abbrev pub change : ℕ → ℕ → List ℕ → List ℕ → List ℕ
 change s x new t = xorL (cellAt s t x) new
 
--- the stripe with new bytes in data cell (r, c)
+-- the stripe after an update: new bytes in data cell (r, c), the change in its parity cells
 unfoldable pub updated : ℕ → ℕ → ℕ → ℕ → ℕ → List ℕ → List ℕ → List ℕ
 updated p k s r c new t = withCell s (place p r c) new (addedEach s (change s (place p r c) new t) (parityOf p k r c) t)
 

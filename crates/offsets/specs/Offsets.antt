@@ -1,4 +1,4 @@
--- Offsets of cells, pushed into a lent list after the numbers that it holds.
+-- Offsets of cells, the bytes of a stripe before them, pushed into a lent list after the numbers that it holds.
 use mathlib.Core.Path.{_≡_}
 use mathlib.Core.List.{List, [], _∷_, _++_}
 use Prim.Native.Nat.{ℕ, _+_, _-_, _*_, _≤_, _<_}

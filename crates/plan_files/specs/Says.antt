@@ -23,7 +23,7 @@ textFault p t = when (not (readable p t)) 22
 abbrev pub roomFault : ℕ → ℕ → ℕ → List ℕ → ℕ
 roomFault p k f o = firstOf (planFault p k f) (longFault 263 o)
 
--- refusals of each call before any step is looked at: "tested after 5"
+-- refusals of each call before any step is looked at, 22 being "tested after 5": of `judge_text`, `write_plan` and `plain_text`
 abbrev pub judgeFirst : ℕ → ℕ → ℕ → List ℕ → ℕ
 judgeFirst p k f t = firstOf (planFault p k f) (textFault p t)
 

@@ -40,7 +40,7 @@ afterFirst t = drop (pick (eqb (getD t 8 0) 44) 9 10) t
 abbrev pub secondValue : List ℕ → ℕ
 secondValue t = valueTo 10 (afterFirst t)
 
--- the input is of its form exactly if it is the input of two numbers below 100
+-- "program input not of its form" is what refusal 12 is for: an input is of its form exactly if it is the input of two numbers below 100
 unfoldable pub isForm : List ℕ → Bool
 isForm t = ltb (firstValue t) 100 && (ltb (secondValue t) 100 && same t (inputOf (firstValue t) (secondValue t)))
 
@@ -61,6 +61,7 @@ linesFrom i [] ns = []
 linesFrom i (s ∷ ss) [] = []
 linesFrom i (s ∷ ss) (n ∷ ns) = lineOf i s n ++ linesFrom (suc i) ss ns
 
+-- the text of our plan: the names line, then a line a step
 unfoldable pub planText : ℕ → ℕ → List ℕ
 planText p f = headLine ++ linesFrom 0 (planOf p p f) (newFrom p f [] (planOf p p f))
 

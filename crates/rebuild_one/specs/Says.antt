@@ -1,4 +1,4 @@
--- The promise of `rebuild_one`, for accepted and refused calls alike.
+-- The promise of `rebuild_one` (document 01, "A plan for one lost disk"), for accepted and refused calls alike.
 use mathlib.Core.Path.{_≡_}
 use mathlib.Core.Bool.{true, not}
 use mathlib.Core.List.{List}
@@ -20,7 +20,7 @@ lengthsFault p k s f n m = firstOf (numbersFault p k s f) (firstOf (when (not (e
 abbrev pub oneFault : ℕ → ℕ → ℕ → ℕ → List ℕ → List ℕ → ℕ
 oneFault p k s f t o = lengthsFault p k s f (length t) (length o)
 
--- the column o becomes o′
+-- the column o becomes o′: the rebuilt disk, or as it was on a refusal
 pub record OneSays (p k s f : ℕ) (t o o′ : List ℕ) (r : Answer) : Type 0 where
   pub answer : Answers (oneFault p k s f t o) r
   pub column : o′ ≡ pick (eqb (oneFault p k s f t o) 0) (rebuilt p k s f t) o

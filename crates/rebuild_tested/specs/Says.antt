@@ -1,4 +1,4 @@
--- The promise of `rebuild_tested`, for accepted and refused calls alike.
+-- The promise of `rebuild_tested` (document 02, ask 11), for accepted and refused calls alike.
 use mathlib.Core.Path.{_≡_}
 use mathlib.Core.Bool.{true, not}
 use mathlib.Core.List.{List}
@@ -12,11 +12,11 @@ use Rattle.refusals.specs.declared.Answer.{Answer}
 use Rattle.refusals.specs.Answers.{Answers}
 use Rattle.rebuild_one.specs.Says.{oneFault}
 
--- 19 of document 02, ask 11, comes last, after the refusals of the rebuild without a test: t is the stripe, o the column
+-- 19, "survivors of no clean stripe", comes last, after the refusals of the rebuild without a test: t is the stripe, o the column
 abbrev pub testedFault : ℕ → ℕ → ℕ → ℕ → List ℕ → List ℕ → ℕ
 testedFault p k s f t o = firstOf (oneFault p k s f t o) (when (not (fits p k s f t)) 19)
 
--- the column o becomes o′
+-- the column o becomes o′: the rebuilt disk, or as it was on a refusal
 pub record TestedSays (p k s f : ℕ) (t o o′ : List ℕ) (r : Answer) : Type 0 where
   pub answer : Answers (testedFault p k s f t o) r
   pub column : o′ ≡ pick (eqb (testedFault p k s f t o) 0) (rebuilt p k s f t) o

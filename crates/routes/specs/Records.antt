@@ -1,4 +1,4 @@
--- Routes in an array, with their word.
+-- Routes in an array, with their word: "The routes are also given as one 32-bit word, bit i set if row i takes a diagonal".
 use mathlib.Core.Path.{_≡_}
 use mathlib.Core.List.{List}
 use Prim.Native.Nat.{ℕ}

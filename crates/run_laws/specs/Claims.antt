@@ -34,10 +34,12 @@ pub record MadeSkip : Type 0 where
   pub run : Run
   pub answer : Answer
 
+-- a call on a run: a step or a skip
 pub data Event : Type 0 where
   step-of : MadeStep → Event
   skip-of : MadeSkip → Event
 
+-- the stripe number that it was given, and the refusal number that it answered
 abbrev pub whichOf : Event → ℕ
 whichOf (step-of c) = c .which
 whichOf (skip-of c) = c .which

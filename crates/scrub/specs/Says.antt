@@ -1,4 +1,4 @@
--- The promise of `scrub_stripe`, for accepted and refused calls alike. The stripe t has p rows and k data disks.
+-- The promise of `scrub_stripe` (document 02, ask 2), for accepted and refused calls alike. The stripe t has p rows and k data disks.
 use mathlib.Core.Path.{_≡_}
 use mathlib.Core.Bool.{true, _&&_}
 use mathlib.Core.List.{List}

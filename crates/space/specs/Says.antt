@@ -54,6 +54,7 @@ packageFault l = when (ltb (2 ^ 48) l) 11
 abbrev pub spaceFault : ℕ → ℕ → ℕ → List ℕ → ℕ
 spaceFault p k s ls = firstOf (shapeFault p k s) (firstOf (filesFault ls) (packageFault (total ls)))
 
+-- the promise of `package_space`: free are "the free bytes of one disk"
 pub record SpaceSays (p k s : ℕ) (ls : List ℕ) (free : ℕ) (r : Space) : Type 0 where
   pub answer : Answers (spaceFault p k s ls) (r .answer)
   pub stripes : r .stripes ≡ pick (eqb (spaceFault p k s ls) 0) (stripesOf p k s ls) 0

@@ -1,4 +1,4 @@
--- The refusals of a call on a stripe, and the promise of encoding, for accepted and refused calls alike. Stripes have p rows and k data disks.
+-- The refusals of a call on a stripe, and the promise of encoding (document 01, "Stripe and sets"), for accepted and refused calls alike. Stripes have p rows and k data disks.
 use mathlib.Core.Path.{_≡_}
 use mathlib.Core.Bool.{true}
 use mathlib.Core.List.{List}
