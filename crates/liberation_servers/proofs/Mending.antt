@@ -1,26 +1,21 @@
 -- Mending one stripe of up to two losses: it stays a stripe, cells off the losses stand, what the lost disks held does not matter, and a clean stripe comes back whole.
 -- A byte of 255 is no disk's, so it names no loss.
-use mathlib.Core.Path.{_≡_, refl, sym, ap, _∙_}
+use mathlib.Core.Path.{_≡_, refl, sym, _∙_}
 use mathlib.Core.Bool.{Bool, true, false}
-use mathlib.Core.Logic.{⊎-elim}
 use mathlib.Core.List.{List, []}
 use Prim.Native.Nat.{ℕ, _+_, _*_, _≤_, _<_}
-use native.Mathlib.Nat.{mod-lt}
 use native.Mathlib.Omega.{arith}
 use lib.Dec.{eqb}
-use borrow.Author.Tests.{eqb-true, eqb-false, not-false}
+use borrow.Author.Tests.{eqb-true, not-false}
 use Rattle.laws.specs.Choice.{pick}
-use Rattle.laws.proofs.Flags.{flag}
-use Rattle.liberation.specs.Sets.{isWidth, place, rowAt, diskAt}
+use Rattle.liberation.specs.Sets.{isWidth, diskAt}
 use Rattle.liberation.specs.Plans.{planOf}
 use Rattle.liberation.specs.Judging.{accepted}
 use Rattle.liberation.proofs.Widths.{width-most}
-use Rattle.liberation.proofs.SetLaws.{place-of}
-use Rattle.liberation.proofs.PlaceLaws.{some-row, disk-below}
+use Rattle.liberation.proofs.PlaceLaws.{disk-below}
 use Rattle.liberation.proofs.AcceptedLaws.{Passes, accepted-passes}
 use Rattle.liberation_stripes.specs.Stripes.{cellAt, isStripe, clean, followed}
-use Rattle.liberation_stripes.proofs.CellLaws.{cells-equal}
-use Rattle.liberation_stripes.proofs.Solving.{stripe-long}
+use Rattle.liberation_stripes.proofs.Solving.{stripes-equal, stripes-alike}
 use Rattle.liberation_stripes.proofs.Following.{followed-stripe, followed-off, followed-clean}
 use Rattle.liberation_stripes.proofs.Rebuilding.{steps-agree}
 use Rattle.liberation_pairs.specs.Pairs.{pairSolved}
@@ -46,10 +41,6 @@ mends-swap p k s a b f r =
       back = λ t u ht hu cu same. r .back t u ht hu cu (λ x l m n. same x l n m);
     }
 
--- stripes with equal cells
-stripes-equal : (p k s : ℕ) (t u : List ℕ) → isStripe p k s t ≡ true → isStripe p k s u ≡ true → ((x : ℕ) → x < p * (k + 2) → cellAt s t x ≡ cellAt s u x) → t ≡ u
-stripes-equal p k s t u ht hu h = cells-equal (p * (k + 2)) s t u (stripe-long p k s t ht) (stripe-long p k s u hu) h
-
 -- our plan for a lost disk d, on two stripes alike off d
 module _ (p k s d : ℕ) (ok : accepted p k d (planOf p k d) ≡ true) where
   passes : Passes p k d [] (planOf p k d)
@@ -62,18 +53,9 @@ module _ (p k s d : ℕ) (ok : accepted p k d (planOf p k d) ≡ true) where
     pub one-alike : followed p k s d (planOf p k d) t ≡ followed p k s d (planOf p k d) u
     unfolding after
     one-alike =
-        stripes-equal p k s (after t) (after u) (followed-stripe p k s d passes t ht) (followed-stripe p k s d passes u hu)
-        (λ x l. ⊎-elim (λ e. on x l (eqb-true (diskAt p x) d e)) (λ e. off x l (eqb-false (diskAt p x) d e)) (flag (eqb (diskAt p x) d)))
-      where
-        off : (x : ℕ) → x < p * (k + 2) → (diskAt p x ≡ d → ⊥) → cellAt s (after t) x ≡ cellAt s (after u) x
-        off x l n = followed-off p k s d passes t ht x n ∙ same x l n ∙ sym (followed-off p k s d passes u hu x n)
-
-        on : (x : ℕ) → x < p * (k + 2) → diskAt p x ≡ d → cellAt s (after t) x ≡ cellAt s (after u) x
-        on x l e =
-            let q : x ≡ place p (rowAt p x) d = sym (place-of p x) ∙ ap (place p (rowAt p x)) e in
-            ap (cellAt s (after t)) q
-            ∙ steps-agree p k s d (planOf p k d) ok t u ht hu (λ y m n h. same y m n) (rowAt p x) (mod-lt x (some-row p (k + 2) x l))
-            ∙ sym (ap (cellAt s (after u)) q)
+        stripes-alike p k s d (after t) (after u) (followed-stripe p k s d passes t ht) (followed-stripe p k s d passes u hu)
+        (λ x l n. followed-off p k s d passes t ht x n ∙ same x l n ∙ sym (followed-off p k s d passes u hu x n))
+        (steps-agree p k s d (planOf p k d) ok t u ht hu (λ y m n h. same y m n))
 
     -- the one that is clean comes back
     pub one-whole : clean p k s u ≡ true → followed p k s d (planOf p k d) t ≡ u

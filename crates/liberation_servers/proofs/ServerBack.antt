@@ -1,5 +1,5 @@
--- Rebuilding a server. After any call that is not refused, every other server is as mended and the lost one is the XOR of these (V3).
--- Where the servers held m + 1 clean stripes, the last the XOR of the rest, they all come back, whatever the lost server and the lost disks held (V2).
+-- Rebuilding a server. After any call that is not refused, every other server is as mended and the lost one is the XOR of these.
+-- Where the servers held m + 1 clean stripes, the last the XOR of the rest, they all come back, whatever the lost server and the lost disks held.
 use mathlib.Core.Path.{_≡_, sym, ap, _∙_}
 use mathlib.Core.Bool.{true, not}
 use mathlib.Core.Logic.{⊎-elim}
@@ -7,11 +7,11 @@ use mathlib.Core.List.{List}
 use Prim.Native.Nat.{ℕ, suc, _<_}
 use native.Mathlib.Omega.{arith}
 use lib.Dec.{eqb}
-use lib.ListN.{replicate}
-use borrow.Author.Tests.{eqb-true, eqb-false, not-true}
+use borrow.Author.Tests.{eqb-false, not-true}
 use Rattle.laws.specs.Lists.{isIn}
 use Rattle.laws.specs.Xor.{allBytes}
-use Rattle.laws.proofs.Flags.{flag, and-l, and-r}
+use Rattle.laws.proofs.Flags.{and-l, and-r}
+use Rattle.laws.proofs.OrderLaws.{eq-or-ne}
 use Rattle.liberation_stripes.specs.Stripes.{cellAt, xorOver, stripeLong, isStripe, clean, without}
 use Rattle.liberation_stripes.proofs.OverLaws.{over-ext, in-without}
 use Rattle.liberation_servers.specs.Servers.{upTo, serverAt, isServers, firstLoss, secondLoss, mended, mendedAt, mendedAll, serverRebuilt, written, writeFault, rebuildFault}
@@ -19,7 +19,7 @@ use Rattle.liberation_servers.specs.Claims.{CleanServers, AlikeOff, Give
 use Rattle.liberation_servers.proofs.UpTo.{up-lt}
 use Rattle.liberation_servers.proofs.RefusalLaws.{losses-of, write-of, rebuild-of, rebuild-losses}
 use Rattle.liberation_servers.proofs.Mending.{Mends, mends}
-use Rattle.liberation_servers.proofs.ServerLaws.{servers-of, servers-equal, server-stripe, step-servers, step-server, step-other, step-zero, step-same, extra-zero}
+use Rattle.liberation_servers.proofs.ServerLaws.{servers-of, servers-equal, server-stripe, step-servers, step-server, step-other, step-same, extra-zero}
 use Rattle.liberation_servers.proofs.MendingAll.{all-servers, all-mended}
 use Rattle.liberation_servers.proofs.Writing.{written-cleans}
 
@@ -33,7 +33,7 @@ other-up m j i h =
 servers-by : (p k s m j : ℕ) (ts us : List ℕ) → isServers p k s m ts ≡ true → isServers p k s m us ≡ true → serverAt p k s ts j ≡ serverAt p k s us j → ((i : ℕ) → i < suc m → (i ≡ j → ⊥) → serverAt p k s ts i ≡ serverAt p k s us i) → ts ≡ us
 servers-by p k s m j ts us ht hu own others =
     servers-equal p k s m ts us ht hu
-    (λ i l. ⊎-elim (λ e. let q = eqb-true i j e in ap (serverAt p k s ts) q ∙ own ∙ sym (ap (serverAt p k s us) q)) (λ e. others i l (eqb-false i j e)) (flag (eqb i j)))
+    (λ i l. ⊎-elim (λ q. ap (serverAt p k s ts) q ∙ own ∙ sym (ap (serverAt p k s us) q)) (others i l) (eq-or-ne i j))
 
 -- a call that is not refused, on a slice of bytes
 module _ (p k s m j : ℕ) (ls ts : List ℕ) (bytes : allBytes ts ≡ true) (accepted : rebuildFault p k s m j ls ts ≡ 0) where
@@ -59,7 +59,7 @@ module _ (p k s m j : ℕ) (ls ts : List ℕ) (bytes : allBytes ts ≡ true) (ac
   before-server : (i : ℕ) → i < suc m → (i ≡ j → ⊥) → serverAt p k s (mendedAll (suc m) p k s j ls ts) i ≡ mendedAt p k s ls ts i
   before-server i l a = all-mended p k s m j ls ts all keeps (suc m) i (omega arith) l a
 
-  -- V3: the slice stays m + 1 stripes
+  -- the slice stays m + 1 stripes
   pub rebuilt-servers : isServers p k s m (serverRebuilt p k s m j ls ts) ≡ true
   unfolding serverRebuilt
   rebuilt-servers = step-servers p k s m (mendedAll (suc m) p k s j ls ts) before-servers j (losses .server)
@@ -79,11 +79,7 @@ module _ (p k s m j : ℕ) (ls ts : List ℕ) (bytes : allBytes ts ≡ true) (ac
       step-server p k s m (mendedAll (suc m) p k s j ls ts) before-servers j (losses .server)
       ∙ over-ext (stripeLong p k s) (serverAt p k s (mendedAll (suc m) p k s j ls ts)) (mendedAt p k s ls ts) (without j (upTo (suc m))) (λ i e. let o = other-up m j i e in before-server i (o .0) (o .1))
 
-  pub rebuilt-zero : xorOver (stripeLong p k s) (serverAt p k s (serverRebuilt p k s m j ls ts)) (upTo (suc m)) ≡ replicate (stripeLong p k s) 0
-  unfolding serverRebuilt
-  rebuilt-zero = step-zero p k s m (mendedAll (suc m) p k s j ls ts) before-servers j (losses .server)
-
-  -- V2: "the lost server comes back exact", and so do the others
+  -- "the lost server comes back exact", and so do the others
   module _ (us : List ℕ) (cleans : CleanServers p k s m us) (alike : AlikeOff p k s m j ls ts us) where
     mended-back : (i : ℕ) → i < suc m → (i ≡ j → ⊥) → mendedAt p k s ls ts i ≡ serverAt p k s us i
     mended-back i l a = mends-at i l a .back (serverAt p k s ts i) (serverAt p k s us i) (server-stripe p k s m ts all i l) (server-stripe p k s m us (cleans .servers) i l) (cleans .cleans i l) (alike i l a)

@@ -2,25 +2,20 @@
 -- and row sets have no cell on Q. In a clean stripe P is told by the data, and Q by the data and P.
 use mathlib.Core.Path.{_≡_, sym, ap, _∙_}
 use mathlib.Core.Bool.{true}
-use mathlib.Core.Logic.{⊎-elim}
 use mathlib.Core.List.{List, []}
 use Prim.Native.Nat.{ℕ, suc, _+_, _*_, _≤_, _<_}
-use native.Mathlib.Nat.{mod-lt}
 use native.Mathlib.Omega.{arith}
-use Rattle.laws.proofs.OrderLaws.{lt-or-le}
-use Rattle.liberation.specs.Sets.{place, rowAt, diskAt, rowSet}
+use Rattle.liberation.specs.Sets.{place, diskAt, rowSet}
 use Rattle.liberation.specs.Plans.{planOf}
 use Rattle.liberation.specs.Claims.{uses}
-use Rattle.liberation.proofs.SetLaws.{place-of}
 use Rattle.liberation.proofs.PlaceLaws.{some-row, disk-below, below-disk, row-disk}
 use Rattle.liberation.proofs.ReadLaws.{holds}
 use Rattle.liberation.proofs.AcceptedLaws.{Passes, accepted-passes}
 use Rattle.liberation.proofs.RowLaws.{uses-all, holds-all}
 use Rattle.liberation.proofs.ParityPlans.{plan-row-parity, plan-diagonal-parity, row-parity-accepted, diagonal-parity-accepted}
 use Rattle.liberation_stripes.specs.Stripes.{cellAt, isStripe, clean, followed, encoded}
-use Rattle.liberation_stripes.proofs.CellLaws.{cells-equal}
 use Rattle.liberation_stripes.proofs.OverLaws.{over-ext}
-use Rattle.liberation_stripes.proofs.Solving.{stripe-long, SetZero, clean-of}
+use Rattle.liberation_stripes.proofs.Solving.{SetZero, clean-of, cell-alike, stripes-alike}
 use Rattle.liberation_stripes.proofs.Following.{followed-stripe, followed-off, followed-zero}
 use Rattle.liberation_stripes.proofs.Rebuilding.{steps-back}
 
@@ -82,29 +77,17 @@ module _ (p k s : ℕ) (t : List ℕ) (stripe : isStripe p k s t ≡ true) where
   pub encoded-only : (u : List ℕ) → isStripe p k s u ≡ true → clean p k s u ≡ true → ((x : ℕ) → x < p * k → cellAt s u x ≡ cellAt s t x) → u ≡ encoded p k s t
   unfolding with-rows encoded
   encoded-only u hu cu same =
-      sym (cells-equal (p * (k + 2)) s (encoded p k s t) u (stripe-long p k s (encoded p k s t) encoded-stripe) (stripe-long p k s u hu) all-cells)
+      sym (stripes-alike p k s (suc k) (encoded p k s t) u encoded-stripe hu (λ x l n. off-q x n ∙ off x l n) on-q)
     where
-      -- a cell given by its disk
-      by-disk : (v : List ℕ) (c x : ℕ) → diskAt p x ≡ c → cellAt s v x ≡ cellAt s v (place p (rowAt p x) c)
-      by-disk v c x e = ap (cellAt s v) (sym (place-of p x) ∙ ap (place p (rowAt p x)) e)
-
       on-p : (r : ℕ) → r < p → cellAt s with-rows (place p r k) ≡ cellAt s u (place p r k)
       on-p = steps-back p k s k (planOf p k k) (row-parity-accepted p k) t u stripe hu (λ x l n h. sym (same x (rows-read p k x n h))) cu
 
       -- data cells and P
       off : (x : ℕ) → x < p * (k + 2) → (diskAt p x ≡ suc k → ⊥) → cellAt s with-rows x ≡ cellAt s u x
       off x l n =
-          let d : diskAt p x < k + 2 = disk-below p (k + 2) x l in
-          ⊎-elim
-          (λ m. followed-off p k s k (row-steps p k) t stripe x (λ e. omega arith) ∙ sym (same x (below-disk p k x (some-row p (k + 2) x l) m)))
-          (λ m. let e : diskAt p x ≡ k = omega arith in by-disk with-rows k x e ∙ on-p (rowAt p x) (mod-lt x (some-row p (k + 2) x l)) ∙ sym (by-disk u k x e))
-          (lt-or-le (diskAt p x) k)
+          cell-alike p k s k with-rows u x l
+          (λ m. followed-off p k s k (row-steps p k) t stripe x m ∙ sym (same x (below-disk p k x (some-row p (k + 2) x l) (omega (arith, disk-below p (k + 2) x l, m, n)))))
+          on-p
 
       on-q : (r : ℕ) → r < p → cellAt s (encoded p k s t) (place p r (suc k)) ≡ cellAt s u (place p r (suc k))
       on-q = steps-back p k s (suc k) (planOf p k (suc k)) (diagonal-parity-accepted p k) with-rows u rows-stripe hu (λ x l n h. off x l n) cu
-
-      all-cells : (x : ℕ) → x < p * (k + 2) → cellAt s (encoded p k s t) x ≡ cellAt s u x
-      all-cells x l = ⊎-elim others (λ m. let e : diskAt p x ≡ suc k = omega (arith, disk-below p (k + 2) x l) in by-disk (encoded p k s t) (suc k) x e ∙ on-q (rowAt p x) (mod-lt x (some-row p (k + 2) x l)) ∙ sym (by-disk u (suc k) x e)) (lt-or-le (diskAt p x) (suc k))
-        where
-          others : diskAt p x < suc k → cellAt s (encoded p k s t) x ≡ cellAt s u x
-          others m = let n : diskAt p x ≡ suc k → ⊥ = λ e. omega arith in off-q x n ∙ off x l n

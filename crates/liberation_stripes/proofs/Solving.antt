@@ -2,8 +2,10 @@
 -- The cell and the XOR of the others together are zero exactly if they are equal. Also: a stripe is clean exactly if the XOR over every set is zero.
 use mathlib.Core.Path.{_≡_, sym, ap, ap₂, _∙_}
 use mathlib.Core.Bool.{Bool, true, false, not}
+use mathlib.Core.Logic.{⊎-elim}
 use mathlib.Core.List.{List, _++_}
 use Prim.Native.Nat.{ℕ, _+_, _*_, _≤_, _<_}
+use native.Mathlib.Nat.{mod-lt}
 use native.Mathlib.Omega.{arith}
 use lib.Dec.{eqb}
 use lib.ListN.{length, take, drop, replicate}
@@ -13,13 +15,16 @@ use Rattle.laws.specs.Lists.{isIn, distinct, allBelow, same}
 use Rattle.laws.specs.Sums.{allTo}
 use Rattle.laws.specs.Xor.{xorL, allBytes}
 use Rattle.laws.proofs.Flags.{and-l, and-r, and-i}
+use Rattle.laws.proofs.OrderLaws.{eq-or-ne}
 use Rattle.laws.proofs.AllLaws.{all-at, all-of}
 use Rattle.laws.proofs.ByteLaws.{bytes-append, bytes-take, bytes-drop}
 use Rattle.laws.proofs.MemberLaws.{in-below, same-true, same-self}
 use Rattle.laws.proofs.XorLaws.{xorL-self, zero-equal}
-use Rattle.liberation.specs.Sets.{rowSet, diagonalSet, setOf}
+use Rattle.liberation.specs.Sets.{place, rowAt, diskAt, rowSet, diagonalSet, setOf}
+use Rattle.liberation.proofs.SetLaws.{place-of}
+use Rattle.liberation.proofs.PlaceLaws.{some-row}
 use Rattle.liberation_stripes.specs.Stripes.{cellAt, withCell, xorOver, stripeLong, isStripe, setClean, clean, without, solved}
-use Rattle.liberation_stripes.proofs.CellLaws.{cell-fits, cell-long, with-same, length-with, cell-with, cell-other}
+use Rattle.liberation_stripes.proofs.CellLaws.{cell-fits, cell-long, with-same, length-with, cell-with, cell-other, cells-equal}
 use Rattle.liberation_stripes.proofs.OverLaws.{Long, over-long, over-bytes, over-ext, in-without, over-without}
 
 -- the cells of a list of n cells
@@ -95,6 +100,30 @@ stripe-bytes p k s t h = and-r (eqb (length t) (stripeLong p k s)) (allBytes t) 
 
 pub stripe-of : (p k s : ℕ) (t : List ℕ) → length t ≡ p * (k + 2) * s → allBytes t ≡ true → isStripe p k s t ≡ true
 stripe-of p k s t e h = and-i (eqb (length t) (stripeLong p k s)) (allBytes t) (eq-eqb (length t) (stripeLong p k s) (e ∙ omega arith)) h
+
+-- stripes with equal cells are equal
+pub stripes-equal : (p k s : ℕ) (t u : List ℕ) → isStripe p k s t ≡ true → isStripe p k s u ≡ true → ((x : ℕ) → x < p * (k + 2) → cellAt s t x ≡ cellAt s u x) → t ≡ u
+stripes-equal p k s t u ht hu h = cells-equal (p * (k + 2)) s t u (stripe-long p k s t ht) (stripe-long p k s u hu) h
+
+-- two stripes agree in a cell that is off disk d, or in one of its rows, if they agree there
+pub cell-alike :
+    (p k s d : ℕ) (t u : List ℕ) (x : ℕ) → x < p * (k + 2)
+    → ((diskAt p x ≡ d → ⊥) → cellAt s t x ≡ cellAt s u x) → ((r : ℕ) → r < p → cellAt s t (place p r d) ≡ cellAt s u (place p r d))
+    → cellAt s t x ≡ cellAt s u x
+cell-alike p k s d t u x l off on = ⊎-elim here off (eq-or-ne (diskAt p x) d)
+  where
+    here : diskAt p x ≡ d → cellAt s t x ≡ cellAt s u x
+    here e =
+        let q : x ≡ place p (rowAt p x) d = sym (place-of p x) ∙ ap (place p (rowAt p x)) e in
+        ap (cellAt s t) q ∙ on (rowAt p x) (mod-lt x (some-row p (k + 2) x l)) ∙ sym (ap (cellAt s u) q)
+
+-- so they are equal if they agree off disk d and in each of its rows
+pub stripes-alike :
+    (p k s d : ℕ) (t u : List ℕ) → isStripe p k s t ≡ true → isStripe p k s u ≡ true
+    → ((x : ℕ) → x < p * (k + 2) → (diskAt p x ≡ d → ⊥) → cellAt s t x ≡ cellAt s u x)
+    → ((r : ℕ) → r < p → cellAt s t (place p r d) ≡ cellAt s u (place p r d))
+    → t ≡ u
+stripes-alike p k s d t u ht hu off on = stripes-equal p k s t u ht hu (λ x l. cell-alike p k s d t u x l (off x l) on)
 
 -- the cells of a set XOR to zero
 abbrev pub SetZero : ℕ → ℕ → ℕ → List ℕ → ℕ → ℕ → Type 0

@@ -15,9 +15,8 @@ use Rattle.liberation.proofs.SetLaws.{set-below}
 use Rattle.liberation.proofs.DistinctLaws.{distinct-set}
 use Rattle.liberation_stripes.specs.Stripes.{cellAt, xorOver, isStripe, clean, without, solved}
 use Rattle.liberation_stripes.specs.Steps.{CellStep, stepsDone, known}
-use Rattle.liberation_stripes.proofs.CellLaws.{cells-equal}
 use Rattle.liberation_stripes.proofs.OverLaws.{over-ext, in-without}
-use Rattle.liberation_stripes.proofs.Solving.{solved-long, solved-bytes, solved-cell, solved-other, solved-zero, solved-same, stripe-long, stripe-bytes, stripe-of, SetZero, clean-at}
+use Rattle.liberation_stripes.proofs.Solving.{solved-long, solved-bytes, solved-cell, solved-other, solved-zero, solved-same, stripe-long, stripe-bytes, stripe-of, SetZero, clean-at, stripes-equal}
 
 -- a step whose set has no unknown cell but the one written
 pub record Stands (p k : ℕ) (lost : ℕ → Bool) (done : List ℕ) (c : CellStep) : Type 0 where
@@ -226,6 +225,6 @@ pub steps-back :
     → ((y : ℕ) → y < p * (k + 2) → known lost done y ≡ true → cellAt s t y ≡ cellAt s u y)
     → stepsDone p k s cs t ≡ u
 steps-back p k s lost {cs = cs} ok full t u ht hu cu old =
-    cells-equal (p * (k + 2)) s (stepsDone p k s cs t) (stepsDone p k s cs u) (stripe-long p k s (stepsDone p k s cs t) (steps-stripe p k s lost ok t ht)) (stripe-long p k s (stepsDone p k s cs u) (steps-stripe p k s lost ok u hu))
+    stripes-equal p k s (stepsDone p k s cs t) (stepsDone p k s cs u) (steps-stripe p k s lost ok t ht) (steps-stripe p k s lost ok u hu)
     (λ y l. steps-agree p k s lost ok t u ht hu (λ z m a e. old z m a) y (old y l) (full y l))
     ∙ steps-clean p k s lost ok u hu cu

@@ -5,21 +5,18 @@ use mathlib.Core.Bool.{true, false}
 use mathlib.Core.Logic.{⊎-elim}
 use mathlib.Core.List.{List}
 use Prim.Native.Nat.{ℕ, _+_, _*_, _≤_, _<_}
-use native.Mathlib.Nat.{mod-lt}
 use native.Mathlib.Omega.{arith}
-use lib.Dec.{eqb}
 use lib.ListN.{length}
-use borrow.Author.Tests.{eqb-true, eqb-false}
 use Rattle.laws.specs.Xor.{allBytes}
 use Rattle.laws.proofs.Flags.{flag, clash}
-use Rattle.liberation.specs.Sets.{isWidth, place, rowAt, diskAt}
+use Rattle.laws.proofs.OrderLaws.{eq-or-ne}
+use Rattle.liberation.specs.Sets.{isWidth, place, diskAt}
 use Rattle.liberation.specs.Plans.{planOf}
 use Rattle.liberation.specs.Judging.{accepted}
-use Rattle.liberation.proofs.SetLaws.{place-of}
 use Rattle.liberation.proofs.PlaceLaws.{some-row}
 use Rattle.liberation_stripes.specs.Stripes.{cellAt, isStripe, clean, columnOf, withColumn, rebuilt}
-use Rattle.liberation_stripes.proofs.CellLaws.{cell-fits, cells-equal, column-cell, length-column, cell-on, cell-off}
-use Rattle.liberation_stripes.proofs.Solving.{stripe-long, stripe-bytes, stripe-of, bytes-with}
+use Rattle.liberation_stripes.proofs.CellLaws.{cell-fits, column-cell, length-column, cell-off, column-with}
+use Rattle.liberation_stripes.proofs.Solving.{stripe-long, stripe-bytes, stripe-of, bytes-with, stripes-equal, stripes-alike}
 use Rattle.liberation_stripes.proofs.Rebuilding.{rebuilt-long, rebuilt-bytes, one-back}
 use Rattle.liberation_pairs.proofs.PairLaws.{pair-only}
 use Rattle.liberation_survivors.specs.Survivors.{withRebuilt, fits}
@@ -73,17 +70,14 @@ module _ (p k s d : ℕ) (width : isWidth p ≡ true) (most : k ≤ p) (disk : d
       off : (x : ℕ) → x < p * (k + 2) → (diskAt p x ≡ d → ⊥) → cellAt s u x ≡ cellAt s v x
       off x l n = sym (e .alike x l n) ∙ sym (cell-off p s d (rebuilt p k s d t) t long room x (some-row p (k + 2) x l) n)
 
-      on : (x : ℕ) → x < p * (k + 2) → diskAt p x ≡ d → cellAt s u x ≡ cellAt s v x
-      on x l q =
-          ap (cellAt s u) (sym (place-of p x) ∙ ap (place p (rowAt p x)) q)
-          ∙ sym (column-cell p s d (rowAt p x) u (mod-lt x (some-row p (k + 2) x l)))
-          ∙ ap (λ (c : List ℕ). cellAt s c (rowAt p x)) (explains-column u e)
-          ∙ sym (cell-on p s d (rebuilt p k s d t) t long room x (some-row p (k + 2) x l) q)
+      on : (r : ℕ) → r < p → cellAt s u (place p r d) ≡ cellAt s v (place p r d)
+      on r l =
+          sym (column-cell p s d r u l)
+          ∙ ap (λ (c : List ℕ). cellAt s c r) (explains-column u e ∙ sym (column-with p s d (rebuilt p k s d t) t long room))
+          ∙ column-cell p s d r v l
 
       same : u ≡ v
-      same =
-          cells-equal (p * (k + 2)) s u v (stripe-long p k s u (e .stripe)) (stripe-long p k s v (column-stripe p k s d disk t stripe (rebuilt p k s d t) long bytes))
-          (λ x l. ⊎-elim (λ q. on x l (eqb-true (diskAt p x) d q)) (λ q. off x l (eqb-false (diskAt p x) d q)) (flag (eqb (diskAt p x) d)))
+      same = stripes-alike p k s d u v (e .stripe) (column-stripe p k s d disk t stripe (rebuilt p k s d t) long bytes) off on
 
   -- no stripe does: it does not fit
   pub none-unfit : ((u : List ℕ) → Explains p k s d t u → ⊥) → fits p k s d t ≡ false
@@ -101,7 +95,7 @@ module _ (p k s a b : ℕ) (width : isWidth p ≡ true) (most : k ≤ p) (ha : a
       on-a x l q = ev .alike x l (λ e. apart (sym q ∙ e)) ∙ ap (λ (w : List ℕ). cellAt s w x) (sym u-is-v)
 
       t-is-u : t ≡ u
-      t-is-u = cells-equal (p * (k + 2)) s t u (stripe-long p k s t stripe) (stripe-long p k s u (eu .stripe)) (λ x l. ⊎-elim (λ q. on-a x l (eqb-true (diskAt p x) a q)) (λ q. eu .alike x l (eqb-false (diskAt p x) a q)) (flag (eqb (diskAt p x) a)))
+      t-is-u = stripes-equal p k s t u stripe (eu .stripe) (λ x l. ⊎-elim (on-a x l) (eu .alike x l) (eq-or-ne (diskAt p x) a))
 
   pub explains-once : clean p k s t ≡ false → (u v : List ℕ) → Explains p k s a t u → Explains p k s b t v → a ≡ b
-  explains-once dirty u v eu ev = ⊎-elim (λ q. eqb-true a b q) (λ q. clash (clean p k s t) (two-clean (eqb-false a b q) u v eu ev) dirty) (flag (eqb a b))
+  explains-once dirty u v eu ev = ⊎-elim (λ q. q) (λ n. clash (clean p k s t) (two-clean n u v eu ev) dirty) (eq-or-ne a b)

@@ -7,12 +7,13 @@ use Prim.Native.Nat.{ℕ, _+_, _*_, _%_, _≤_, _<_}
 use native.Mathlib.Omega.{arith}
 use lib.Dec.{eqb, ltb}
 use lib.ListN.{length}
-use borrow.Author.Tests.{eqb-true, eqb-false, ltb-true}
+use borrow.Author.Tests.{eqb-false, ltb-true}
 use Rattle.laws.specs.Choice.{pick}
 use Rattle.laws.specs.Lists.{isIn, distinct, allBelow}
 use Rattle.laws.specs.Xor.{xorL}
-use Rattle.laws.proofs.Flags.{flag, and-l, and-r, or-false-l, or-false-r}
+use Rattle.laws.proofs.Flags.{and-l, and-r, or-false-l, or-false-r}
 use Rattle.laws.proofs.XorLaws.{xorL-long}
+use Rattle.laws.proofs.OrderLaws.{eq-or-ne}
 use Rattle.liberation.specs.Sets.{place}
 use Rattle.liberation.proofs.SetLaws.{place-below}
 use Rattle.liberation_stripes.specs.Stripes.{cellAt, withCell, isStripe}
@@ -52,7 +53,7 @@ module _ (n s x : ℕ) (low : x < n) where
   pub put-last : (d old new ys t : List ℕ) → length d ≡ s → length old ≡ s → length new ≡ s → length t ≡ n * s → allBelow n ys ≡ true → distinct ys ≡ true → withCell s x new (addedEach s d ys (withCell s x old t)) ≡ withCell s x new (addedEach s d ys t)
   put-last d old new ys t dl ol nl long below once =
       cells-equal n s (withCell s x new v) (withCell s x new w) (put-long v vl) (put-long w wl)
-      (λ y m. ⊎-elim (λ e. here y (eqb-true y x e)) (λ e. there y (eqb-false y x e)) (flag (eqb y x)))
+      (λ y m. ⊎-elim (here y) (there y) (eq-or-ne y x))
     where
       u : List ℕ
       u = withCell s x old t

@@ -16,6 +16,7 @@ use Rattle.laws.specs.Lists.{isIn, distinct, allBelow}
 use Rattle.laws.specs.Xor.{xorL, allBytes}
 use Rattle.laws.proofs.Flags.{flag, and-i, clash, same-flag}
 use Rattle.laws.proofs.XorLaws.{xorL-twice, xorL-long}
+use Rattle.laws.proofs.OrderLaws.{eq-or-ne}
 use Rattle.liberation.specs.Sets.{place, rowSet, diagonalSet, setOf}
 use Rattle.liberation.proofs.SetLaws.{in-row, in-diagonal-parity, place-below, set-below}
 use Rattle.liberation.proofs.DistinctLaws.{distinct-set}
@@ -146,7 +147,7 @@ module _ (p k s r c : ℕ) (odd : p % 2 ≡ 1) (h : r < p) (l : c < k) (new : Li
             (λ y m n o. updated-other y n (only y m o))
 
         none : isIn (place p r c) xs ≡ false → (y : ℕ) → isIn y xs ≡ true → isIn y (parityOf p k r c) ≡ false
-        none b y m = ⊎-elim (λ e. ap (λ (z : ℕ). isIn z (parityOf p k r c)) (eqb-true y q e) ∙ held ∙ b) (λ e. only y m (eqb-false y q e)) (flag (eqb y q))
+        none b y m = ⊎-elim (λ e. ap (λ (z : ℕ). isIn z (parityOf p k r c)) e ∙ held ∙ b) (only y m) (eq-or-ne y q)
 
         neither : isIn (place p r c) xs ≡ false → xorOver s (cellAt s (updated p k s r c new t)) xs ≡ xorOver s (cellAt s t) xs
         neither b =
@@ -190,7 +191,7 @@ module _ (p k s r c : ℕ) (odd : p % 2 ≡ 1) (h : r < p) (l : c < k) (new : Li
     pub updated-encoded : clean p k s t ≡ true → updated p k s r c new t ≡ encoded p k s (withCell s (place p r c) new t)
     updated-encoded e =
         encoded-only p k s put put-stripe (updated p k s r c new t) (updated-stripe nb) (updated-clean ∙ e)
-        (λ y m. ⊎-elim (λ q. here y (eqb-true y (place p r c) q)) (λ q. there y m (eqb-false y (place p r c) q)) (flag (eqb y (place p r c))))
+        (λ y m. ⊎-elim (here y) (there y m) (eq-or-ne y (place p r c)))
       where
         put : List ℕ
         put = withCell s (place p r c) new t

@@ -1,16 +1,15 @@
 -- Mending: what the tests of two bytes pick, and the slice turn by turn. Each turn finds its stripe and its pair in the slices, whatever the turns before have mended.
 use mathlib.Core.Path.{_≡_, refl, sym, ap, ap₂, _∙_}
 use mathlib.Core.Bool.{Bool, true}
-use mathlib.Core.Logic.{_⊎_, inl, inr, ⊎-elim}
+use mathlib.Core.Logic.{_⊎_, ⊎-elim}
 use mathlib.Core.List.{List}
 use Prim.Native.Nat.{ℕ, suc, _+_, _*_, _%_, _≤_, _<_}
 use native.Mathlib.Numerals.{add-one}
 use native.Mathlib.Omega.{arith}
-use lib.Dec.{eqb}
 use lib.ListN.{length}
-use borrow.Author.Tests.{eqb-true, eqb-false, eq-eqb, ne-eqb}
+use borrow.Author.Tests.{eq-eqb, ne-eqb}
 use Rattle.laws.specs.Choice.{pick}
-use Rattle.laws.proofs.Flags.{flag}
+use Rattle.laws.proofs.OrderLaws.{eq-or-ne}
 use Rattle.liberation.specs.Sets.{isWidth, arrayFault, planFault}
 use Rattle.liberation.specs.Plans.{planOf}
 use Rattle.liberation.proofs.Widths.{width-odd, width-most}
@@ -51,10 +50,6 @@ module _ (p k s a b : ℕ) (t : List ℕ) where
   pub both-lost : (u : List ℕ) → (a ≡ 255 → ⊥) → (b ≡ 255 → ⊥) → u ≡ pairSolved p k s a b t → u ≡ mended p k s a b t
   both-lost u na nb e = e ∙ sym (picked _ _ (lost-true a na) (lost-true b nb))
 
--- 255, or another number
-none-or : (d : ℕ) → (d ≡ 255) ⊎ (d ≡ 255 → ⊥)
-none-or d = ⊎-elim (λ e. inl (eqb-true d 255 e)) (λ e. inr (eqb-false d 255 e)) (flag (eqb d 255))
-
 -- one of a pair is lost, the other is not: d is that disk
 data OneLost (a b d : ℕ) : Type 0 where
   first-is : (a ≡ 255 → ⊥) → b ≡ 255 → a ≡ d → OneLost a b d
@@ -62,7 +57,7 @@ data OneLost (a b d : ℕ) : Type 0 where
 
 module _ (a b d : ℕ) (e : d ≡ onlyLoss a b) where
   one-lost : (d ≡ 255 → ⊥) → OneLost a b d
-  one-lost n = ⊎-elim (λ u. second-is u (λ v. n (e ∙ sym (only-second a b u) ∙ v)) (only-second a b u ∙ sym e)) (λ u. ⊎-elim (λ v. first-is u v (only-first a b u v ∙ sym e)) (λ v. absurd (n (e ∙ sym (only-none a b u v)))) (none-or b)) (none-or a)
+  one-lost n = ⊎-elim (λ u. second-is u (λ v. n (e ∙ sym (only-second a b u) ∙ v)) (only-second a b u ∙ sym e)) (λ u. ⊎-elim (λ v. first-is u v (only-first a b u v ∙ sym e)) (λ v. absurd (n (e ∙ sym (only-none a b u v)))) (eq-or-ne b 255)) (eq-or-ne a 255)
 
   -- none is lost, or both are
   pub second-none : d ≡ 255 → a ≡ 255 → b ≡ 255
