@@ -1,8 +1,7 @@
 -- The numbers below n as a list: its members, each once, and one of them taken out.
 use mathlib.Core.Path.{_≡_, refl, sym, ap, ap₂, _∙_}
 use mathlib.Core.Bool.{Bool, true, false, _||_, or-false, or-comm}
-use mathlib.Core.Logic.{⊎-elim}
-use mathlib.Core.List.{List, [], _∷_, _++_, append-nil}
+use mathlib.Core.List.{[], _∷_, _++_, append-nil}
 use Prim.Native.Nat.{ℕ, zero, suc, _≤_, _<_}
 use native.Mathlib.Omega.{arith}
 use lib.Dec.{eqb, ltb}
@@ -14,7 +13,6 @@ use Rattle.laws.proofs.Flags.{and-i}
 use Rattle.laws.proofs.ListLaws.{isIn-append, below-append}
 use Rattle.laws.proofs.MemberLaws.{distinct-snoc}
 use Rattle.laws.proofs.KeptLaws.{kept-append}
-use Rattle.laws.proofs.OrderLaws.{lt-or-le}
 use Rattle.laws.proofs.TestLaws.{ltb-next}
 use Rattle.liberation_stripes.specs.Stripes.{without}
 use Rattle.liberation_stripes.proofs.OverLaws.{without-keeps}
@@ -63,12 +61,3 @@ without-last n =
     without-turn n n
     ∙ ap₂ _++_ (without-above n n (omega arith)) (ap (λ (b : Bool). pick b [] (n ∷ [])) (eq-eqb n n refl))
     ∙ append-nil (upTo n)
-
--- m of the m + 1 servers are left
-pub others-long : (n x : ℕ) → x < n → suc (length (without x (upTo n))) ≡ n
-others-long zero x h = absurd (omega arith)
-others-long (suc n) x h =
-    ⊎-elim
-    (λ l. ap (λ (xs : List ℕ). suc (length xs)) (without-turn x n ∙ ap (λ (b : Bool). without x (upTo n) ++ pick b [] (n ∷ [])) (ne-eqb x n (λ e. omega arith))) ∙ omega (arith, length-append (without x (upTo n)) (n ∷ []), others-long n x l))
-    (λ l. let e : x ≡ n = omega arith in ap (λ (y : ℕ). suc (length (without y (upTo (suc n))))) e ∙ ap (λ (xs : List ℕ). suc (length xs)) (without-last n) ∙ ap suc (up-long n))
-    (lt-or-le x n)

@@ -1,4 +1,4 @@
--- Writing the extra stripe: it becomes the XOR of the m others, cell for cell, and these stand. If they are clean, so is it, and no other extra stripe is the XOR of theirs.
+-- Writing the extra stripe: it becomes the XOR of the m others, cell for cell, and these stand. If they are clean, so is it.
 use mathlib.Core.Path.{_≡_, sym, ap, _∙_}
 use mathlib.Core.Bool.{true}
 use mathlib.Core.Logic.{⊎-elim}
@@ -13,7 +13,7 @@ use Rattle.liberation_servers.specs.Servers.{upTo, serverAt, isServers, 
 use Rattle.liberation_servers.specs.Claims.{CleanServers}
 use Rattle.liberation_servers.proofs.UpTo.{up-lt, without-last}
 use Rattle.liberation_stripes.proofs.StripeSums.{cell-over, over-clean}
-use Rattle.liberation_servers.proofs.ServerLaws.{servers-equal, step-servers, step-server, step-other}
+use Rattle.liberation_servers.proofs.ServerLaws.{step-servers, step-server, step-other}
 
 module _ (p k s m : ℕ) (ts : List ℕ) (all : isServers p k s m ts ≡ true) where
   pub written-servers : isServers p k s m (written p k s m ts) ≡ true
@@ -32,7 +32,7 @@ module _ (p k s m : ℕ) (ts : List ℕ) (all : isServers p k s m ts ≡ true) w
       ap (λ (t : List ℕ). cellAt s t x) written-extra
       ∙ cell-over (stripeLong p k s) s x (serverAt p k s ts) (upTo m) (omega (arith, cell-fits (p * (k + 2)) s x l))
 
-  -- V1: "If all m stripes are clean, so is the extra one."
+  -- "If all m stripes are clean, so is the extra one."
   module _ (cleans : (i : ℕ) → i < m → clean p k s (serverAt p k s ts i) ≡ true) where
     pub written-clean : clean p k s (serverAt p k s (written p k s m ts) m) ≡ true
     written-clean = ap (clean p k s) written-extra ∙ over-clean p k s (serverAt p k s ts) (upTo m) (λ i e. cleans i (up-lt m i e))
@@ -45,12 +45,3 @@ module _ (p k s m : ℕ) (ts : List ℕ) (all : isServers p k s m ts ≡ true) w
           cleans = λ i l. ⊎-elim (λ n. ap (clean p k s) (written-other i n) ∙ cleans i n) (λ n. let e : i ≡ m = omega arith in ap (λ (c : ℕ). clean p k s (serverAt p k s (written p k s m ts) c)) e ∙ written-clean) (lt-or-le i m);
           extra = written-extra ∙ over-ext (stripeLong p k s) (serverAt p k s ts) (serverAt p k s (written p k s m ts)) (upTo m) (λ i e. sym (written-other i (up-lt m i e)));
         }
-
-  -- no other slice with those m servers has the XOR of theirs last
-  pub written-only : (us : List ℕ) → isServers p k s m us ≡ true → ((i : ℕ) → i < m → serverAt p k s us i ≡ serverAt p k s ts i) → serverAt p k s us m ≡ xorOver (stripeLong p k s) (serverAt p k s us) (upTo m) → us ≡ written p k s m ts
-  written-only us hu same extra =
-      servers-equal p k s m us (written p k s m ts) hu written-servers
-      (λ i l. ⊎-elim (λ n. same i n ∙ sym (written-other i n)) (λ n. let e : i ≡ m = omega arith in ap (serverAt p k s us) e ∙ last ∙ sym (ap (serverAt p k s (written p k s m ts)) e)) (lt-or-le i m))
-    where
-      last : serverAt p k s us m ≡ serverAt p k s (written p k s m ts) m
-      last = extra ∙ over-ext (stripeLong p k s) (serverAt p k s us) (serverAt p k s ts) (upTo m) (λ i e. same i (up-lt m i e)) ∙ sym written-extra

@@ -13,19 +13,20 @@ use Rattle.laws.proofs.MemberLaws.{in-head, in-tail, in-below}
 use Rattle.laws.proofs.XorLaws.{zero-xorL, zeros-bytes, xorL-cross, take-xorL, drop-xorL}
 use Rattle.liberation.specs.Sets.{setOf}
 use Rattle.liberation.proofs.SetLaws.{set-below}
-use Rattle.liberation_stripes.specs.Stripes.{cellAt, xorOver, stripeLong, isStripe, clean}
+use Rattle.liberation_stripes.specs.Stripes.{cellAt, xorOver, stripeLong, clean}
 use Rattle.liberation_stripes.proofs.CellLaws.{cell-fits}
-use Rattle.liberation_stripes.proofs.OverLaws.{over-long, over-bytes, over-ext}
-use Rattle.liberation_stripes.proofs.Solving.{stripe-long, stripe-of, SetZero, clean-at, clean-of}
+use Rattle.liberation_stripes.proofs.OverLaws.{over-ext}
+use Rattle.liberation_stripes.proofs.Solving.{SetZero, clean-at, clean-of}
 
 -- a cell of the XOR of two lists
 pub cell-xorL : (s x : ℕ) (t u : List ℕ) → cellAt s (xorL t u) x ≡ xorL (cellAt s t x) (cellAt s u x)
 cell-xorL s x t u = ap (take s) (drop-xorL (x * s) t u) ∙ take-xorL s (drop (x * s) t) (drop (x * s) u)
 
--- zeros
+-- zeros added to zeros
 zeros-twice : (s : ℕ) → xorL (replicate s 0) (replicate s 0) ≡ replicate s 0
 zeros-twice s = zero-xorL s (replicate s 0) (length-replicate s 0) (zeros-bytes s)
 
+-- the XOR of cells that are all zero
 pub over-zeros : (s : ℕ) (g : ℕ → List ℕ) (xs : List ℕ) → ((x : ℕ) → isIn x xs ≡ true → g x ≡ replicate s 0) → xorOver s g xs ≡ replicate s 0
 unfolding xorOver
 over-zeros s g [] h = refl
@@ -34,7 +35,7 @@ over-zeros s g (x ∷ xs) h = ap₂ xorL (h x (in-head x xs)) (over-zeros s g xs
 zeros-cell : (n s x : ℕ) → x * s + s ≤ n → cellAt s (replicate n 0) x ≡ replicate s 0
 zeros-cell n s x h = ap (take s) (drop-replicate (x * s) n 0) ∙ take-replicate s (n - x * s) 0 (omega arith)
 
--- the XOR over a list, term by term of two, and over two lists in either order
+-- of two families of cells the XOR, cell by cell, and that over two lists in either order
 pub over-add : (s : ℕ) (g h : ℕ → List ℕ) (xs : List ℕ) → xorOver s (λ x. xorL (g x) (h x)) xs ≡ xorL (xorOver s g xs) (xorOver s h xs)
 unfolding xorOver
 over-add s g h [] = sym (zeros-twice s)
@@ -53,12 +54,6 @@ cell-over n s x g (i ∷ is) h = cell-xorL s x (g i) (xorOver n g is) ∙ ap (xo
 
 -- the XOR of several stripes
 module _ (p k s : ℕ) (g : ℕ → List ℕ) (is : List ℕ) where
-  pub over-stripe : ((i : ℕ) → isIn i is ≡ true → isStripe p k s (g i) ≡ true) → isStripe p k s (xorOver (stripeLong p k s) g is) ≡ true
-  over-stripe h =
-      stripe-of p k s (xorOver (stripeLong p k s) g is)
-      (over-long (stripeLong p k s) g is (λ i e. stripe-long p k s (g i) (h i e) ∙ omega arith) ∙ omega arith)
-      (over-bytes (stripeLong p k s) g is)
-
   over-zero : (kind c : ℕ) → c < p → ((i : ℕ) → isIn i is ≡ true → SetZero p k s (g i) kind c) → SetZero p k s (xorOver (stripeLong p k s) g is) kind c
   over-zero kind c l h =
       over-ext s (cellAt s (xorOver (stripeLong p k s) g is)) (λ x. xorOver s (λ i. cellAt s (g i) x) is) (setOf p k kind c)

@@ -49,13 +49,9 @@ plain-readable ss h = text-readable (plain-form ss h)
 pub plain-steps : (ss : List Step) → writable ss ≡ true → stepsRead (length ss) (plain ss) ≡ ss
 plain-steps ss h = text-steps (plain-form ss h)
 
--- equal plain forms have equal steps
+-- equal plain forms have equal steps: plans "lead to the same plain text exactly when they name the same steps in the same order"
 pub plain-equal : (ss rs : List Step) → writable ss ≡ true → writable rs ≡ true → plain ss ≡ plain rs → ss ≡ rs
 plain-equal ss rs h k e = text-once (plain-form ss h) (plain-form rs k) e
-
--- what is read of the plain form has that plain form again
-pub plain-again : (ss : List Step) → writable ss ≡ true → plain (stepsRead (length ss) (plain ss)) ≡ plain ss
-plain-again ss h = ap plain (plain-steps ss h)
 
 -- Accepted plans: p steps, for a width p, k data disks and the lost disk f. "Also write an accepted plan in its one plain form"
 module _ (p k f : ℕ) (w : isWidth p ≡ true) where
@@ -64,17 +60,6 @@ module _ (p k f : ℕ) (w : isWidth p ≡ true) where
 
   pub accepted-steps : (ss : List Step) → accepted p k f ss ≡ true → stepsRead p (plain ss) ≡ ss
   accepted-steps ss h = ap (λ (n : ℕ). stepsRead n (plain ss)) (sym (accepted-length p k f ss h)) ∙ plain-steps ss (accepted-writable p k f ss w h)
-
-  -- "Two readable files of accepted plans lead to the same plain text exactly when they name the same steps in the same order": only if, and if
-  pub same-text : (t u : List ℕ) → accepted p k f (stepsRead p t) ≡ true → accepted p k f (stepsRead p u) ≡ true → plain (stepsRead p t) ≡ plain (stepsRead p u) → stepsRead p t ≡ stepsRead p u
-  same-text t u h m e = sym (accepted-steps (stepsRead p t) h) ∙ ap (stepsRead p) e ∙ accepted-steps (stepsRead p u) m
-
-  pub same-steps : (t u : List ℕ) → stepsRead p t ≡ stepsRead p u → plain (stepsRead p t) ≡ plain (stepsRead p u)
-  same-steps t u e = ap plain e
-
-  -- "writing the plain form's plan again alters no byte"
-  pub written-again : (ss : List Step) → accepted p k f ss ≡ true → plain (stepsRead p (plain ss)) ≡ plain ss
-  written-again ss h = ap plain (accepted-steps ss h)
 
   -- "It goes to a lent slice of 263 bytes": they are enough
   pub accepted-most : (ss : List Step) → accepted p k f ss ≡ true → length (plain ss) ≤ 15 + 8 * p

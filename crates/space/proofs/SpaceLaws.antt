@@ -10,10 +10,10 @@ use lib.ListN.{length}
 use borrow.Author.Tests.{ltb-false, leb-true, le-leb}
 use Rattle.laws.specs.Choice.{firstOf, when}
 use Rattle.laws.specs.Sums.{total}
-use Rattle.liberation.specs.Sets.{widthFault, sizeFault, shapeFault}
-use Rattle.laws.proofs.ChoiceLaws.{first-none, first-assoc, when-none, pick-refused, pick-done, and-refused, and-done}
+use Rattle.liberation.specs.Sets.{shapeFault}
+use Rattle.laws.proofs.ChoiceLaws.{first-none, when-none, pick-refused, pick-done, and-refused, and-done}
 use Rattle.liberation.proofs.Widths.{width-most}
-use Rattle.liberation.proofs.FaultLaws.{array-same, shape-of}
+use Rattle.liberation.proofs.FaultLaws.{shape-of}
 use Rattle.refusals.specs.declared.Answer.{Answer}
 use Rattle.refusals.specs.Answers.{Answers}
 use Rattle.refusals.proofs.AnswerLaws.{answers-as, answers-none}
@@ -46,12 +46,6 @@ fault-of p k s ls e =
     let a = first-none (shapeFault p k s) (firstOf (filesFault ls) (packageFault (total ls))) e in
     let b = first-none (filesFault ls) (packageFault (total ls)) (a .1) in
     (a .0, (ltb-false 4096 (length ls) (when-none (ltb 4096 (length ls)) 13 (b .0)), ltb-false (2 ^ 48) (total ls) (when-none (ltb (2 ^ 48) (total ls)) 10 (b .1))))
-
--- with as many data disks as the width, document 01's refusals, 1, 2 and 11, and 14 before 11
-pub fault-full : (p s : ℕ) (ls : List ℕ) → spaceFault p p s ls ≡ firstOf (widthFault p) (firstOf (sizeFault s) (firstOf (filesFault ls) (packageFault (total ls))))
-fault-full p s ls =
-    let n : ℕ = firstOf (filesFault ls) (packageFault (total ls)) in
-    ap (λ (m : ℕ). firstOf (firstOf m (sizeFault s)) n) (array-same p) ∙ first-assoc (widthFault p) (sizeFault s) n
 
 -- one file: document 01's package
 pub one-file : (p k s l : ℕ) → (stripesOf p k s (l ∷ []) ≡ upBy l (stripeHolds p k s)) × (firstOf (filesFault (l ∷ [])) (packageFault (total (l ∷ []))) ≡ packageFault l)
