@@ -29,6 +29,7 @@ zero-are p f h l =
       word = ap (λ (w : ℕ). bitOr w (2 ^ f)) (sym (word-none p 0)) ∙ set-word (replicate p 0) f (omega (arith, length-replicate {A = ℕ} p 0));
     }
 
+-- the first routes of disk 0: row f has a diagonal
 pub first-are : (p f w : ℕ) → p ≤ 31 → f < p → f ≡ 0 → w ≡ bitOr 0 (2 ^ f) → RoutesAre p (firstRoutes p f) (set (replicate 31 0) f 2) (w)
 unfolding firstRoutes
 first-are p f w h l e q =
@@ -57,6 +58,7 @@ row-are p f j w R h k l q z t =
     let at : getD rs j 0 ≡ 0 = getD-take p R j 0 l ∙ z in
     record { long = length-set R j 1 ∙ k; routes = take-set-lt p R j 1 l ∙ here; word = q ∙ sym (word-same rs j 1 (λ e. omega arith) (λ e. omega arith)) ∙ ap (wordFrom 0) here }
 
+-- a row that takes its row set: it is its own partner, or its partner has a diagonal
 pub self-are : (p f j w : ℕ) (R : List ℕ) → p ≤ 31 → length R ≡ 31 → j < p → w ≡ wordFrom 0 (take p R) → getD R j 0 ≡ 0 → partner p f j ≡ j → RoutesAre p (decided p f j (take p R)) (set R j 1) (w)
 self-are p f j w R h k l q z e = row-are p f j w R h k l q z (or-l (eqb (partner p f j) j) (eqb (getD (take p R) (partner p f j) 0) 2) (eq-eqb (partner p f j) j e))
 
