@@ -14,9 +14,10 @@ use Rattle.laws.specs.Lists.{isIn}
 use Rattle.laws.proofs.Flags.{and-l, and-r, and-i, or-cases, same-flag}
 use Rattle.laws.proofs.OrderLaws.{eq-or-lt}
 use Rattle.laws.proofs.TestLaws.{eqb-sym}
-use Rattle.liberation.specs.Sets.{place, rowAt, diskAt, rowFrom, rowSet, diagonalFrom, ordinary, extraRow, extraDisk, extraOf, hasExtra, diagonalSet, lostIn, survivingIn}
+use Rattle.laws.proofs.Walks.{Walk}
+use Rattle.liberation.specs.Sets.{place, rowAt, diskAt, rowSet, diagonalFrom, ordinary, extraRow, extraDisk, extraOf, hasExtra, diagonalSet, lostIn, survivingIn}
 use Rattle.liberation.specs.Plans.{secondRow, extraRowOn}
-use Rattle.liberation.proofs.SetLaws.{disk-place, row-place, in-diagonal, in-ordinary-data, extra-cases, extra-range}
+use Rattle.liberation.proofs.SetLaws.{disk-place, row-place, in-diagonal, in-ordinary-data, extra-cases, extra-range, row-cells, diagonal-cells}
 use Rattle.liberation.proofs.RouteLaws.{second-row}
 
 -- D z has its extra cell on disk c
@@ -133,44 +134,30 @@ off-rest : (d n c : ℕ) → Off d (suc n) c → Off (suc d) n c
 off-rest d n c o = ⊎-elim (λ l. inl (omega arith)) (λ l. inr (omega arith)) o
 
 -- one cell on each of n disks from d on: none where disk c is not among them, and its row where it is
-row-off : (n p i d c : ℕ) → i < p → Off d n c → lostIn p c (rowFrom n p i d) ≡ []
-unfolding rowFrom
-row-off zero p i d c h o = lost-nil p c
-row-off (suc n) p i d c h o = lost-off p c i d (rowFrom n p i (suc d)) h (off-first d n c o) ∙ row-off n p i (suc d) c h (off-rest d n c o)
+module _ (p : ℕ) (g : ℕ → ℕ) {l : ℕ → ℕ → List ℕ} (w : Walk (λ c. place p (g c) c) l) (rows : (c : ℕ) → g c < p) where
+  walk-off : (n d c : ℕ) → Off d n c → lostIn p c (l n d) ≡ []
+  walk-off zero d c o = ap (lostIn p c) (w .none d) ∙ lost-nil p c
+  walk-off (suc n) d c o = ap (lostIn p c) (w .next n d) ∙ lost-off p c (g d) d (l n (suc d)) (rows d) (off-first d n c o) ∙ walk-off n (suc d) c (off-rest d n c o)
 
-row-from : (n p i d c : ℕ) → i < p → d ≤ c → c < d + n → lostIn p c (rowFrom n p i d) ≡ i ∷ []
-unfolding rowFrom
-row-from zero p i d c h l m = absurd (omega arith)
-row-from (suc n) p i d c h l m = ⊎-elim here (λ g. lost-off p c i d (rowFrom n p i (suc d)) h (λ e. omega arith) ∙ row-from n p i (suc d) c h g (omega arith)) (eq-or-lt d c l)
-  where
-    here : d ≡ c → lostIn p c (place p i d ∷ rowFrom n p i (suc d)) ≡ i ∷ []
-    here e = ap (λ (x : ℕ). lostIn p c (place p i x ∷ rowFrom n p i (suc d))) e ∙ lost-here p c i (rowFrom n p i (suc d)) h ∙ ap (λ (l : List ℕ). i ∷ l) (row-off n p i (suc d) c h (inl (omega arith)))
+  walk-row : (n d c : ℕ) → d ≤ c → c < d + n → lostIn p c (l n d) ≡ g c ∷ []
+  walk-row zero d c a b = absurd (omega arith)
+  walk-row (suc n) d c a b = ap (lostIn p c) (w .next n d) ∙ ⊎-elim here (λ m. lost-off p c (g d) d (l n (suc d)) (rows d) (λ e. omega arith) ∙ walk-row n (suc d) c m (omega arith)) (eq-or-lt d c a)
+    where
+      here : d ≡ c → lostIn p c (place p (g d) d ∷ l n (suc d)) ≡ g c ∷ []
+      here e = ap (λ (x : ℕ). lostIn p c (place p (g x) x ∷ l n (suc d))) e ∙ lost-here p c (g c) (l n (suc d)) (rows c) ∙ ap (λ (xs : List ℕ). g c ∷ xs) (walk-off n (suc d) c (inl (omega arith)))
 
 pub lost-row : (p k i c : ℕ) → i < p → c ≤ k → lostIn p c (rowSet p k i) ≡ i ∷ []
 unfolding rowSet
-lost-row p k i c h l = row-from (suc k) p i 0 c h (omega arith) (omega arith)
+lost-row p k i c h l = walk-row p (λ d. i) (row-cells p i) (λ d. h) (suc k) 0 c (omega arith) (omega arith)
 
 -- R i has no cell on Q
 pub lost-row-Q : (p k i : ℕ) → i < p → lostIn p (suc k) (rowSet p k i) ≡ []
 unfolding rowSet
-lost-row-Q p k i h = row-off (suc k) p i 0 (suc k) h (inr (omega arith))
+lost-row-Q p k i h = walk-off p (λ d. i) (row-cells p i) (λ d. h) (suc k) 0 (suc k) (inr (omega arith))
 
-diagonal-off : (n p z d c : ℕ) → 0 < p → Off d n c → lostIn p c (diagonalFrom n p z d) ≡ []
-unfolding diagonalFrom
-diagonal-off zero p z d c h o = lost-nil p c
-diagonal-off (suc n) p z d c h o = lost-off p c ((z + d) % p) d (diagonalFrom n p z (suc d)) (mod-lt (z + d) h) (off-first d n c o) ∙ diagonal-off n p z (suc d) c h (off-rest d n c o)
-
-diagonal-from : (n p z d c : ℕ) → 0 < p → d ≤ c → c < d + n → lostIn p c (diagonalFrom n p z d) ≡ ((z + c) % p) ∷ []
-unfolding diagonalFrom
-diagonal-from zero p z d c h l m = absurd (omega arith)
-diagonal-from (suc n) p z d c h l m =
-    ⊎-elim here (λ g. lost-off p c ((z + d) % p) d (diagonalFrom n p z (suc d)) (mod-lt (z + d) h) (λ e. omega arith) ∙ diagonal-from n p z (suc d) c h g (omega arith)) (eq-or-lt d c l)
-  where
-    here : d ≡ c → lostIn p c (place p ((z + d) % p) d ∷ diagonalFrom n p z (suc d)) ≡ ((z + c) % p) ∷ []
-    here e =
-        ap (λ (x : ℕ). lostIn p c (place p ((z + x) % p) x ∷ diagonalFrom n p z (suc d))) e
-        ∙ lost-here p c ((z + c) % p) (diagonalFrom n p z (suc d)) (mod-lt (z + c) h)
-        ∙ ap (λ (l : List ℕ). ((z + c) % p) ∷ l) (diagonal-off n p z (suc d) c h (inl (omega arith)))
+-- the rows of D z on data disks
+diagonal-rows : (p z : ℕ) → z < p → (c : ℕ) → (z + c) % p < p
+diagonal-rows p z h c = mod-lt (z + c) (omega arith)
 
 -- the row of the extra cell of D z, where it is on disk c
 abbrev pub extraRows : ℕ → ℕ → ℕ → List ℕ
@@ -191,7 +178,7 @@ pub lost-diagonal : (p k z c : ℕ) → z < p → c < k → lostIn p c (diagonal
 lost-diagonal p k z c h l =
     lost-parts p k z c h
     ∙ ap₂ _++_
-    (ap₂ _++_ (diagonal-from k p z 0 c (omega arith) (omega arith) (omega arith)) (lost-off p c z (suc k) [] h (λ e. omega arith) ∙ lost-nil p c))
+    (ap₂ _++_ (walk-row p (λ d. (z + d) % p) (diagonal-cells p z) (diagonal-rows p z h) k 0 c (omega arith) (omega arith)) (lost-off p c z (suc k) [] h (λ e. omega arith) ∙ lost-nil p c))
     (ap (λ (b : Bool). pick b (extraRow p z ∷ []) []) (extra-there p k z c l))
 
 -- no extra cell is on a parity disk
@@ -207,12 +194,12 @@ pub lost-diagonal-P : (p k z : ℕ) → z < p → lostIn p k (diagonalSet p k z)
 lost-diagonal-P p k z h =
     lost-parts p k z k h
     ∙ ap₂ _++_
-    (ap₂ _++_ (diagonal-off k p z 0 k (omega arith) (inr (omega arith))) (lost-off p k z (suc k) [] h (λ e. omega arith) ∙ lost-nil p k))
+    (ap₂ _++_ (walk-off p (λ d. (z + d) % p) (diagonal-cells p z) (diagonal-rows p z h) k 0 k (inr (omega arith))) (lost-off p k z (suc k) [] h (λ e. omega arith) ∙ lost-nil p k))
     (ap (λ (b : Bool). pick b (extraRow p z ∷ []) []) (extra-parity p k z k (omega arith)))
 
 pub lost-diagonal-Q : (p k z : ℕ) → z < p → lostIn p (suc k) (diagonalSet p k z) ≡ z ∷ []
 lost-diagonal-Q p k z h =
     lost-parts p k z (suc k) h
     ∙ ap₂ _++_
-    (ap₂ _++_ (diagonal-off k p z 0 (suc k) (omega arith) (inr (omega arith))) (lost-here p (suc k) z [] h ∙ ap (λ (l : List ℕ). z ∷ l) (lost-nil p (suc k))))
+    (ap₂ _++_ (walk-off p (λ d. (z + d) % p) (diagonal-cells p z) (diagonal-rows p z h) k 0 (suc k) (inr (omega arith))) (lost-here p (suc k) z [] h ∙ ap (λ (l : List ℕ). z ∷ l) (lost-nil p (suc k))))
     (ap (λ (b : Bool). pick b (extraRow p z ∷ []) []) (extra-parity p k z (suc k) (omega arith)))

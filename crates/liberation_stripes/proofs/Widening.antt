@@ -20,9 +20,10 @@ use Rattle.laws.proofs.ListLaws.{isIn-append, take-replicate}
 use Rattle.laws.proofs.LengthLaws.{drop-replicate}
 use Rattle.laws.proofs.ByteLaws.{bytes-append, bytes-take, bytes-drop}
 use Rattle.laws.proofs.XorLaws.{zero-xorL, zeros-bytes}
+use Rattle.laws.proofs.Walks.{Walk, walk-last}
 use Rattle.liberation.specs.Sets.{place, rowAt, diskAt, rowFrom, rowSet, diagonalFrom, ordinary, extraRow, extraDisk, extraOf, hasExtra, diagonalSet, setOf}
 use Rattle.liberation.specs.Claims.{fullDisk}
-use Rattle.liberation.proofs.SetLaws.{place-of, place-below, set-below}
+use Rattle.liberation.proofs.SetLaws.{place-of, row-cells, diagonal-cells, place-below, set-below}
 use Rattle.liberation.proofs.PlaceLaws.{some-row, disk-below}
 use Rattle.liberation.proofs.PartLaws.{full-data, full-parity}
 use Rattle.liberation_stripes.specs.Stripes.{cellAt, xorOver, isStripe, clean, encoded}
@@ -73,14 +74,6 @@ module _ (s a z : ℕ) (t : List ℕ) (fits : a ≤ length t) where
       ∙ ap (drop (j * s)) (drop-at (replicate z 0) (drop a t) z (length-replicate z 0))
       ∙ drop-drop (j * s) a t
       ∙ ap (λ (n : ℕ). drop n t) q)
-
--- a row set ends with its P cell
-row-last : (n p i c : ℕ) → rowFrom (suc n) p i c ≡ rowFrom n p i c ++ (place p i (c + n) ∷ [])
-unfolding rowFrom
-row-last zero p i c = let e : c ≡ c + 0 = omega arith in ap (λ (d : ℕ). place p i d ∷ []) e
-row-last (suc n) p i c =
-    let e : suc c + n ≡ c + suc n = omega arith in
-    ap (λ (l : List ℕ). place p i c ∷ l) (row-last n p i (suc c) ∙ ap (λ (d : ℕ). rowFrom n p i (suc c) ++ (place p i d ∷ [])) e)
 
 module _ (p k s : ℕ) (t : List ℕ) (most : k ≤ p) (stripe : isStripe p k s t ≡ true) where
   -- the bytes of the data disks present and of the absent ones
@@ -144,7 +137,7 @@ module _ (p k s : ℕ) (t : List ℕ) (most : k ≤ p) (stripe : isStripe p k s 
 
   -- a set with one cell (row c, c) on each data disk c and the cells us beside, in the part-filled array vs
   module _ (kind i : ℕ) (within : i < p) (row : ℕ → ℕ) (below : (c : ℕ) → row c < p)
-      (cells : ℕ → ℕ → List ℕ) (none : (c : ℕ) → cells 0 c ≡ []) (next : (n c : ℕ) → cells (suc n) c ≡ place p (row c) c ∷ cells n (suc c))
+      (cells : ℕ → ℕ → List ℕ) (w : Walk (λ c. place p (row c) c) cells)
       (us vs : List ℕ) (in-full : setOf p p kind i ≡ cells p 0 ++ us) (in-part : setOf p k kind i ≡ cells k 0 ++ vs) (rest : xorOver s full us ≡ xorOver s part vs) where
     us-long : Long s full us
     us-long x h =
@@ -154,34 +147,34 @@ module _ (p k s : ℕ) (t : List ℕ) (most : k ≤ p) (stripe : isStripe p k s 
     -- absent disks add zeros
     absent-out : (n c : ℕ) → k ≤ c → c + n ≤ p → xorOver s full (cells n c ++ us) ≡ xorOver s full us
     unfolding xorOver
-    absent-out zero c l m = ap (λ (xs : List ℕ). xorOver s full (xs ++ us)) (none c)
+    absent-out zero c l m = ap (λ (xs : List ℕ). xorOver s full (xs ++ us)) (w .none c)
     absent-out (suc n) c l m =
-        ap (λ (xs : List ℕ). xorOver s full (xs ++ us)) (next n c)
+        ap (λ (xs : List ℕ). xorOver s full (xs ++ us)) (w .next n c)
         ∙ ap₂ xorL (widened-absent (row c) c (below c) l (omega arith)) (absent-out n (suc c) (omega arith) (omega arith))
         ∙ zero-xorL s (xorOver s full us) (over-long s full us us-long) (over-bytes s full us)
 
     -- disks from c on: n present, j in the full array
     present-kept : (n j c : ℕ) → c + n ≡ k → c + j ≡ p → xorOver s full (cells j c ++ us) ≡ xorOver s part (cells n c ++ vs)
     unfolding xorOver
-    present-kept zero j c e q = absent-out j c (omega arith) (omega arith) ∙ rest ∙ sym (ap (λ (xs : List ℕ). xorOver s part (xs ++ vs)) (none c))
+    present-kept zero j c e q = absent-out j c (omega arith) (omega arith) ∙ rest ∙ sym (ap (λ (xs : List ℕ). xorOver s part (xs ++ vs)) (w .none c))
     present-kept (suc n) zero c e q = absurd (omega arith)
     present-kept (suc n) (suc j) c e q =
-        ap (λ (xs : List ℕ). xorOver s full (xs ++ us)) (next j c)
+        ap (λ (xs : List ℕ). xorOver s full (xs ++ us)) (w .next j c)
         ∙ ap₂ xorL (data-cell (row c) c (below c) (omega arith)) (present-kept n j (suc c) (omega arith) (omega arith))
-        ∙ sym (ap (λ (xs : List ℕ). xorOver s part (xs ++ vs)) (next n c))
+        ∙ sym (ap (λ (xs : List ℕ). xorOver s part (xs ++ vs)) (w .next n c))
 
     set-kept : xorOver s full (setOf p p kind i) ≡ xorOver s part (setOf p k kind i)
     set-kept = ap (xorOver s full) in-full ∙ present-kept k p 0 (omega arith) (omega arith) ∙ sym (ap (xorOver s part) in-part)
 
   -- row sets end with their P cell, diagonal sets with their Q cell and the extra cell, if its disk is there
   row-kept : (i : ℕ) → i < p → xorOver s full (setOf p p 0 i) ≡ xorOver s part (setOf p k 0 i)
-  unfolding xorOver rowSet rowFrom
+  unfolding xorOver rowSet
   row-kept i l =
-      set-kept 0 i l (λ c. i) (λ c. l) (λ n c. rowFrom n p i c) (λ c. refl) (λ n c. refl) (place p i p ∷ []) (place p i k ∷ []) (ends p) (ends k)
+      set-kept 0 i l (λ c. i) (λ c. l) (λ n c. rowFrom n p i c) (row-cells p i) (place p i p ∷ []) (place p i k ∷ []) (ends p) (ends k)
       (ap (λ (x : List ℕ). xorL x (replicate s 0)) (parity-cell i k p l (omega arith) (omega arith) (omega arith)))
     where
       ends : (n : ℕ) → rowFrom (suc n) p i 0 ≡ rowFrom n p i 0 ++ (place p i n ∷ [])
-      ends n = let e : 0 + n ≡ n = omega arith in row-last n p i 0 ∙ ap (λ (d : ℕ). rowFrom n p i 0 ++ (place p i d ∷ [])) e
+      ends n = let e : 0 + n ≡ n = omega arith in walk-last (row-cells p i) n 0 ∙ ap (λ (d : ℕ). rowFrom n p i 0 ++ (place p i d ∷ [])) e
 
   -- an extra cell on an absent disk is zero
   extra-kept : (i : ℕ) → i < p → xorOver s full (pick (hasExtra p p i) (extraOf p i ∷ []) []) ≡ xorOver s part (pick (hasExtra p k i) (extraOf p i ∷ []) [])
@@ -198,9 +191,9 @@ module _ (p k s : ℕ) (t : List ℕ) (most : k ≤ p) (stripe : isStripe p k s 
       go true false false e q = refl
 
   diagonal-kept : (i : ℕ) → i < p → xorOver s full (setOf p p 1 i) ≡ xorOver s part (setOf p k 1 i)
-  unfolding xorOver diagonalSet ordinary diagonalFrom
+  unfolding xorOver diagonalSet ordinary
   diagonal-kept i l =
-      set-kept 1 i l (λ c. (i + c) % p) (λ c. mod-lt (i + c) (omega arith)) (λ n c. diagonalFrom n p i c) (λ c. refl) (λ n c. refl)
+      set-kept 1 i l (λ c. (i + c) % p) (λ c. mod-lt (i + c) (omega arith)) (λ n c. diagonalFrom n p i c) (diagonal-cells p i)
       (place p i (suc p) ∷ pick (hasExtra p p i) (extraOf p i ∷ []) []) (place p i (suc k) ∷ pick (hasExtra p k i) (extraOf p i ∷ []) []) (ends p) (ends k)
       (ap₂ xorL (parity-cell i (suc k) (suc p) l (omega arith) (omega arith) (omega arith)) (extra-kept i l))
     where

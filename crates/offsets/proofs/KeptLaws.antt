@@ -13,10 +13,10 @@ use Rattle.laws.specs.Lists.{isIn}
 use Rattle.laws.proofs.Flags.{and-l}
 use Rattle.laws.proofs.KeptLaws.{Keeps, kept-append, kept-all}
 use Rattle.laws.proofs.OrderLaws.{lt-or-le}
+use Rattle.laws.proofs.Walks.{Walk}
 use Rattle.liberation.specs.Sets.{place, diskAt, rowFrom, diagonalFrom, survivingIn}
 use Rattle.liberation.proofs.SetLaws.{disk-place, in-surviving}
 use Rattle.offsets.specs.Offsets.{cellsFrom}
-use Rattle.offsets.proofs.PushLaws.{Walk}
 
 pub surviving-keeps : (p f : ℕ) → Keeps (λ x. eqb (diskAt p x) f) (survivingIn p f)
 unfolding survivingIn

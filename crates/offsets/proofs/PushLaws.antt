@@ -1,8 +1,8 @@
 -- Loops that push a number for each disk: what the list holds, with the numbers still to come, is what it holds in the end.
-use mathlib.Core.Path.{_≡_, refl, sym, subst, ap, ap₂, _∙_}
+use mathlib.Core.Path.{_≡_, refl, sym, subst, ap, _∙_}
 use mathlib.Core.Bool.{Bool}
 use mathlib.Core.List.{List, [], _∷_, _++_, append-assoc, append-nil}
-use Prim.Native.Nat.{ℕ, zero, suc, _+_, _-_, _*_, _%_, _≤_, _<_}
+use Prim.Native.Nat.{ℕ, suc, _+_, _-_, _*_, _%_, _≤_, _<_}
 use native.Mathlib.Nat.{mul-le-mul}
 use native.Mathlib.Numerals.{add-one}
 use native.Mathlib.Omega.{arith}
@@ -10,13 +10,9 @@ use lib.Dec.{eqb}
 use lib.ListN.{length, set, take, length-set, length-append}
 use lib.Seq.{take-suc-set}
 use Rattle.laws.specs.Choice.{pick}
+use Rattle.laws.proofs.Walks.{Walk, walk-long}
 use Rattle.liberation.specs.Sets.{place, rowFrom, diagonalFrom}
 use Rattle.offsets.specs.Offsets.{scaled, cellsFrom, Room, Pushed}
-
--- l n c are the numbers f c to f (c + n - 1)
-pub record Walk (f : ℕ → ℕ) (l : ℕ → ℕ → List ℕ) : Type 0 where
-  pub none : (c : ℕ) → l 0 c ≡ []
-  pub next : (n c : ℕ) → l (suc n) c ≡ f c ∷ l n (suc c)
 
 pub row-walk : (p s i : ℕ) → Walk (λ c. place p i c * s) (λ n c. scaled s (rowFrom n p i c))
 unfolding scaled rowFrom
@@ -33,19 +29,6 @@ pub record Pushing (l : ℕ → ℕ → List ℕ) (lo hi count : ℕ) (old at : 
   pub list : take n at ++ l (hi - c) c ≡ take count old ++ l (hi - lo) lo
 
 module _ {f : ℕ → ℕ} {l : ℕ → ℕ → List ℕ} (w : Walk f l) where
-  pub walk-long : (n c : ℕ) → length (l n c) ≡ n
-  walk-long zero c = ap length (w .none c)
-  walk-long (suc n) c = ap length (w .next n c) ∙ ap suc (walk-long n (suc c))
-
-  -- the last one apart
-  pub walk-last : (n c : ℕ) → l (suc n) c ≡ l n c ++ (f (c + n) ∷ [])
-  walk-last zero c = let e : c ≡ c + 0 = omega arith in w .next 0 c ∙ ap₂ (λ (y : ℕ) (ys : List ℕ). f y ∷ ys) e (w .none (suc c)) ∙ ap (λ (ys : List ℕ). ys ++ (f (c + 0) ∷ [])) (sym (w .none c))
-  walk-last (suc n) c =
-      let e : suc c + n ≡ c + suc n = omega arith in
-      w .next (suc n) c
-      ∙ ap (λ (ys : List ℕ). f c ∷ ys) (walk-last n (suc c) ∙ ap (λ (y : ℕ). l n (suc c) ++ (f y ∷ [])) e)
-      ∙ ap (λ (ys : List ℕ). ys ++ (f (c + suc n) ∷ [])) (sym (w .next n c))
-
   pub pushing-none : (lo hi count : ℕ) (old : List ℕ) → Pushing l lo hi count old old count lo
   pushing-none lo hi count old = record { some = refl; long = refl; list = refl }
 
@@ -71,7 +54,7 @@ module _ {f : ℕ → ℕ} {l : ℕ → ℕ → List ℕ} (w : Walk f l) where
   pushing-all {lo} {hi} {count} {n} {c} {old} {at} h room p =
       let q : hi - c ≡ 0 = omega arith in
       record {
-        count = omega (arith, p .some, walk-long (hi - lo) lo);
+        count = omega (arith, p .some, walk-long w (hi - lo) lo);
         list = sym (append-nil (take n at)) ∙ ap (λ (y : List ℕ). take n at ++ y) (sym (w .none c) ∙ ap (λ (j : ℕ). l j c) (sym q)) ∙ p .list;
         fits = omega (arith, p .some, p .long);
       }
