@@ -63,7 +63,7 @@ module _ (p c : ℕ) (odd : p % 2 ≡ 1) (low : 1 ≤ c) (high : c < p) where
       same e = let r = second-range in ⊎-elim (λ w. ⊎-elim (λ v. omega arith) (λ v. omega arith) (extra-cases p z l)) (λ w. ⊎-elim (λ v. omega arith) (λ v. omega arith) (extra-cases p z l)) (second-row p c odd high)
 
       back : z ≡ p - secondRow p c → extraOn p z c ≡ true
-      back e = let r = second-range in and-i (leb 1 z) (eqb (extraDisk p z) c) (le-leb 1 z (omega arith)) (eq-eqb (extraDisk p z) c (same e))
+      back e = let r = second-range in and-i _ _ (le-leb 1 z (omega arith)) (eq-eqb (extraDisk p z) c (same e))
 
   pub extra-row : (z : ℕ) → z < p → extraOn p z c ≡ true → extraRow p z ≡ extraRowOn p c
   extra-row z l t = let e : z ≡ p - secondRow p c = eqb-true z (p - secondRow p c) (sym (extra-on z l) ∙ t) in let r = second-range in omega arith
@@ -80,7 +80,7 @@ extra-none p z odd l = go (leb 1 z) refl
 pub on-cases : (p k z r c : ℕ) → p % 2 ≡ 1 → k ≤ p → r < p → z < p → c < k → isIn (place p r c) (diagonalSet p k z) ≡ true → (r ≡ (z + c) % p) ⊎ ((1 ≤ c) × (z ≡ p - secondRow p c) × (r ≡ extraRowOn p c))
 on-cases p k z r c odd most h l m t =
     ⊎-elim (λ e. inl (eqb-true r ((z + c) % p) e)) (λ e. inr (extra c m (and-l (extraOn p z c) (eqb r (extraRow p z)) e) (eqb-true r (extraRow p z) (and-r (extraOn p z c) (eqb r (extraRow p z)) e))))
-    (or-cases (eqb r ((z + c) % p)) (extraOn p z c && eqb r (extraRow p z)) (sym (on-data p k z r c h l m) ∙ t))
+    (or-cases _ _ (sym (on-data p k z r c h l m) ∙ t))
   where
     extra : (d : ℕ) → d < k → extraOn p z d ≡ true → r ≡ extraRow p z → (1 ≤ d) × (z ≡ p - secondRow p d) × (r ≡ extraRowOn p d)
     extra zero n e q = absurd (false≢true (sym (extra-none p z odd l) ∙ e))

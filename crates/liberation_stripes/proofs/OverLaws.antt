@@ -79,7 +79,7 @@ over-without s g x [] d h = absurd (false≢true h)
 over-without s g x (y ∷ ys) d h = go (eqb x y) refl h (λ t. over-without s g x ys (and-r (not (isIn y ys)) (distinct ys) d) t)
   where
     out : isIn y ys ≡ false
-    out = not-true (isIn y ys) (and-l (not (isIn y ys)) (distinct ys) d)
+    out = not-true (isIn y ys) (and-l _ _ d)
 
     go : (b : Bool) → eqb x y ≡ b → (b || isIn x ys) ≡ true → (isIn x ys ≡ true → xorOver s g ys ≡ xorL (g x) (xorOver s g (without x ys))) → xorL (g y) (xorOver s g ys) ≡ xorL (g x) (xorOver s g (pick b (without x ys) (y ∷ without x ys)))
     go true e t rest =

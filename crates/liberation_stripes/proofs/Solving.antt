@@ -45,7 +45,7 @@ module _ (n s x : ℕ) (xs t : List ℕ) (long : length t ≡ n * s) (within : a
   others = xorOver s (cellAt s t) (without x xs)
 
   kept : (y : ℕ) → isIn y (without x xs) ≡ true → isIn y xs ≡ true
-  kept y h = and-l (isIn y xs) (not (eqb y x)) (sym (in-without x y xs) ∙ h)
+  kept y h = and-l _ _ (sym (in-without x y xs) ∙ h)
 
   others-long : length others ≡ s
   unfolding others
@@ -93,13 +93,13 @@ module _ (n s x : ℕ) (xs t : List ℕ) (long : length t ≡ n * s) (within : a
 
 -- a stripe is p (k + 2) cells of s bytes
 pub stripe-long : (p k s : ℕ) (t : List ℕ) → isStripe p k s t ≡ true → length t ≡ p * (k + 2) * s
-stripe-long p k s t h = eqb-true (length t) (stripeLong p k s) (and-l (eqb (length t) (stripeLong p k s)) (allBytes t) h) ∙ omega arith
+stripe-long p k s t h = eqb-true (length t) (stripeLong p k s) (and-l _ _ h) ∙ omega arith
 
 pub stripe-bytes : (p k s : ℕ) (t : List ℕ) → isStripe p k s t ≡ true → allBytes t ≡ true
 stripe-bytes p k s t h = and-r (eqb (length t) (stripeLong p k s)) (allBytes t) h
 
 pub stripe-of : (p k s : ℕ) (t : List ℕ) → length t ≡ p * (k + 2) * s → allBytes t ≡ true → isStripe p k s t ≡ true
-stripe-of p k s t e h = and-i (eqb (length t) (stripeLong p k s)) (allBytes t) (eq-eqb (length t) (stripeLong p k s) (e ∙ omega arith)) h
+stripe-of p k s t e h = and-i _ _ (eq-eqb (length t) (stripeLong p k s) (e ∙ omega arith)) h
 
 -- stripes with equal cells are equal
 pub stripes-equal : (p k s : ℕ) (t u : List ℕ) → isStripe p k s t ≡ true → isStripe p k s u ≡ true → ((x : ℕ) → x < p * (k + 2) → cellAt s t x ≡ cellAt s u x) → t ≡ u
@@ -141,13 +141,13 @@ clean-at p k s t h kind i l = go (eqb kind 0)
     diagonals = allTo p (λ j. setClean p k s t 1 j)
 
     go : (b : Bool) → xorOver s (cellAt s t) (pick b (rowSet p k i) (diagonalSet p k i)) ≡ replicate s 0
-    go true = same-true (xorOver s (cellAt s t) (rowSet p k i)) (replicate s 0) (all-at p (λ j. setClean p k s t 0 j) (and-l rows diagonals h) i l)
+    go true = same-true (xorOver s (cellAt s t) (rowSet p k i)) (replicate s 0) (all-at p (λ j. setClean p k s t 0 j) (and-l _ _ h) i l)
     go false = same-true (xorOver s (cellAt s t) (diagonalSet p k i)) (replicate s 0) (all-at p (λ j. setClean p k s t 1 j) (and-r rows diagonals h) i l)
 
 pub clean-of : (p k s : ℕ) (t : List ℕ) → ((i : ℕ) → i < p → SetZero p k s t 0 i) → ((i : ℕ) → i < p → SetZero p k s t 1 i) → clean p k s t ≡ true
 unfolding clean
 clean-of p k s t rows diagonals =
-    and-i (allTo p (λ j. setClean p k s t 0 j)) (allTo p (λ j. setClean p k s t 1 j))
+    and-i _ _
     (all-of p (λ j. setClean p k s t 0 j) (λ i l. zero-clean 0 i (rows i l)))
     (all-of p (λ j. setClean p k s t 1 j) (λ i l. zero-clean 1 i (diagonals i l)))
   where

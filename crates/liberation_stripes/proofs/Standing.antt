@@ -71,7 +71,7 @@ pub known-cases : (lost : ℕ → Bool) (x y : ℕ) (done : List ℕ) → known 
 known-cases lost x y done h = go (lost y) h
   where
     go : (t : Bool) → (not t || (eqb y x || isIn y done)) ≡ true → (y ≡ x) ⊎ ((not t || isIn y done) ≡ true)
-    go true e = ⊎-elim (λ q. inl (eqb-true y x q)) (λ q. inr q) (or-cases (eqb y x) (isIn y done) e)
+    go true e = ⊎-elim (λ q. inl (eqb-true y x q)) (λ q. inr q) (or-cases _ _ e)
     go false e = inr refl
 
 known-more : (lost : ℕ → Bool) (x y : ℕ) (done : List ℕ) → known lost done y ≡ true → known lost (x ∷ done) y ≡ true
@@ -141,7 +141,7 @@ module _ (p k s : ℕ) (lost : ℕ → Bool) (done : List ℕ) (c : CellStep) (g
       other : (z : ℕ) → isIn z (without (c .cell) (setBy p k c)) ≡ true → cellAt s t z ≡ cellAt s u z
       other z e =
           let both : (isIn z (setBy p k c) && not (eqb z (c .cell))) ≡ true = sym (in-without (c .cell) z (setBy p k c)) ∙ e in
-          let here : isIn z (setBy p k c) ≡ true = and-l (isIn z (setBy p k c)) (not (eqb z (c .cell))) both in
+          let here : isIn z (setBy p k c) ≡ true = and-l _ _ both in
           ⊎-elim
           (λ q. absurd (eqb-false z (c .cell) (not-true (eqb z (c .cell)) (and-r (isIn z (setBy p k c)) (not (eqb z (c .cell))) both)) q))
           (λ q. read z (in-below (p * (k + 2)) z (setBy p k c) within here) q here)
@@ -173,7 +173,7 @@ pub steps-zero : (p k s : ℕ) (lost : ℕ → Bool) {done : List ℕ} {cs : Lis
 unfolding stepsDone names
 steps-zero p k s lost none t h kind i e = absurd (false≢true e)
 steps-zero p k s lost (next {done} {c} {cs} g ok) t h kind i e =
-    ⊎-elim own (λ q. steps-zero p k s lost ok (stepped p k s c t) stripe kind i q) (or-cases (eqb (c .kind) kind && eqb (c .number) i) (names kind i cs) e)
+    ⊎-elim own (λ q. steps-zero p k s lost ok (stepped p k s c t) stripe kind i q) (or-cases _ _ e)
   where
     stripe : isStripe p k s (stepped p k s c t) ≡ true
     stripe = step-stripe p k s lost done c g t h
@@ -181,7 +181,7 @@ steps-zero p k s lost (next {done} {c} {cs} g ok) t h kind i e =
     own : (eqb (c .kind) kind && eqb (c .number) i) ≡ true → SetZero p k s (stepsDone p k s cs (stepped p k s c t)) kind i
     own q =
         ap₂ (λ (m n : ℕ). xorOver s (cellAt s (stepsDone p k s cs (stepped p k s c t))) (setOf p k m n))
-        (sym (eqb-true (c .kind) kind (and-l (eqb (c .kind) kind) (eqb (c .number) i) q)))
+        (sym (eqb-true (c .kind) kind (and-l _ _ q)))
         (sym (eqb-true (c .number) i (and-r (eqb (c .kind) kind) (eqb (c .number) i) q)))
         ∙ over-ext s (cellAt s (stepsDone p k s cs (stepped p k s c t))) (cellAt s (stepped p k s c t)) (setBy p k c) (λ y m. steps-kept p k s lost ok (stepped p k s c t) stripe y (g .others y m))
         ∙ step-zero p k s lost done c g t h
@@ -191,8 +191,8 @@ pub steps-same : (p k s : ℕ) (lost : ℕ → Bool) {done : List ℕ} {cs : Lis
 unfolding stepsDone names
 steps-same p k s lost none t h zeros = refl
 steps-same p k s lost (next {done} {c} {cs} g ok) t h zeros =
-    let own : (eqb (c .kind) (c .kind) && eqb (c .number) (c .number)) ≡ true = and-i (eqb (c .kind) (c .kind)) (eqb (c .number) (c .number)) (eq-eqb (c .kind) (c .kind) refl) (eq-eqb (c .number) (c .number) refl) in
-    ap (stepsDone p k s cs) (step-same p k s lost done c g t h (zeros (c .kind) (c .number) (g .number-below) (or-l (eqb (c .kind) (c .kind) && eqb (c .number) (c .number)) (names (c .kind) (c .number) cs) own)))
+    let own : (eqb (c .kind) (c .kind) && eqb (c .number) (c .number)) ≡ true = and-i _ _ (eq-eqb (c .kind) (c .kind) refl) (eq-eqb (c .number) (c .number) refl) in
+    ap (stepsDone p k s cs) (step-same p k s lost done c g t h (zeros (c .kind) (c .number) (g .number-below) (or-l _ _ own)))
     ∙ steps-same p k s lost ok t h (λ kind i l e. zeros kind i l (or-r (eqb (c .kind) kind && eqb (c .number) i) (names kind i cs) e))
 
 -- so a clean one is
@@ -214,7 +214,7 @@ steps-agree p k s lost (next {done} {c} {cs} g ok) t u ht hu read y old h =
     y (after y old) h
   where
     after : (z : ℕ) → (known lost done z ≡ true → cellAt s t z ≡ cellAt s u z) → known lost (c .cell ∷ done) z ≡ true → cellAt s (stepped p k s c t) z ≡ cellAt s (stepped p k s c u) z
-    after = step-agree p k s lost done c g t u ht hu (λ z l a e. read z l a (or-l (isIn z (setBy p k c)) (inSets p k z cs) e))
+    after = step-agree p k s lost done c g t u ht hu (λ z l a e. read z l a (or-l _ _ e))
 
 -- steps after which every cell is known: a stripe that agrees with a clean one in the cells known before becomes that one
 pub steps-back :

@@ -43,13 +43,13 @@ end-form t h = go (eqb (byteAt t 0) 10) refl h
 
 -- what is taken for a letter is one
 pub letter-form : (b : ℕ) → isLetter b ≡ true → LetterText b (kindOf b)
-letter-form b h = ⊎-elim (λ e. put 68 e capital-d) (λ i. ⊎-elim (λ e. put 82 e capital-r) (λ j. ⊎-elim (λ e. put 100 e small-d) last (or-cases (eqb b 100) _ j)) (or-cases (eqb b 82) _ i)) (or-cases (eqb b 68) _ h)
+letter-form b h = ⊎-elim (λ e. put 68 e capital-d) (λ i. ⊎-elim (λ e. put 82 e capital-r) (λ j. ⊎-elim (λ e. put 100 e small-d) last (or-cases _ _ j)) (or-cases _ _ i)) (or-cases _ _ h)
   where
     put : (c : ℕ) → eqb b c ≡ true → LetterText c (kindOf c) → LetterText b (kindOf b)
     put c e k = subst (λ (x : ℕ). LetterText x (kindOf x)) (sym (eqb-true b c e)) k
 
     last : isIn b (114 ∷ []) ≡ true → LetterText b (kindOf b)
-    last j = ⊎-elim (λ e. put 114 e small-r) (λ n. absurd (false≢true n)) (or-cases (eqb b 114) false j)
+    last j = ⊎-elim (λ e. put 114 e small-r) (λ n. absurd (false≢true n)) (or-cases _ _ j)
 
 -- commas around a letter
 pub set-form : (t : List ℕ) → isSet t ≡ true → t ≡ 44 ∷ (byteAt t 1 ∷ (44 ∷ drop 3 t))
@@ -69,7 +69,7 @@ line-form t h =
     let is : isSet u ≡ true = and-l (isSet u) _ h₁ in
     subst (λ (x : List ℕ). LineText x (lineIn t .read)) (sym (bytes (set-form u is)))
     (line
-    (number-form t (and-l (isNumber t) _ h))
+    (number-form t (and-l _ _ h))
     (letter is)
     (number-form v (and-l (isNumber v) _ h₂))
     (end-form w (and-r (isNumber v) _ h₂)))
@@ -108,8 +108,8 @@ readable-form p t h =
     let h₁ = and-r (isNames t) _ h in
     let ok : linesIn p u .ok ≡ true = and-l (linesIn p u .ok) _ h₁ in
     let long : namesSize t + linesIn p u .size ≡ length t = eqb-true (namesSize t + linesIn p u .size) (length t) (and-r (linesIn p u .ok) _ h₁) in
-    let nm = and-l (isNames t) _ h in
-    let head : take 14 t ≡ names = same-true (take 14 t) names (and-l (same (take 14 t) names) _ nm) in
+    let nm = and-l _ _ h in
+    let head : take 14 t ≡ names = same-true (take 14 t) names (and-l _ _ nm) in
     let end : EndText (take (endIn v) v) = end-form v (and-r (same (take 14 t) names) _ nm) in
     subst (λ (x : List ℕ). PlanText x (linesIn p u .steps)) (sym (bytes head long)) (text end (lines-form p u ok))
   where

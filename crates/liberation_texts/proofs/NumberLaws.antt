@@ -33,7 +33,7 @@ module _ {ds : List ℕ} {n : ℕ} (t : List ℕ) (k : NumberText ds n) (e : isD
   pub number-is : isNumber (ds ++ t) ≡ true
   unfolding isNumber
   number-is =
-      and-i (leb 1 (digitsIn (ds ++ t))) (leb (numberIn (ds ++ t)) 255)
+      and-i _ _
       (ap (leb 1) number-size ∙ le-leb 1 (length ds) (k .some))
       (ap (λ (m : ℕ). leb m 255) number-value ∙ le-leb n 255 (k .small))
 
@@ -57,7 +57,7 @@ digits-all (suc n) [] = refl
 digits-all (suc n) (b ∷ t) = go (isDigit b) refl (digits-all n t)
   where
     go : (x : Bool) → isDigit b ≡ x → allDigits (take (digitsUpTo n t) t) ≡ true → allDigits (take (pick x (suc (digitsUpTo n t)) 0) (b ∷ t)) ≡ true
-    go true e h = and-i (isDigit b) (allDigits (take (digitsUpTo n t) t)) e h
+    go true e h = and-i _ _ e h
     go false e h = refl
 
 pub digits-length : (n : ℕ) (t : List ℕ) → length (take (digitsUpTo n t) t) ≡ digitsUpTo n t
@@ -75,7 +75,7 @@ pub number-form : (t : List ℕ) → isNumber t ≡ true → NumberText (take (d
 unfolding isNumber
 number-form t h =
     let l : length (take (digitsIn t) t) ≡ digitsIn t = digits-length 3 t in
-    let s : 1 ≤ digitsIn t = leb-true 1 (digitsIn t) (and-l (leb 1 (digitsIn t)) (leb (numberIn t) 255) h) in
+    let s : 1 ≤ digitsIn t = leb-true 1 (digitsIn t) (and-l _ _ h) in
     record {
       digits = digits-all 3 t;
       some = omega arith;

@@ -18,7 +18,7 @@ use Rattle.liberation_texts.specs.Plain.{plainLine, plainLines, plain, w
 use Rattle.liberation_texts.specs.Form.{NumberText, LetterText, capital-r, capital-d, lf, LineText, line, LinesText, none, next, PlanText, text}
 
 digit-is : (d : ℕ) → d < 10 → isDigit (48 + d) ≡ true
-digit-is d h = and-i (leb 48 (48 + d)) (leb (48 + d) 57) (le-leb 48 (48 + d) (omega arith)) (le-leb (48 + d) 57 (omega arith))
+digit-is d h = and-i _ _ (le-leb 48 (48 + d) (omega arith)) (le-leb (48 + d) 57 (omega arith))
 
 -- a number below 100, written without leading zeros
 pub plain-number : (n : ℕ) → n < 100 → NumberText (digitsOf n) n
@@ -28,13 +28,13 @@ plain-number n h = ⊎-elim one two (lt-or-le n 10)
     one : n < 10 → NumberText (digitsOf n) n
     one l =
         subst (λ (t : List ℕ). NumberText t n) (one-digit n l)
-        (record { digits = and-i (isDigit (48 + n)) true (digit-is n l) refl; some = omega arith; few = omega arith; value = omega arith; small = omega arith })
+        (record { digits = and-i _ _ (digit-is n l) refl; some = omega arith; few = omega arith; value = omega arith; small = omega arith })
 
     two : 10 ≤ n → NumberText (digitsOf n) n
     two l =
         subst (λ (t : List ℕ). NumberText t n) (two-digits n l)
         (record {
-          digits = and-i (isDigit (48 + n / 10)) (isDigit (48 + n % 10) && true) (digit-is (n / 10) (omega arith)) (and-i (isDigit (48 + n % 10)) true (digit-is (n % 10) (omega arith)) refl);
+          digits = and-i _ _ (digit-is (n / 10) (omega arith)) (and-i _ _ (digit-is (n % 10) (omega arith)) refl);
           some = omega arith;
           few = omega arith;
           value = omega arith;

@@ -59,7 +59,7 @@ module _ (n s : ℕ) (d : List ℕ) (dl : length d ≡ s) where
       go : (b : Bool) → eqb x y ≡ b → pick (isIn x ys) (xorL (cellAt s u x) d) (cellAt s u x) ≡ pick (b || isIn x ys) (xorL (cellAt s t x) d) (cellAt s t x)
       go true e =
           let q : x ≡ y = eqb-true x y e in
-          ap (λ (b : Bool). pick b (xorL (cellAt s u x) d) (cellAt s u x)) (ap (λ (z : ℕ). isIn z ys) q ∙ not-true (isIn y ys) (and-l (not (isIn y ys)) (distinct ys) once))
+          ap (λ (b : Bool). pick b (xorL (cellAt s u x) d) (cellAt s u x)) (ap (λ (z : ℕ). isIn z ys) q ∙ not-true (isIn y ys) (and-l _ _ once))
           ∙ ap (cellAt s u) q
           ∙ cell-with s y new t (one-long y t long yl) (one-fits y t long yl)
           ∙ ap (λ (z : ℕ). xorL (cellAt s t z) d) (sym q)
@@ -69,7 +69,7 @@ module _ (n s : ℕ) (d : List ℕ) (dl : length d ≡ s) where
 pub over-one : (s : ℕ) (g h : ℕ → List ℕ) (d : List ℕ) (a : ℕ) (xs : List ℕ) → distinct xs ≡ true → isIn a xs ≡ true → h a ≡ xorL (g a) d → ((y : ℕ) → isIn y xs ≡ true → (y ≡ a → ⊥) → h y ≡ g y) → xorOver s h xs ≡ xorL d (xorOver s g xs)
 over-one s g h d a xs once held here rest =
     over-without s h a xs once held
-    ∙ ap₂ xorL (here ∙ xorL-comm (g a) d) (over-ext s h g (without a xs) (λ y m. rest y (and-l (isIn y xs) (not (eqb y a)) (sym (in-without a y xs) ∙ m)) (apart y m)))
+    ∙ ap₂ xorL (here ∙ xorL-comm (g a) d) (over-ext s h g (without a xs) (λ y m. rest y (and-l _ _ (sym (in-without a y xs) ∙ m)) (apart y m)))
     ∙ xorL-assoc d (g a) (xorOver s g (without a xs))
     ∙ ap (xorL d) (sym (over-without s g a xs once held))
   where

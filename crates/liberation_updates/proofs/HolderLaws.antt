@@ -33,7 +33,7 @@ row-of-extra p r h = omega arith
 pub extra-some : (p r c : ℕ) → r < p → isExtra p r c ≡ true → (i : ℕ) × (1 ≤ i) × (i < p) × (extraOf p i ≡ place p r c)
 extra-some p r c h t =
     let z = extraRow p r in
-    let low : 1 ≤ z = leb-true 1 z (and-l (leb 1 z) (eqb (extraDisk p z) c) t) in
+    let low : 1 ≤ z = leb-true 1 z (and-l _ _ t) in
     (z, low, omega arith, ap₂ (place p) (row-of-extra p r h) (eqb-true (extraDisk p z) c (and-r (leb 1 z) (eqb (extraDisk p z) c) t)))
 
 pub extra-any : (p r c i : ℕ) → r < p → 1 ≤ i → i < p → extraOf p i ≡ place p r c → isExtra p r c ≡ true
@@ -41,7 +41,7 @@ extra-any p r c i h low high e =
     let row : extraRow p i ≡ r = sym (row-place p (extraRow p i) (extraDisk p i) (omega arith)) ∙ ap (rowAt p) e ∙ row-place p r c h in
     let disk : extraDisk p i ≡ c = sym (disk-place p (extraRow p i) (extraDisk p i) (omega arith)) ∙ ap (diskAt p) e ∙ disk-place p r c h in
     let z : i ≡ extraRow p r = omega arith in
-    ap (λ (n : ℕ). extraOn p n c) (sym z) ∙ and-i (leb 1 i) (eqb (extraDisk p i) c) (le-leb 1 i low) (eq-eqb (extraDisk p i) c disk)
+    ap (λ (n : ℕ). extraOn p n c) (sym z) ∙ and-i _ _ (le-leb 1 i low) (eq-eqb (extraDisk p i) c disk)
 
 -- D i holds (r, c) as its extra cell exactly if i = p - 1 - r and (r, c) is an extra cell
 extra-held : (p r c i : ℕ) → r < p → i < p → (isExtra p r c && eqb i (extraRow p r)) ≡ (extraOn p i c && eqb r (extraRow p i))
@@ -59,16 +59,16 @@ in-holders p k r c i most h l m =
 
 pub holders-below : (p r c : ℕ) → r < p → allBelow p (holders p r c) ≡ true
 unfolding holders
-holders-below p r c h = and-i (ltb (diagonalOf p c r) p) (allBelow p (pick (isExtra p r c) (extraRow p r ∷ []) [])) (lt-ltb (diagonalOf p c r) p (mod-lt (r + p - c) (omega arith))) (go (isExtra p r c))
+holders-below p r c h = and-i _ _ (lt-ltb (diagonalOf p c r) p (mod-lt (r + p - c) (omega arith))) (go (isExtra p r c))
   where
     go : (b : Bool) → allBelow p (pick b (extraRow p r ∷ []) []) ≡ true
-    go true = and-i (ltb (extraRow p r) p) true (lt-ltb (extraRow p r) p (omega arith)) refl
+    go true = and-i _ _ (lt-ltb (extraRow p r) p (omega arith)) refl
     go false = refl
 
 -- an extra cell is ordinary on the diagonal before
 pub extra-before : (p r c : ℕ) → p % 2 ≡ 1 → r < p → isExtra p r c ≡ true → suc (diagonalOf p c r) ≡ extraRow p r
 extra-before p r c odd h t =
-    let low : 1 ≤ extraRow p r = leb-true 1 (extraRow p r) (and-l (leb 1 (extraRow p r)) (eqb (extraDisk p (extraRow p r)) c) t) in
+    let low : 1 ≤ extraRow p r = leb-true 1 (extraRow p r) (and-l _ _ t) in
     let e : extraDisk p (extraRow p r) ≡ c = eqb-true (extraDisk p (extraRow p r)) c (and-r (leb 1 (extraRow p r)) (eqb (extraDisk p (extraRow p r)) c) t) in
     let q : diagonalOf p c r ≡ extraRow p r - 1 = sym (ap₂ (λ (x y : ℕ). (x + p - y) % p) (row-of-extra p r h) e) ∙ extra-diagonal p (extraRow p r) odd low (omega arith) in
     omega arith
@@ -94,7 +94,7 @@ extra-test p r c odd h l =
         let d : extraDisk p (extraRow p r) < p = extra-range p (extraRow p r) odd low (omega arith) .1 in
         let j : extraRow p r - 1 < p = omega arith in
         let q : diagonalOf p (extraDisk p (extraRow p r)) r ≡ extraRow p r - 1 = sym (ap (λ (x : ℕ). diagonalOf p (extraDisk p (extraRow p r)) x) (row-of-extra p r h)) ∙ extra-diagonal p (extraRow p r) odd low (omega arith) in
-        and-i (leb 1 (extraRow p r)) (eqb (extraDisk p (extraRow p r)) c) (le-leb 1 (extraRow p r) low)
+        and-i _ _ (le-leb 1 (extraRow p r) low)
         (eq-eqb (extraDisk p (extraRow p r)) c
         (one-disk (extraRow p r - 1) (extraDisk p (extraRow p r)) c j d l (row-on (extraRow p r - 1) (extraDisk p (extraRow p r)) j d q) (row-on (extraRow p r - 1) c j l (omega arith))))
 

@@ -44,7 +44,7 @@ module _ (n s x : ℕ) (low : x < n) where
       u = withCell s y new t
 
       fit : y * s + s ≤ length t
-      fit = room y t (ltb-true y n (and-l (ltb y n) (allBelow n ys) below)) long
+      fit = room y t (ltb-true y n (and-l _ _ below)) long
 
       new-long : length new ≡ s
       new-long = xorL-long s (cellAt s t y) (cellAt s t x) (cell-long s y t fit) (cell-long s x t (room x t low long))

@@ -33,8 +33,8 @@ module _ (p c : ℕ) where
   unfolding cellsOn
   cells-below m l [] low = refl
   cells-below m l (j ∷ is) low =
-      and-i (ltb (place p j c) (p * m)) (allBelow (p * m) (cellsOn p c is))
-      (lt-ltb (place p j c) (p * m) (place-below p m j c (ltb-true j p (and-l (ltb j p) (allBelow p is) low)) l))
+      and-i _ _
+      (lt-ltb (place p j c) (p * m) (place-below p m j c (ltb-true j p (and-l _ _ low)) l))
       (cells-below m l is (and-r (ltb j p) (allBelow p is) low))
 
   cells-distinct : (is : List ℕ) → allBelow p is ≡ true → distinct is ≡ true → distinct (cellsOn p c is) ≡ true
@@ -42,8 +42,8 @@ module _ (p c : ℕ) where
   cells-distinct [] low once = refl
   cells-distinct (j ∷ is) low once =
       let rest = and-r (ltb j p) (allBelow p is) low in
-      and-i (not (isIn (place p j c) (cellsOn p c is))) (distinct (cellsOn p c is))
-      (ap not (in-cells is rest j c (ltb-true j p (and-l (ltb j p) (allBelow p is) low)) ∙ ap (λ (b : Bool). b && eqb c c) (not-true (isIn j is) (and-l (not (isIn j is)) (distinct is) once))))
+      and-i _ _
+      (ap not (in-cells is rest j c (ltb-true j p (and-l _ _ low)) ∙ ap (λ (b : Bool). b && eqb c c) (not-true (isIn j is) (and-l _ _ once))))
       (cells-distinct is rest (and-r (not (isIn j is)) (distinct is) once))
 
 -- the parity cells of (r, c)
@@ -71,7 +71,7 @@ module _ (p k r c : ℕ) (h : r < p) where
   pub parity-cases : (y : ℕ) → isIn y (parityOf p k r c) ≡ true → (y ≡ place p r k) ⊎ ((j : ℕ) × (j < p) × (y ≡ place p j (suc k)))
   parity-cases y t =
       ⊎-elim (λ e. inl (on-p e)) (λ e. inr (rowAt p y, row, on-q e))
-      (or-cases (eqb (rowAt p y) r && eqb (diskAt p y) k) (isIn (rowAt p y) (holders p r c) && eqb (diskAt p y) (suc k))
+      (or-cases _ _
       (sym (in-parity (rowAt p y) (diskAt p y) row) ∙ ap (λ (z : ℕ). isIn z (parityOf p k r c)) (place-of p y) ∙ t))
     where
       row : rowAt p y < p
@@ -93,14 +93,14 @@ module _ (p k r c : ℕ) (h : r < p) where
   pub parity-below : allBelow (p * (k + 2)) (parityOf p k r c) ≡ true
   unfolding parityOf
   parity-below =
-      and-i (ltb (place p r k) (p * (k + 2))) (allBelow (p * (k + 2)) (cellsOn p (suc k) (holders p r c)))
+      and-i _ _
       (lt-ltb (place p r k) (p * (k + 2)) (place-below p (k + 2) r k h (omega arith)))
       (cells-below p (suc k) (k + 2) (omega arith) (holders p r c) (holders-below p r c h))
 
   pub parity-distinct : p % 2 ≡ 1 → distinct (parityOf p k r c) ≡ true
   unfolding parityOf
   parity-distinct odd =
-      and-i (not (isIn (place p r k) (cellsOn p (suc k) (holders p r c)))) (distinct (cellsOn p (suc k) (holders p r c)))
+      and-i _ _
       (ap not (in-cells p (suc k) (holders p r c) (holders-below p r c h) r k h ∙ ap (λ (b : Bool). isIn r (holders p r c) && b) (ne-eqb k (suc k) (λ e. omega arith)) ∙ and-false (isIn r (holders p r c))))
       (cells-distinct p (suc k) (holders p r c) (holders-below p r c h) (holders-distinct p r c odd h))
 
@@ -127,7 +127,7 @@ module _ (p k r c : ℕ) (h : r < p) where
     row-parity-only y t n = ⊎-elim (λ q. absurd (⊎-elim on-p (λ w. on-q (w .0) (w .1) (w .2)) (parity-cases y q))) (λ q. q) (flag (isIn y (parityOf p k r c)))
       where
         on-p : y ≡ place p r k → ⊥
-        on-p e = n (e ∙ ap (λ (j : ℕ). place p j k) (eqb-true r i (and-l (eqb r i) (leb k k) (sym (in-row p k i r k h m) ∙ ap (λ (z : ℕ). isIn z (rowSet p k i)) (sym e) ∙ t))))
+        on-p e = n (e ∙ ap (λ (j : ℕ). place p j k) (eqb-true r i (and-l _ _ (sym (in-row p k i r k h m) ∙ ap (λ (z : ℕ). isIn z (rowSet p k i)) (sym e) ∙ t))))
 
         on-q : (j : ℕ) → j < p → y ≡ place p j (suc k) → ⊥
         on-q j w e = omega (arith, row-disk p k i y m t, ap (diskAt p) e, disk-place p j (suc k) w)
@@ -139,7 +139,7 @@ module _ (p k r c : ℕ) (h : r < p) where
         at j d w v e = sym (in-diagonal-parity p k i j d w m v) ∙ ap (λ (z : ℕ). isIn z (diagonalSet p k i)) (sym e) ∙ t
 
         on-p : y ≡ place p r k → ⊥
-        on-p e = omega (arith, eqb-true k (suc k) (and-l (eqb k (suc k)) (eqb r i) (at r k h (omega arith) e)))
+        on-p e = omega (arith, eqb-true k (suc k) (and-l _ _ (at r k h (omega arith) e)))
 
         on-q : (j : ℕ) → j < p → y ≡ place p j (suc k) → ⊥
         on-q j w e = n (e ∙ ap (λ (z : ℕ). place p z (suc k)) (eqb-true j i (and-r (eqb (suc k) (suc k)) (eqb j i) (at j (suc k) w (omega arith) e))))

@@ -46,10 +46,10 @@ cell-byte s j t h =
 
 -- each set has its own parity cell
 row-own : (p k i : ℕ) → i < p → isIn (place p i k) (rowSet p k i) ≡ true
-row-own p k i m = in-row p k i i k m m ∙ and-i (eqb i i) (leb k k) (eq-eqb i i refl) (le-leb k k (omega arith))
+row-own p k i m = in-row p k i i k m m ∙ and-i _ _ (eq-eqb i i refl) (le-leb k k (omega arith))
 
 diagonal-own : (p k i : ℕ) → i < p → isIn (place p i (suc k)) (diagonalSet p k i) ≡ true
-diagonal-own p k i m = in-diagonal-parity p k i i (suc k) m m (omega arith) ∙ and-i (eqb (suc k) (suc k)) (eqb i i) (eq-eqb (suc k) (suc k) refl) (eq-eqb i i refl)
+diagonal-own p k i m = in-diagonal-parity p k i i (suc k) m m (omega arith) ∙ and-i _ _ (eq-eqb (suc k) (suc k) refl) (eq-eqb i i refl)
 
 -- a data cell (r, c) of a stripe, and new bytes for it
 module _ (p k s r c : ℕ) (odd : p % 2 ≡ 1) (h : r < p) (l : c < k) (new : List ℕ) (nl : length new ≡ s) (t : List ℕ) (stripe : isStripe p k s t ≡ true) where
