@@ -17,7 +17,7 @@ use Rattle.liberation_updates.proofs.Updating.{updated-long}
 use Rattle.liberation_updates.proofs.UpdateOrder.{updates-turn, updates-again}
 use Rattle.refusals.specs.declared.Answer.{Answer}
 use Rattle.refusals.proofs.AnswerLaws.{answers-none}
-use Rattle.update.specs.Says.{lengthsFault, updateFault, UpdateSays}
+use Rattle.update.specs.Says.{updateLengthsFault, updateFault, UpdateSays}
 use Rattle.update.proofs.UpdateRefusals.{fault-none}
 
 -- what a call leaves of t, where x says whether it is accepted
@@ -42,7 +42,7 @@ as-long p k s r c t new t′ a q = ap length (q .stripe) ∙ go (eqb (updateFaul
 
 -- so a call on what another left is refused as one on t
 left-by : (p k s r c : ℕ) (t u new v : List ℕ) (a : Answer) → UpdateSays p k s r c u new v a → length u ≡ length t → v ≡ left p k s r c new (eqb (updateFault p k s r c t new) 0) u
-left-by p k s r c t u new v a q e = q .stripe ∙ ap (λ (n : ℕ). left p k s r c new (eqb (lengthsFault p k s r c n (length new)) 0) u) e
+left-by p k s r c t u new v a q e = q .stripe ∙ ap (λ (n : ℕ). left p k s r c new (eqb (updateLengthsFault p k s r c n (length new)) 0) u) e
 
 -- "mending two different cells of any stripe, one after the other, gives the same stripe in both orders": t becomes t₁ and then t₁₂, or t₂ and then t₂₁
 pub either-order :
@@ -83,7 +83,7 @@ second-stands p k s r c t u v t₁ t₂ t₃ x y z first then accepted alone =
     long = as-long p k s r c t u t₁ x first
 
     fine : updateFault p k s r c t v ≡ 0
-    fine = ap (λ (n : ℕ). lengthsFault p k s r c n (length v)) (sym long) ∙ answers-none (updateFault p k s r c t₁ v) y (then .answer) accepted
+    fine = ap (λ (n : ℕ). updateLengthsFault p k s r c n (length v)) (sym long) ∙ answers-none (updateFault p k s r c t₁ v) y (then .answer) accepted
 
     go : (m : Bool) → eqb (updateFault p k s r c t u) 0 ≡ m → updated p k s r c v (left p k s r c u m t) ≡ updated p k s r c v t
     go true e =

@@ -19,7 +19,7 @@ use Rattle.refusals.specs.declared.Answer.{Answer}
 use Rattle.refusals.specs.Answers.{Answers}
 use Rattle.refusals.proofs.AnswerLaws.{answers-as}
 use Rattle.update_parity.specs.Cells.{DataCell}
-use Rattle.update.specs.Says.{dataFault, rowFault, lengthsFault, updateFault, UpdateSays}
+use Rattle.update.specs.Says.{dataFault, rowFault, updateLengthsFault, updateFault, UpdateSays}
 
 pub row-refused : (p r : ℕ) → p ≤ r → 15 ≡ rowFault p r
 row-refused p r h = sym (ap (λ (b : Bool). when b 15) (le-leb p r h))
@@ -33,13 +33,13 @@ module _ (p k s r c n m : ℕ) where
   abbrev pub lastFaults : ℕ
   lastFaults = firstOf (when (not (eqb n (stripeLong p k s))) 5) (firstOf (when (not (eqb m s)) 5) (rowFault p r))
 
-  pub fault-shape : (x : ℕ) → x ≡ shapeFault p k s → (x ≡ 0 → ⊥) → x ≡ lengthsFault p k s r c n m
+  pub fault-shape : (x : ℕ) → x ≡ shapeFault p k s → (x ≡ 0 → ⊥) → x ≡ updateLengthsFault p k s r c n m
   fault-shape x e z = first-kept x (shapeFault p k s) (firstOf (dataFault k c) lastFaults) e z
 
-  pub fault-disk : shapeFault p k s ≡ 0 → k ≤ c → 3 ≡ lengthsFault p k s r c n m
+  pub fault-disk : shapeFault p k s ≡ 0 → k ≤ c → 3 ≡ updateLengthsFault p k s r c n m
   fault-disk z h = first-next 3 (shapeFault p k s) (firstOf (dataFault k c) lastFaults) z (first-kept 3 (dataFault k c) lastFaults (sym (ap (λ (b : Bool). when b 3) (le-leb k c h))) (λ e. omega arith))
 
-  pub fault-last : (x : ℕ) → shapeFault p k s ≡ 0 → c < k → x ≡ lastFaults → x ≡ lengthsFault p k s r c n m
+  pub fault-last : (x : ℕ) → shapeFault p k s ≡ 0 → c < k → x ≡ lastFaults → x ≡ updateLengthsFault p k s r c n m
   fault-last x z h e = first-next x (shapeFault p k s) (firstOf (dataFault k c) lastFaults) z (first-next x (dataFault k c) lastFaults (ap (λ (b : Bool). when b 3) (lt-leb k c h)) e)
 
 -- none of them: the cell is a data cell of a stripe within the limits, and the new one has its length

@@ -21,12 +21,12 @@ abbrev pub rowFault : ℕ → ℕ → ℕ
 rowFault p r = when (leb p r) 15
 
 -- an update refuses by 1, 13, 2, 3, 5 and 15: n and m are the bytes of the stripe and of the new cell
-abbrev pub lengthsFault : ℕ → ℕ → ℕ → ℕ → ℕ → ℕ → ℕ → ℕ
-lengthsFault p k s r c n m = firstOf (shapeFault p k s) (firstOf (dataFault k c) (firstOf (when (not (eqb n (stripeLong p k s))) 5) (firstOf (when (not (eqb m s)) 5) (rowFault p r))))
+abbrev pub updateLengthsFault : ℕ → ℕ → ℕ → ℕ → ℕ → ℕ → ℕ → ℕ
+updateLengthsFault p k s r c n m = firstOf (shapeFault p k s) (firstOf (dataFault k c) (firstOf (when (not (eqb n (stripeLong p k s))) 5) (firstOf (when (not (eqb m s)) 5) (rowFault p r))))
 
 -- t is the stripe, new the new cell
 abbrev pub updateFault : ℕ → ℕ → ℕ → ℕ → ℕ → List ℕ → List ℕ → ℕ
-updateFault p k s r c t new = lengthsFault p k s r c (length t) (length new)
+updateFault p k s r c t new = updateLengthsFault p k s r c (length t) (length new)
 
 -- the stripe t becomes t′: updated, or as it was on a refusal
 pub record UpdateSays (p k s r c : ℕ) (t new t′ : List ℕ) (a : Answer) : Type 0 where

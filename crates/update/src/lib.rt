@@ -3,7 +3,7 @@ ghost use mathlib.Core.Path.{_≡_};
 ghost use lib.ListN.{length};
 ghost use Rattle.liberation_updates.specs.Updates.{updated};
 ghost use Rattle.update_parity.specs.Cells.{DataCell};
-ghost use Rattle.update.specs.Says.{lengthsFault, UpdateSays};
+ghost use Rattle.update.specs.Says.{updateLengthsFault, UpdateSays};
 use refusals::Answer;
 use refusals::Shape;
 
@@ -37,7 +37,7 @@ fn update_fault(
     stripe: usize,
     cell: usize,
 ) -> u8
-    ensures { λ r. ⌜ r ≡ lengthsFault width disks size row disk stripe cell ⌝ }
+    ensures { λ r. ⌜ r ≡ updateLengthsFault width disks size row disk stripe cell ⌝ }
 {
     let shape = refusals::shape_fault(width, disks, size);
     if shape != 0 {

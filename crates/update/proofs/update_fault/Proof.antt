@@ -9,7 +9,7 @@ use Rattle.laws.specs.Choice.{when, firstOf}
 use Rattle.laws.proofs.ChoiceLaws.{first-kept, first-next}
 use Rattle.liberation.specs.Sets.{shapeFault}
 use Rattle.liberation.proofs.FaultLaws.{shape-most}
-use Rattle.update.specs.Says.{rowFault, lengthsFault}
+use Rattle.update.specs.Says.{rowFault, updateLengthsFault}
 use Rattle.update.proofs.UpdateRefusals.{lastFaults, row-refused, row-accepted, fault-shape, fault-disk, fault-last}
 use Rattle.update.proofs.update_fault.Statement.{statement}
 use Rattle.update.proofs.update_fault.Tie as tie
@@ -34,7 +34,7 @@ returns-2 c =
     fault-disk (a .width) (a .disks) (a .size) (a .row) (a .disk) (a .stripe) (a .cell) (fine (c .before)) (c .if2 .taken)
 
 -- past refusal 3 the lengths and the row decide
-last : (c : tie.Else2) (n : ℕ) → let a = c .before .before .before .args in n ≡ lastFaults (a .width) (a .disks) (a .size) (a .row) (a .disk) (a .stripe) (a .cell) → n ≡ lengthsFault (a .width) (a .disks) (a .size) (a .row) (a .disk) (a .stripe) (a .cell)
+last : (c : tie.Else2) (n : ℕ) → let a = c .before .before .before .args in n ≡ lastFaults (a .width) (a .disks) (a .size) (a .row) (a .disk) (a .stripe) (a .cell) → n ≡ updateLengthsFault (a .width) (a .disks) (a .size) (a .row) (a .disk) (a .stripe) (a .cell)
 last c n e = let a = c .before .before .before .args in fault-last (a .width) (a .disks) (a .size) (a .row) (a .disk) (a .stripe) (a .cell) n (fine (c .before)) (c .if2 .left) e
 
 add-length-fault : tie.Need-add-length-fault
@@ -50,14 +50,14 @@ returns-3 : tie.Need-returns-3
 returns-3 c = let f = c .before .length-fault in last (c .before .before) (f .result) (first-kept (f .result) _ _ (f .ensures) (c .if3 .taken))
 
 -- past the stripe's length
-second : (c : tie.Else3) (n : ℕ) → let a = c .before .before .before .before .before .args in n ≡ firstOf (when (not (eqb (a .cell) (a .size))) 5) (rowFault (a .width) (a .row)) → n ≡ lengthsFault (a .width) (a .disks) (a .size) (a .row) (a .disk) (a .stripe) (a .cell)
+second : (c : tie.Else3) (n : ℕ) → let a = c .before .before .before .before .before .args in n ≡ firstOf (when (not (eqb (a .cell) (a .size))) 5) (rowFault (a .width) (a .row)) → n ≡ updateLengthsFault (a .width) (a .disks) (a .size) (a .row) (a .disk) (a .stripe) (a .cell)
 second c n e = last (c .before .before) n (first-next n _ _ (sym (c .before .length-fault .ensures) ∙ c .if3 .left) e)
 
 returns-4 : tie.Need-returns-4
 returns-4 c = let f = c .before .length-fault2 in second (c .before .before) (f .result) (first-kept (f .result) _ _ (f .ensures) (c .if4 .taken))
 
 -- past the cell's
-third : (c : tie.Else4) (n : ℕ) → let a = c .before .before .before .before .before .before .before .args in n ≡ rowFault (a .width) (a .row) → n ≡ lengthsFault (a .width) (a .disks) (a .size) (a .row) (a .disk) (a .stripe) (a .cell)
+third : (c : tie.Else4) (n : ℕ) → let a = c .before .before .before .before .before .before .before .args in n ≡ rowFault (a .width) (a .row) → n ≡ updateLengthsFault (a .width) (a .disks) (a .size) (a .row) (a .disk) (a .stripe) (a .cell)
 third c n e = second (c .before .before) n (first-next n _ _ (sym (c .before .length-fault2 .ensures) ∙ c .if4 .left) e)
 
 returns-5 : tie.Need-returns-5
