@@ -1,11 +1,12 @@
--- Lists of which some numbers are kept, those that a test does not leave out: joined lists, bounds, lengths, tests that agree.
+-- Lists of which some numbers are kept, those that a test does not leave out: joined lists, members, bounds, lengths, tests that agree.
 use mathlib.Core.Path.{_≡_, refl, sym, ap, ap₂, _∙_}
-use mathlib.Core.Bool.{Bool, true, false, _||_}
+use mathlib.Core.Bool.{Bool, true, false, _&&_, _||_, not, and-false}
 use mathlib.Core.List.{List, [], _∷_, _++_}
 use Prim.Native.Nat.{ℕ, suc, _≤_}
 use native.Mathlib.Omega.{arith}
-use lib.Dec.{ltb}
+use lib.Dec.{eqb, ltb}
 use lib.ListN.{length}
+use borrow.Author.Tests.{eqb-true}
 use Rattle.laws.specs.Choice.{pick}
 use Rattle.laws.specs.Lists.{isIn, allBelow}
 use Rattle.laws.proofs.Flags.{and-l, and-r, and-i}
@@ -34,6 +35,20 @@ kept-append {gone} {kept} k (x ∷ xs) ys = k .next x (xs ++ ys) ∙ go (gone x)
     go : (b : Bool) → kept (xs ++ ys) ≡ kept xs ++ kept ys → pick b (kept (xs ++ ys)) (x ∷ kept (xs ++ ys)) ≡ pick b (kept xs) (x ∷ kept xs) ++ kept ys
     go true e = e
     go false e = ap (λ (l : List ℕ). x ∷ l) e
+
+-- a number is kept if it is in the list and not gone
+pub in-kept : {gone : ℕ → Bool} {kept : List ℕ → List ℕ} → Keeps gone kept → (x : ℕ) (xs : List ℕ) → isIn x (kept xs) ≡ (not (gone x) && isIn x xs)
+in-kept {gone} k x [] = ap (isIn x) (k .none) ∙ sym (and-false (not (gone x)))
+in-kept {gone} {kept} k x (y ∷ ys) = ap (isIn x) (k .next y ys) ∙ go (gone y) (eqb x y) refl refl (in-kept k x ys)
+  where
+    own : (b : Bool) → gone y ≡ b → eqb x y ≡ true → gone x ≡ b
+    own b d e = ap gone (eqb-true x y e) ∙ d
+
+    go : (b t : Bool) → gone y ≡ b → eqb x y ≡ t → isIn x (kept ys) ≡ (not (gone x) && isIn x ys) → isIn x (pick b (kept ys) (y ∷ kept ys)) ≡ (not (gone x) && (t || isIn x ys))
+    go true true d e rest = rest ∙ ap (λ (b : Bool). not b && isIn x ys) (own true d e) ∙ ap (λ (b : Bool). not b && true) (sym (own true d e))
+    go true false d e rest = rest
+    go false true d e rest = ap (λ (b : Bool). b || isIn x (kept ys)) e ∙ sym (ap (λ (b : Bool). not b && true) (own false d e))
+    go false false d e rest = ap (λ (b : Bool). b || isIn x (kept ys)) e ∙ rest
 
 -- those of numbers below n are below n
 pub kept-below : {gone : ℕ → Bool} {kept : List ℕ → List ℕ} → Keeps gone kept → (n : ℕ) (xs : List ℕ) → allBelow n xs ≡ true → allBelow n (kept xs) ≡ true

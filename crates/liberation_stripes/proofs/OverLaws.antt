@@ -1,17 +1,17 @@
 -- The XOR over a list of cells: of two lists joined, with one cell taken out, and of a set in its surviving and its lost cells.
 -- XOR is associative and commutative, so the order of the cells does not matter; zeros are its unit on cells of s bytes.
 use mathlib.Core.Path.{_≡_, refl, sym, ap, ap₂, _∙_}
-use mathlib.Core.Bool.{Bool, true, false, _&&_, _||_, not, and-false, false≢true}
+use mathlib.Core.Bool.{Bool, true, false, _&&_, _||_, not, and-false, false≢true, and-comm}
 use mathlib.Core.List.{List, [], _∷_, _++_}
 use Prim.Native.Nat.{ℕ}
 use lib.Dec.{eqb}
 use lib.ListN.{length, replicate, length-replicate}
-use borrow.Author.Tests.{eqb-true, eq-eqb, not-true}
+use borrow.Author.Tests.{eqb-true, eq-eqb, not-true, ne-eqb}
 use Rattle.laws.specs.Choice.{pick}
 use Rattle.laws.specs.Lists.{isIn, distinct}
 use Rattle.laws.specs.Xor.{xorL, allBytes}
-use Rattle.laws.proofs.Flags.{and-l, and-r, or-false-l, or-false-r}
-use Rattle.laws.proofs.KeptLaws.{Keeps}
+use Rattle.laws.proofs.Flags.{and-l, and-r}
+use Rattle.laws.proofs.KeptLaws.{Keeps, in-kept, kept-all}
 use Rattle.laws.proofs.TestLaws.{eqb-sym}
 use Rattle.laws.proofs.MemberLaws.{in-head, in-tail}
 use Rattle.laws.proofs.XorLaws.{xorL-assoc, xorL-swap, length-xorL, zero-xorL, xorL-bytes, zeros-bytes}
@@ -52,25 +52,14 @@ unfolding without
 without-keeps y = record { none = refl; next = λ x xs. refl }
 
 pub in-without : (x y : ℕ) (xs : List ℕ) → isIn y (without x xs) ≡ (isIn y xs && not (eqb y x))
-unfolding without
-in-without x y [] = refl
-in-without x y (z ∷ xs) = go (eqb x z) (eqb y z) refl refl (in-without x y xs)
-  where
-    go : (b c : Bool) → eqb x z ≡ b → eqb y z ≡ c → isIn y (without x xs) ≡ (isIn y xs && not (eqb y x)) → isIn y (pick b (without x xs) (z ∷ without x xs)) ≡ ((c || isIn y xs) && not (eqb y x))
-    go true true e q rest = let w : eqb y x ≡ true = eq-eqb y x (eqb-true y z q ∙ sym (eqb-true x z e)) in rest ∙ ap (λ (t : Bool). isIn y xs && not t) w ∙ and-false (isIn y xs) ∙ sym (ap not w)
-    go true false e q rest = rest
-    go false true e q rest = ap (λ (t : Bool). t || isIn y (without x xs)) q ∙ sym (ap not (ap (λ (n : ℕ). eqb n x) (eqb-true y z q) ∙ eqb-sym z x ∙ e))
-    go false false e q rest = ap (λ (t : Bool). t || isIn y (without x xs)) q ∙ rest
+in-without x y xs = in-kept (without-keeps x) y xs ∙ and-comm (not (eqb x y)) (isIn y xs) ∙ ap (λ (b : Bool). isIn y xs && not b) (eqb-sym x y)
 
 pub without-none : (x : ℕ) (xs : List ℕ) → isIn x (without x xs) ≡ false
 without-none x xs = in-without x x xs ∙ ap (λ (b : Bool). isIn x xs && not b) (eq-eqb x x refl) ∙ and-false (isIn x xs)
 
 -- a list that lacks x
 without-absent : (x : ℕ) (xs : List ℕ) → isIn x xs ≡ false → without x xs ≡ xs
-unfolding without
-without-absent x [] h = refl
-without-absent x (y ∷ ys) h =
-    ap₂ (λ (b : Bool) (l : List ℕ). pick b l (y ∷ l)) (or-false-l (eqb x y) (isIn x ys) h) (without-absent x ys (or-false-r (eqb x y) (isIn x ys) h))
+without-absent x xs h = kept-all (without-keeps x) xs (λ y t. ne-eqb x y (λ e. false≢true (sym h ∙ ap (λ (z : ℕ). isIn z xs) e ∙ t)))
 
 -- one cell taken out
 pub over-without : (s : ℕ) (g : ℕ → List ℕ) (x : ℕ) (xs : List ℕ) → distinct xs ≡ true → isIn x xs ≡ true → xorOver s g xs ≡ xorL (g x) (xorOver s g (without x xs))

@@ -11,16 +11,13 @@ use borrow.Author.Tests.{eq-eqb, ne-eqb, not-true}
 use Rattle.laws.specs.Choice.{pick}
 use Rattle.laws.specs.Lists.{isIn}
 use Rattle.laws.proofs.Flags.{and-l}
-use Rattle.laws.proofs.KeptLaws.{Keeps, kept-append, kept-all}
+use Rattle.laws.proofs.KeptLaws.{kept-append, kept-all}
 use Rattle.laws.proofs.OrderLaws.{lt-or-le}
 use Rattle.laws.proofs.Walks.{Walk}
 use Rattle.liberation.specs.Sets.{place, diskAt, rowFrom, diagonalFrom, survivingIn}
 use Rattle.liberation.proofs.SetLaws.{disk-place, in-surviving}
+pub use Rattle.liberation.proofs.SetLaws.{surviving-keeps}
 use Rattle.offsets.specs.Offsets.{cellsFrom}
-
-pub surviving-keeps : (p f : ℕ) → Keeps (λ x. eqb (diskAt p x) f) (survivingIn p f)
-unfolding survivingIn
-surviving-keeps p f = record { none = refl; next = λ x xs. refl }
 
 -- a disk left out twice
 pub surviving-twice : (p f : ℕ) (xs : List ℕ) → survivingIn p f (survivingIn p f xs) ≡ survivingIn p f xs

@@ -16,7 +16,7 @@ use Rattle.laws.proofs.MemberLaws.{in-below}
 use Rattle.laws.proofs.KeptLaws.{Keeps, both-keep, kept-append, kept-below, kept-short, kept-same, kept-all}
 use Rattle.laws.proofs.Walks.{walk-last, walk-long}
 use Rattle.liberation.specs.Sets.{place, diskAt, rowFrom, diagonalFrom, rowSet, diagonalSet, ordinary, hasExtra, extraDisk, extraRow, extraOf, setOf, survivingIn}
-use Rattle.liberation.proofs.SetLaws.{disk-place, in-row, in-ordinary, place-below, set-below}
+use Rattle.liberation.proofs.SetLaws.{disk-place, in-row, in-ordinary, place-below, set-below, surviving-keeps}
 use Rattle.liberation.proofs.PlaceLaws.{disk-below}
 use Rattle.liberation_stripes.specs.Stripes.{stripeLong}
 use Rattle.liberation_stripes.proofs.CellLaws.{cell-fits}
@@ -24,7 +24,7 @@ use Rattle.xor.specs.Reach.{Reached}
 use Rattle.offsets.specs.Offsets.{scaled, cellsFrom, Pushed}
 use Rattle.offsets.proofs.OffsetLaws.{length-scaled, scaled-append, cells-reached}
 use Rattle.offsets.proofs.PushLaws.{pushed-none, pushed-one, pushed-then}
-use Rattle.offsets.proofs.KeptLaws.{surviving-keeps, surviving-twice, rowIn, row-in-below, cell-walk, surviving-two}
+use Rattle.offsets.proofs.KeptLaws.{surviving-twice, rowIn, row-in-below, cell-walk, surviving-two}
 use Rattle.set_offsets.specs.Cells.{survivors, ordinaryOf, parityDisk, extraIn}
 
 survivors-keep : (p x y : ℕ) → Keeps (λ c. eqb (diskAt p c) y || eqb (diskAt p c) x) (survivors p x y)

@@ -18,7 +18,7 @@ use Rattle.laws.proofs.AllLaws.{all-at, all-of}
 use Rattle.laws.proofs.Flags.{and-i}
 use Rattle.laws.proofs.KeptLaws.{kept-append}
 use Rattle.liberation.specs.Sets.{isWidth, place, rowSet, diagonalSet, setOf, extraRow, extraDisk, lostIn, survivingIn}
-use Rattle.liberation.proofs.SetLaws.{surviving-below, place-below}
+use Rattle.liberation.proofs.SetLaws.{surviving-below, place-below, surviving-keeps}
 use Rattle.liberation.proofs.LostLaws.{extraOn, lost-diagonal}
 use Rattle.liberation_stripes.specs.Stripes.{stripeLong}
 use Rattle.liberation_stripes.proofs.CellLaws.{cell-fits}
@@ -30,7 +30,6 @@ use Rattle.xor.specs.Parts.{xorOffsets}
 use Rattle.xor.specs.Reach.{Reached}
 use Rattle.offsets.specs.Offsets.{scaled, Pushed}
 use Rattle.offsets.proofs.OffsetLaws.{length-scaled, over-offsets, cells-reached}
-use Rattle.offsets.proofs.KeptLaws.{surviving-keeps}
 use Rattle.set_offsets.specs.Cells.{survivors}
 use Rattle.set_offsets.proofs.SetLists.{survivors-one, both-pushed}
 use Rattle.stripes.proofs.LoopLaws.{all-fails, all-seen}
