@@ -7,6 +7,7 @@
    array, cell size and operation; runs follow each other. */
 
 #include "clock.h"
+#include "limit.h"
 #include "results.h"
 #include "scrub.h"
 #include "servers.h"
@@ -196,6 +197,7 @@ int main(int argc, char **argv)
     printf("Warm: %d runs of %d rounds; streaming: %d of %d.\n\n", runs_of(WARM),
            rounds_of(WARM), runs_of(STREAMING), rounds_of(STREAMING));
     print_results();
+    print_limits(rounds);
     print_updates(rounds);
     print_scrubs(rounds);
     print_servers(rounds);

@@ -2,8 +2,9 @@
 """Draws the ratios of a results file of bench/run.
 
 Usage: bench/plot.py bench/results/NAME.txt
-  Writes bench/results/NAME.svg: for each operation and for Jerasure and ISA-L a panel of bars, the
-  other's time over ours (the median, warm, k = p), on a logarithmic scale with a line at 1.
+  Writes bench/results/NAME.svg: for each operation and for Jerasure, ISA-L and memcpy a panel of bars,
+  the other's time over ours (warm, k = p; the median, for memcpy the best of each), on a logarithmic
+  scale with a line at 1.
 """
 
 import math
@@ -12,7 +13,7 @@ import re
 import sys
 
 OPERATIONS = ["encode", "check", "one disk", "two disks"]
-OTHERS = ["Jerasure", "ISA-L"]
+OTHERS = ["Jerasure", "ISA-L", "memcpy"]
 SIZES = ["64", "512", "4096"]
 COLOURS = ["#9ecae1", "#4292c6", "#08519c"]
 LOW, HIGH = 0.25, 16.0
@@ -32,7 +33,19 @@ def read(path):
             other, size = re.fullmatch(r"(.*), s = (\d+)", head).groups()
             if p == k and cell != "none":
                 ratios[operation, p, other, size] = float(cell.split("/")[1])
+    add_copies(text, ratios)
     return ratios, text.split("\n")[0]
+
+
+def add_copies(text, ratios):
+    """memcpy's best time over ours, of the warm table of times: 'ours; Jerasure; ISA-L; memcpy'."""
+    found = re.search(r"### warm: best times of a stripe in us.*?\n\n(.*?)\n\n", text, re.S)
+    rows = [[cell.strip() for cell in line.strip("|").split("|")] for line in found[1].split("\n")]
+    for operation, p, k, *cells in rows[2:]:
+        for size, times in zip(SIZES, cells[::2]):
+            ours, copy = float(times.split(";")[0]), float(times.split(";")[-1])
+            if p == k and ours > 0:
+                ratios[operation, p, "memcpy", size] = round(copy / ours, 2)
 
 
 def height(ratio):
