@@ -33,7 +33,7 @@ use Rattle.liberation_pairs.proofs.Roles.{Short, Roles, row-low}
 use Rattle.liberation_pairs.proofs.StartLaws.{Cells, over-nil, from-zero, from-other}
 
 -- the cells of the start's sets are cells of the stripe
-start-below : (n p k x y r : ℕ) → r < p → allBelow (p * (k + 2)) (startSets n p k x y r) ≡ true
+pub start-below : (n p k x y r : ℕ) → r < p → allBelow (p * (k + 2)) (startSets n p k x y r) ≡ true
 unfolding startSets
 start-below zero p k x y r h = refl
 start-below (suc n) p k x y r h =

@@ -1,11 +1,12 @@
 -- Two lost data disks x and y: the start's sets are summed into the lost cells that they will give, and the walk's last steps add to them what the sets have of other lost cells.
 use mathlib.Core.List.{List, [], _∷_, _++_}
 use Prim.Native.Nat.{ℕ, zero, suc, _-_, _/_}
-use Rattle.liberation.specs.Sets.{place, lostIn, survivingIn, setOf}
+use Rattle.liberation.specs.Sets.{place, rowSet, lostIn, survivingIn, setOf}
 use Rattle.liberation.specs.Plans.{extraRowOn, diagonalOf}
-use Rattle.liberation_stripes.specs.Stripes.{cellAt, withCell, xorOver}
-use Rattle.liberation_pairs.specs.Pairs.{nextRow}
-use Rattle.liberation_pairs.specs.PairSteps.{CellStep, cellStep, walkSteps}
+use Rattle.liberation_stripes.specs.Stripes.{cellAt, withCell, xorOver, solved}
+use Rattle.liberation_stripes.specs.Steps.{CellStep, cellStep}
+use Rattle.liberation_pairs.specs.Pairs.{nextRow, diagonalWalk}
+use Rattle.liberation_pairs.specs.PairSteps.{walkSteps}
 
 -- the cells of a list on neither disk
 abbrev pub survivorsOf : ℕ → ℕ → ℕ → List ℕ → List ℕ
@@ -49,3 +50,21 @@ lastSteps m p x y = cellStep (place p (extraRowOn p y) x) 0 (extraRowOn p y) ∷
 unfoldable pub cellsOf : List CellStep → List ℕ
 cellsOf [] = []
 cellsOf (c ∷ cs) = c .cell ∷ cellsOf cs
+
+-- the start's steps: (p - 1)/2 rows from that of the extra cell on y on. The last of them gives the first cell of the walk
+abbrev pub sumSteps : ℕ → ℕ → ℕ → List CellStep
+sumSteps p x y = startSteps ((p - 1) / 2) p x y (extraRowOn p y)
+
+-- the first cell becomes the XOR of all their cells, of which it is one
+abbrev pub firstAdded : ℕ → ℕ → ℕ → ℕ → List ℕ → List ℕ
+firstAdded p s x y t = withCell s (place p (extraRowOn p x) y) (xorOver s (cellAt s t) (cellsOf (sumSteps p x y))) t
+
+-- the start: sums, and the first cell from them
+abbrev pub sumStarted : ℕ → ℕ → ℕ → ℕ → ℕ → List ℕ → List ℕ
+sumStarted p k s x y t = firstAdded p s x y (summedAll p k s x y (sumSteps p x y) t)
+
+-- then the other cell of the first cell's row, the walk until the cell of disk y in the row of its extra cell stands, and the last steps
+abbrev pub sumWalked : ℕ → ℕ → ℕ → ℕ → ℕ → List ℕ → List ℕ
+sumWalked p k s x y t =
+    addedAll p k s x y (lastSteps ((p - 1) / 2 - 1) p x y)
+    (diagonalWalk p p k s x y (extraRowOn p x) (solved s (place p (extraRowOn p x) x) (rowSet p k (extraRowOn p x)) (sumStarted p k s x y t)))

@@ -1,43 +1,41 @@
 -- The start's sets summed into the cells that they give: their XOR is that of the start's surviving cells, so it is the first cell. The last steps of the walk then add, and what they leave is the rebuilt stripe:
 -- the sums are in lost cells, and the rebuild does not depend on what those held.
 use mathlib.Core.Path.{_≡_, refl, sym, subst, ap, ap₂, _∙_}
-use mathlib.Core.Bool.{Bool, true, false, _&&_, _||_, false≢true}
-use mathlib.Core.Logic.{⊎-elim}
+use mathlib.Core.Bool.{Bool, true, false, _&&_, _||_}
 use mathlib.Core.List.{List, [], _∷_, _++_, append-assoc}
 use Prim.Native.Nat.{ℕ, zero, suc, _+_, _-_, _*_, _/_, _%_, _≤_, _<_}
 use native.Mathlib.Nat.{mod-lt}
 use native.Mathlib.Omega.{arith}
 use lib.Dec.{eqb}
-use lib.ListN.{length, replicate}
-use borrow.Author.Tests.{eqb-true, eq-eqb, ne-eqb}
+use borrow.Author.Tests.{eq-eqb, ne-eqb}
 use Rattle.laws.specs.Choice.{pick}
 use Rattle.laws.specs.Lists.{isIn, allBelow}
 use Rattle.laws.specs.Xor.{xorL}
-use Rattle.laws.proofs.Flags.{or-l, or-cases, clash}
+use Rattle.laws.proofs.Flags.{or-l, clash}
 use Rattle.laws.proofs.ListLaws.{below-append}
-use Rattle.laws.proofs.MemberLaws.{in-below, in-head}
+use Rattle.laws.proofs.KeptLaws.{Keeps, both-keep, kept-append}
+use Rattle.laws.proofs.MemberLaws.{in-head}
 use Rattle.laws.proofs.Primes.{Prime}
-use Rattle.laws.proofs.XorLaws.{xorL-comm, xorL-zeros}
 use Rattle.liberation.specs.Sets.{place, diskAt, rowSet, diagonalSet, extraRow, survivingIn, setOf}
 use Rattle.liberation.specs.Plans.{extraRowOn, diagonalOf}
-use Rattle.liberation.proofs.SetLaws.{place-below, set-below}
+use Rattle.liberation.proofs.SetLaws.{set-below}
 use Rattle.liberation.proofs.LostLaws.{extraOn, on-data, second-range}
-use Rattle.liberation_stripes.specs.Stripes.{cellAt, withCell, xorOver, isStripe, clean}
-use Rattle.liberation_stripes.proofs.CellLaws.{cell-fits, cell-long}
+use Rattle.liberation_stripes.specs.Stripes.{cellAt, withCell, xorOver, isStripe, solved}
 use Rattle.liberation_stripes.proofs.OverLaws.{Long, over-append}
-use Rattle.liberation_stripes.proofs.Solving.{cells-long, cell-bytes, stripe-long, stripe-bytes}
-use Rattle.liberation_pairs.specs.Pairs.{nextRow, startSets, startCount, startCells, firstCell, firstDisk, otherDisk, started, diagonalWalk, rowWalk, walked}
-use Rattle.liberation_pairs.specs.PairSteps.{CellStep, cellStep, stepsDone, walkSteps, dataSteps, isLost}
-use Rattle.liberation_pairs.proofs.Standing.{Standing, doneAfter, steps-stripe}
+use Rattle.liberation_stripes.proofs.Solving.{cells-long, stripe-long}
+use Rattle.liberation_pairs.specs.Pairs.{nextRow, startSets, startCells, firstCell, otherDisk, started, diagonalWalk, rowWalk, walked}
+use Rattle.liberation_stripes.specs.Steps.{CellStep, cellStep, stepsDone}
+use Rattle.liberation_stripes.proofs.Standing.{Standing, doneAfter, off-known, steps-stripe}
+use Rattle.liberation_pairs.specs.PairSteps.{walkSteps, dataSteps, isLost}
 use Rattle.liberation_pairs.proofs.Upward.{lost-second}
 use Rattle.liberation_pairs.proofs.ParityPairs.{steps-append}
-use Rattle.liberation_pairs.proofs.WalkRows.{rowAfter, after-lt, after-suc, there, back}
+use Rattle.liberation_pairs.proofs.WalkRows.{rowAfter, after-suc, there, back}
 use Rattle.liberation_pairs.proofs.Roles.{Roles, row-low}
 use Rattle.liberation_pairs.proofs.WalkLaws.{data-standing}
 use Rattle.liberation_pairs.proofs.FirstCell.{start-below, started-stripe, started-other}
 use Rattle.liberation_pairs.proofs.Restoring.{Restores, walked-steps, walked-restores}
-use Rattle.liberation_sums.specs.Sums.{survivorsOf, summed, summedAll, addedAll, startSteps, lastSteps, cellsOf}
-use Rattle.liberation_sums.proofs.Adding.{survivor-off, survivor-known, Prepared, bare, more, prepared-off, prepared-steps, steps-add, standing-tail, standing-head, in-after, sums-stripe, sums-kept, sums-prepared, sum-same, summed-stripe, summed-cell, summed-other}
+use Rattle.liberation_sums.specs.Sums.{survivorsOf, summed, summedAll, addedAll, startSteps, lastSteps, cellsOf, sumSteps, firstAdded, sumWalked}
+use Rattle.liberation_sums.proofs.Adding.{survivor-off, Prepared, bare, more, prepared-off, prepared-steps, steps-add, standing-tail, standing-head, in-after, sums-stripe, sums-kept, sums-prepared, sum-same, summed-stripe, summed-cell, summed-other}
 
 -- the start's steps are the walk's last ones and the one that gives the first cell
 start-split : (m p x y r : ℕ) → startSteps (suc m) p x y r ≡ (cellStep (place p r x) 0 r ∷ walkSteps m p x y r) ++ (cellStep (place p (rowAfter (suc m) p x y r) y) 1 (diagonalOf p x (rowAfter m p x y r)) ∷ [])
@@ -58,11 +56,6 @@ unfolding summedAll
 sums-append p k s x y [] ds t = refl
 sums-append p k s x y (c ∷ cs) ds t = sums-append p k s x y cs ds (summed p k s x y c t)
 
-cells-append : (cs : List CellStep) (c t n : ℕ) → cellsOf (cs ++ (cellStep c t n ∷ [])) ≡ cellsOf cs ++ (c ∷ [])
-unfolding cellsOf
-cells-append [] c t n = refl
-cells-append (d ∷ cs) c t n = ap (λ (l : List ℕ). d .cell ∷ l) (cells-append cs c t n)
-
 -- half of the walk and one diagonal step more
 half-walk : (n p k s x y r : ℕ) (t : List ℕ) → diagonalWalk (2 * n + 1) p k s x y r t ≡ stepsDone p k s (walkSteps n p x y r ++ (cellStep (place p (rowAfter (suc n) p x y r) y) 1 (diagonalOf p x (rowAfter n p x y r)) ∷ [])) t
 unfolding diagonalWalk rowWalk walkSteps stepsDone rowAfter
@@ -72,17 +65,12 @@ half-walk (suc n) p k s x y r t =
     ap (λ (m : ℕ). diagonalWalk m p k s x y r t) e ∙ half-walk n p k s x y (nextRow p x y r) _
 
 -- surviving cells of two lists
-surviving-append : (p f : ℕ) (xs ys : List ℕ) → survivingIn p f (xs ++ ys) ≡ survivingIn p f xs ++ survivingIn p f ys
+keeps : (p f : ℕ) → Keeps (λ c. eqb (diskAt p c) f) (survivingIn p f)
 unfolding survivingIn
-surviving-append p f [] ys = refl
-surviving-append p f (c ∷ xs) ys = go (eqb (diskAt p c) f) (surviving-append p f xs ys)
-  where
-    go : (b : Bool) → survivingIn p f (xs ++ ys) ≡ survivingIn p f xs ++ survivingIn p f ys → pick b (survivingIn p f (xs ++ ys)) (c ∷ survivingIn p f (xs ++ ys)) ≡ pick b (survivingIn p f xs) (c ∷ survivingIn p f xs) ++ survivingIn p f ys
-    go true e = e
-    go false e = ap (λ (l : List ℕ). c ∷ l) e
+keeps p f = record { none = refl; next = λ c cs. refl }
 
 survivors-append : (p x y : ℕ) (xs ys : List ℕ) → survivorsOf p x y (xs ++ ys) ≡ survivorsOf p x y xs ++ survivorsOf p x y ys
-survivors-append p x y xs ys = ap (survivingIn p x) (surviving-append p y xs ys) ∙ surviving-append p x (survivingIn p y xs) (survivingIn p y ys)
+survivors-append p x y = kept-append (both-keep (keeps p x) (keeps p y))
 
 module _ (p k s x y : ℕ) (apart : x ≡ y → ⊥) (hx : x < k + 2) (hy : y < k + 2) (v : List ℕ) (stripe : isStripe p k s v ≡ true) where
   kept-long : (xs : List ℕ) → allBelow (p * (k + 2)) xs ≡ true → Long s (cellAt s v) (survivorsOf p x y xs)
@@ -136,7 +124,7 @@ module _ (p k s x y : ℕ) (ok : Prime p) (odd : p % 2 ≡ 1) (most : k ≤ p) (
   first-is = ap (λ (b : Bool). place p e (pick b x y)) (ne-eqb y 0 (λ q. omega arith))
 
   -- the steps before the last ones
-  pub frontSteps : List CellStep
+  frontSteps : List CellStep
   frontSteps = cellStep (place p e (otherDisk x y)) 0 e ∷ (walkSteps (suc m) p x y e ++ (cellStep (place p ey y) 1 (diagonalOf p x (rowAfter (suc m) p x y e)) ∷ []))
 
   next-is : nextRow p x y (rowAfter (suc m) p x y e) ≡ ey
@@ -170,10 +158,10 @@ module _ (p k s x y : ℕ) (ok : Prime p) (odd : p % 2 ≡ 1) (most : k ≤ p) (
   stood : List ℕ
   stood = doneAfter (firstCell p x y ∷ []) frontSteps
 
-  whole : Standing p k x y (firstCell p x y ∷ []) (frontSteps ++ lastSteps m p x y)
-  whole = subst (Standing p k x y (firstCell p x y ∷ [])) data-split (data-standing p k x y ok odd most g hx hy)
+  whole : Standing p k (isLost p x y) (firstCell p x y ∷ []) (frontSteps ++ lastSteps m p x y)
+  whole = subst (Standing p k (isLost p x y) (firstCell p x y ∷ [])) data-split (data-standing p k x y ok odd most g hx hy)
 
-  standing : Standing p k x y stood (lastSteps m p x y)
+  standing : Standing p k (isLost p x y) stood (lastSteps m p x y)
   unfolding stood
   standing = standing-tail p k s x y (g .apart) x-low y-low frontSteps whole
 
@@ -192,10 +180,22 @@ module _ (p k s x y : ℕ) (ok : Prime p) (odd : p % 2 ≡ 1) (most : k ≤ p) (
   unfolding final
   final-numbered = mod-lt (rowAfter m p x y ey + p - x) (omega arith)
 
+  -- the steps before the last ones, as the walk does them
+  front-walk : (u : List ℕ) → stepsDone p k s frontSteps u ≡ diagonalWalk p p k s x y (extraRowOn p x) (solved s (place p (extraRowOn p x) x) (rowSet p k (extraRowOn p x)) u)
+  unfolding frontSteps stepsDone e
+  front-walk u =
+      let w = rowAfter (suc m) p x y e in
+      let v = solved s (place p e x) (rowSet p k e) u in
+      let q : 2 * suc m + 1 ≡ p = omega (arith, ok .large) in
+      ap (λ (d : ℕ). stepsDone p k s (walkSteps (suc m) p x y e ++ (cellStep (place p ey y) 1 (diagonalOf p x w) ∷ [])) (solved s (place p e d) (rowSet p k e) u)) (ap (λ (b : Bool). pick b y x) (ne-eqb y 0 (λ z. omega arith)))
+      ∙ ap (λ (r : ℕ). stepsDone p k s (walkSteps (suc m) p x y e ++ (cellStep (place p r y) 1 (diagonalOf p x w) ∷ [])) v) (sym next-is ∙ sym (after-suc (suc m) p x y e))
+      ∙ sym (half-walk (suc m) p k s x y e v)
+      ∙ ap (λ (n : ℕ). diagonalWalk n p k s x y e v) q
+
   module _ (t : List ℕ) (ht : isStripe p k s t ≡ true) where
     -- the stripe with the sums
-    pub sumsOf : List ℕ
-    sumsOf = summedAll p k s x y (startSteps ((p - 1) / 2) p x y (extraRowOn p y)) t
+    sumsOf : List ℕ
+    sumsOf = summedAll p k s x y (sumSteps p x y) t
 
     most-sums : List ℕ
     most-sums = summedAll p k s x y (lastSteps m p x y) t
@@ -208,7 +208,7 @@ module _ (p k s x y : ℕ) (ok : Prime p) (odd : p % 2 ≡ 1) (most : k ≤ p) (
     unfolding sumsOf most-sums ey summedAll
     sums-are = ap (λ (l : List CellStep). summedAll p k s x y l t) start-is ∙ sums-append p k s x y (lastSteps m p x y) (final ∷ []) t
 
-    pub sums-are-stripe : isStripe p k s sumsOf ≡ true
+    sums-are-stripe : isStripe p k s sumsOf ≡ true
     sums-are-stripe = ap (isStripe p k s) sums-are ∙ summed-stripe p k s x y (g .apart) x-low y-low final final-numbered final-held most-sums most-stripe
 
     -- off the first cell
@@ -222,7 +222,7 @@ module _ (p k s x y : ℕ) (ok : Prime p) (odd : p % 2 ≡ 1) (most : k ≤ p) (
     -- surviving cells are kept
     sums-off : (d : ℕ) → isLost p x y d ≡ false → cellAt s sumsOf d ≡ cellAt s t d
     unfolding most-sums
-    sums-off d h = sums-other d (not-first d h) ∙ sums-kept p k s x y (g .apart) x-low y-low standing t ht d (survivor-known p x y d stood h)
+    sums-off d h = sums-other d (not-first d h) ∙ sums-kept p k s x y (g .apart) x-low y-low standing t ht d (off-known (isLost p x y) d stood h)
 
     prepared : Prepared p k s x y (g .apart) x-low y-low sumsOf (lastSteps m p x y)
     unfolding most-sums
@@ -241,37 +241,24 @@ module _ (p k s x y : ℕ) (ok : Prime p) (odd : p % 2 ≡ 1) (most : k ≤ p) (
         prepared-append [] bare r = r
         prepared-append (c ∷ cs) (more h q) r = more h (prepared-append cs q r)
 
-    -- the first cell: its sum with the others
-    pub first-sum : xorL (cellAt s sumsOf (firstCell p x y)) (xorOver s (cellAt s sumsOf) (cellsOf (lastSteps m p x y))) ≡ xorOver s (cellAt s sumsOf) (startCells p k x y)
-    unfolding startCells xorOver final ey
-    first-sum =
-        ap (λ (c : ℕ). xorL (cellAt s sumsOf c) others) first-is
-        ∙ xorL-comm (cellAt s sumsOf (place p e y)) others
-        ∙ ap (xorL others) (sym (xorL-zeros s (cellAt s sumsOf (place p e y)) first-long (cell-bytes s (place p e y) sumsOf (stripe-bytes p k s sumsOf sums-are-stripe))))
-        ∙ sym (over-append s (cellAt s sumsOf) (cellsOf (lastSteps m p x y)) (place p e y ∷ []) (λ d h. one d h))
-        ∙ ap (xorOver s (cellAt s sumsOf)) (sym (cells-append (lastSteps m p x y) (place p e y) 1 (diagonalOf p x (rowAfter m p x y ey))))
-        ∙ ap (λ (l : List CellStep). xorOver s (cellAt s sumsOf) (cellsOf l)) (sym start-is)
-        ∙ start-sum p k s x y (g .apart) x-low y-low sumsOf sums-are-stripe ((p - 1) / 2) ey ey-lt all-prepared
-        ∙ ap (λ (b : Bool). xorOver s (cellAt s sumsOf) (survivorsOf p x y (startSets (pick b p ((p - 1) / 2)) p k x y (extraRowOn p (pick b x y))))) (sym (ne-eqb y 0 (λ q. omega arith)))
-      where
-        others : List ℕ
-        others = xorOver s (cellAt s sumsOf) (cellsOf (lastSteps m p x y))
-
-        first-long : length (cellAt s sumsOf (place p e y)) ≡ s
-        first-long = cell-long s (place p e y) sumsOf (omega (arith, cell-fits (p * (k + 2)) s (place p e y) (place-below p (k + 2) e y e-lt y-low), stripe-long p k s sumsOf sums-are-stripe))
-
-        one : (d : ℕ) → isIn d (place p e y ∷ []) ≡ true → length (cellAt s sumsOf d) ≡ s
-        one d h = ⊎-elim (λ q. ap (λ (c : ℕ). length (cellAt s sumsOf c)) (eqb-true d (place p e y) q) ∙ first-long) (λ q. absurd (false≢true q)) (or-cases (eqb d (place p e y)) false h)
+    -- the XOR of the sums, put at the first cell, is the start on the stripe with the sums
+    first-started : firstAdded p s x y sumsOf ≡ started p k s x y sumsOf
+    unfolding startCells ey e
+    first-started =
+        ap (λ (l : List ℕ). withCell s (place p e y) l sumsOf)
+        (start-sum p k s x y (g .apart) x-low y-low sumsOf sums-are-stripe ((p - 1) / 2) ey ey-lt all-prepared
+        ∙ ap (λ (b : Bool). xorOver s (cellAt s sumsOf) (survivorsOf p x y (startSets (pick b p ((p - 1) / 2)) p k x y (extraRowOn p (pick b x y))))) (sym (ne-eqb y 0 (λ q. omega arith))))
+        ∙ ap (λ (c : ℕ). withCell s c (xorOver s (cellAt s sumsOf) (startCells p k x y)) sumsOf) (sym first-is)
 
     -- the walk
-    pub walk-adds : walked p k s x y t ≡ addedAll p k s x y (lastSteps m p x y) (stepsDone p k s frontSteps (started p k s x y sumsOf))
+    walk-adds : walked p k s x y t ≡ addedAll p k s x y (lastSteps m p x y) (stepsDone p k s frontSteps (started p k s x y sumsOf))
     walk-adds =
         sym (r .back sumsOf (walked p k s x y t) sums-are-stripe (r .stripe t ht) (r .cleans t ht) (λ c l nx ny. sums-off c (ap₂ _||_ (ne-eqb (diskAt p c) x nx) (ne-eqb (diskAt p c) y ny)) ∙ sym (r .off t ht c nx ny)))
         ∙ walked-steps p k s x y sumsOf
         ∙ ap (λ (l : List CellStep). stepsDone p k s l begun) data-split
         ∙ sym (steps-append p k s frontSteps (lastSteps m p x y) begun)
         ∙ steps-add p k s x y (g .apart) x-low y-low standing (stepsDone p k s frontSteps begun)
-        (steps-stripe p k s x y (standing-head p k s x y (g .apart) x-low y-low frontSteps (lastSteps m p x y) whole) begun begun-stripe)
+        (steps-stripe p k s (isLost p x y) (standing-head p k s x y (g .apart) x-low y-low frontSteps (lastSteps m p x y) whole) begun begun-stripe)
         (prepared-steps p k s x y (g .apart) x-low y-low frontSteps whole begun begun-stripe
         (prepared-off p k s x y (g .apart) x-low y-low standing (place p e y) first-stood first-lost sumsOf begun (λ d n. started-other p k s x y ok odd g hx hy sumsOf sums-are-stripe d (λ q. n (q ∙ first-is))) prepared))
       where
@@ -283,3 +270,11 @@ module _ (p k s x y : ℕ) (ok : Prime p) (odd : p % 2 ≡ 1) (most : k ≤ p) (
 
         begun-stripe : isStripe p k s begun ≡ true
         begun-stripe = started-stripe p k s x y ok odd g hx hy sumsOf sums-are-stripe
+
+    -- so it is the walk from sums
+    walk-sums : walked p k s x y t ≡ addedAll p k s x y (lastSteps m p x y) (diagonalWalk p p k s x y (extraRowOn p x) (solved s (place p (extraRowOn p x) x) (rowSet p k (extraRowOn p x)) (firstAdded p s x y sumsOf)))
+    walk-sums = walk-adds ∙ ap (addedAll p k s x y (lastSteps m p x y)) (ap (stepsDone p k s frontSteps) (sym first-started) ∙ front-walk (firstAdded p s x y sumsOf))
+
+pub sums-walk : (p k s x y : ℕ) → Prime p → p % 2 ≡ 1 → k ≤ p → Roles p x y → x < k → y < k → 1 ≤ y → (t : List ℕ) → isStripe p k s t ≡ true → walked p k s x y t ≡ sumWalked p k s x y t
+unfolding sumsOf
+sums-walk p k s x y ok odd most g hx hy low t ht = walk-sums p k s x y ok odd most g hx hy low ((p - 1) / 2 - 1) (omega (arith, ok .large)) t ht

@@ -22,8 +22,9 @@ use Rattle.liberation_stripes.specs.Stripes.{cellAt, withCell, xorOver, isStrip
 use Rattle.liberation_stripes.proofs.CellLaws.{cell-fits, length-with, cell-with, cell-other}
 use Rattle.liberation_stripes.proofs.OverLaws.{Long, over-long, over-bytes, over-ext, over-append, over-without, over-split, in-without}
 use Rattle.liberation_stripes.proofs.Solving.{cells-long, bytes-with, stripe-long, stripe-bytes, stripe-of, solved-other}
-use Rattle.liberation_pairs.specs.PairSteps.{CellStep, stepsDone, isLost, isKnown}
-use Rattle.liberation_pairs.proofs.Standing.{Stands, Standing, none, next, doneAfter, steps-stripe}
+use Rattle.liberation_stripes.specs.Steps.{CellStep, stepsDone}
+use Rattle.liberation_stripes.proofs.Standing.{Stands, Standing, none, next, doneAfter, off-known, steps-stripe}
+use Rattle.liberation_pairs.specs.PairSteps.{isLost, isKnown}
 use Rattle.liberation_pairs.proofs.Upward.{known-lost}
 use Rattle.liberation_sums.specs.Sums.{survivorsOf, placed, lostCells, summed, summedAll, added, addedAll}
 
@@ -46,15 +47,12 @@ placed-over s p f g [] = refl
 placed-over s p f g (r ∷ rs) = ap (xorL (g (place p r f))) (placed-over s p f g rs)
 
 -- a cell that is not known is lost
-unknown-lost : (p x y c : ℕ) (done : List ℕ) → isKnown p x y done c ≡ false → isLost p x y c ≡ true
-unknown-lost p x y c done h = go (isLost p x y c) h
+fresh-lost : (p x y c : ℕ) (done : List ℕ) → isKnown p x y done c ≡ false → isLost p x y c ≡ true
+fresh-lost p x y c done h = go (isLost p x y c) h
   where
     go : (t : Bool) → (not t || isIn c done) ≡ false → t ≡ true
     go true e = refl
     go false e = absurd (false≢true (sym e))
-
-pub survivor-known : (p x y c : ℕ) (done : List ℕ) → isLost p x y c ≡ false → isKnown p x y done c ≡ true
-survivor-known p x y c done e = ap (λ (t : Bool). not t || isIn c done) e
 
 pub lost-below : (n p f : ℕ) (xs : List ℕ) → 0 < p → f < n → allBelow (p * n) (placed p f (lostIn p f xs)) ≡ true
 unfolding lostIn placed
@@ -164,7 +162,7 @@ module _ (p k s x y : ℕ) (apart : x ≡ y → ⊥) (hx : x < k + 2) (hy : y < 
   sum-same c t u off = over-ext s (cellAt s t) (cellAt s u) (survivorsOf p x y (setBy c)) (λ d m. sym (off d (survivor-off p x y d (setBy c) m .0)))
 
   -- another lost cell, which stands before the steps, is written
-  pub prepared-off : {done : List ℕ} {cs : List CellStep} → Standing p k x y done cs → (z : ℕ) → isIn z done ≡ true → isLost p x y z ≡ true → (t u : List ℕ) → ((d : ℕ) → (d ≡ z → ⊥) → cellAt s u d ≡ cellAt s t d) → Prepared t cs → Prepared u cs
+  pub prepared-off : {done : List ℕ} {cs : List CellStep} → Standing p k (isLost p x y) done cs → (z : ℕ) → isIn z done ≡ true → isLost p x y z ≡ true → (t u : List ℕ) → ((d : ℕ) → (d ≡ z → ⊥) → cellAt s u d ≡ cellAt s t d) → Prepared t cs → Prepared u cs
   prepared-off none z i l t u off bare = bare
   prepared-off (next {done} {c} {cs} g ok) z i l t u off (more e rest) =
       more
@@ -174,24 +172,24 @@ module _ (p k s x y : ℕ) (apart : x ≡ y → ⊥) (hx : x < k + 2) (hy : y < 
       (prepared-off ok z (in-tail z (c .cell) done i) l t u off rest)
 
   -- the steps, each with its sum prepared, are adding steps
-  pub steps-add : {done : List ℕ} {cs : List CellStep} → Standing p k x y done cs → (t : List ℕ) → isStripe p k s t ≡ true → Prepared t cs → stepsDone p k s cs t ≡ addedAll p k s x y cs t
+  pub steps-add : {done : List ℕ} {cs : List CellStep} → Standing p k (isLost p x y) done cs → (t : List ℕ) → isStripe p k s t ≡ true → Prepared t cs → stepsDone p k s cs t ≡ addedAll p k s x y cs t
   unfolding stepsDone addedAll
   steps-add none t h bare = refl
   steps-add (next {done} {c} {cs} g ok) t h (more e rest) =
       let u = solved s (c .cell) (setBy c) t in
-      steps-add ok u (step-stripe g t h) (prepared-off ok (c .cell) (in-head (c .cell) done) (unknown-lost p x y (c .cell) done (g .fresh)) t u (step-other c (g .number-below) (g .held) t h) rest)
+      steps-add ok u (step-stripe g t h) (prepared-off ok (c .cell) (in-head (c .cell) done) (fresh-lost p x y (c .cell) done (g .fresh)) t u (step-other c (g .number-below) (g .held) t h) rest)
       ∙ ap (addedAll p k s x y cs) (step-adds c (g .number-below) (g .held) t h e)
     where
-      step-stripe : {done : List ℕ} {c : CellStep} → Stands p k x y done c → (t : List ℕ) → isStripe p k s t ≡ true → isStripe p k s (solved s (c .cell) (setBy c) t) ≡ true
-      step-stripe g t h = steps-stripe p k s x y (next g none) t h
+      step-stripe : {done : List ℕ} {c : CellStep} → Stands p k (isLost p x y) done c → (t : List ℕ) → isStripe p k s t ≡ true → isStripe p k s (solved s (c .cell) (setBy c) t) ≡ true
+      step-stripe g t h = steps-stripe p k s (isLost p x y) (next g none) t h
 
   -- steps before them
-  pub standing-tail : {done : List ℕ} (ds : List CellStep) {cs : List CellStep} → Standing p k x y done (ds ++ cs) → Standing p k x y (doneAfter done ds) cs
+  pub standing-tail : {done : List ℕ} (ds : List CellStep) {cs : List CellStep} → Standing p k (isLost p x y) done (ds ++ cs) → Standing p k (isLost p x y) (doneAfter done ds) cs
   unfolding doneAfter
   standing-tail [] ok = ok
   standing-tail (d ∷ ds) (next g ok) = standing-tail ds ok
 
-  pub standing-head : {done : List ℕ} (ds cs : List CellStep) → Standing p k x y done (ds ++ cs) → Standing p k x y done ds
+  pub standing-head : {done : List ℕ} (ds cs : List CellStep) → Standing p k (isLost p x y) done (ds ++ cs) → Standing p k (isLost p x y) done ds
   standing-head [] cs ok = none
   standing-head (d ∷ ds) cs (next g ok) = next g (standing-head ds cs ok)
 
@@ -200,21 +198,21 @@ module _ (p k s x y : ℕ) (apart : x ≡ y → ⊥) (hx : x < k + 2) (hy : y < 
   in-after z done [] h = h
   in-after z done (d ∷ ds) h = in-after z (d .cell ∷ done) ds (in-tail z (d .cell) done h)
 
-  pub prepared-steps : {done : List ℕ} (ds : List CellStep) {cs : List CellStep} → Standing p k x y done (ds ++ cs) → (t : List ℕ) → isStripe p k s t ≡ true → Prepared t cs → Prepared (stepsDone p k s ds t) cs
+  pub prepared-steps : {done : List ℕ} (ds : List CellStep) {cs : List CellStep} → Standing p k (isLost p x y) done (ds ++ cs) → (t : List ℕ) → isStripe p k s t ≡ true → Prepared t cs → Prepared (stepsDone p k s ds t) cs
   unfolding stepsDone
   prepared-steps [] ok t h r = r
   prepared-steps {done} (d ∷ ds) (next g ok) t h r =
       let u = solved s (d .cell) (setBy d) t in
-      prepared-steps ds ok u (steps-stripe p k s x y (next g none) t h)
-      (prepared-off (standing-tail ds ok) (d .cell) (in-after (d .cell) (d .cell ∷ done) ds (in-head (d .cell) done)) (unknown-lost p x y (d .cell) done (g .fresh)) t u (step-other d (g .number-below) (g .held) t h) r)
+      prepared-steps ds ok u (steps-stripe p k s (isLost p x y) (next g none) t h)
+      (prepared-off (standing-tail ds ok) (d .cell) (in-after (d .cell) (d .cell ∷ done) ds (in-head (d .cell) done)) (fresh-lost p x y (d .cell) done (g .fresh)) t u (step-other d (g .number-below) (g .held) t h) r)
 
   -- summing them: known cells are kept, and every sum is in its cell
-  pub sums-stripe : {done : List ℕ} {cs : List CellStep} → Standing p k x y done cs → (t : List ℕ) → isStripe p k s t ≡ true → isStripe p k s (summedAll p k s x y cs t) ≡ true
+  pub sums-stripe : {done : List ℕ} {cs : List CellStep} → Standing p k (isLost p x y) done cs → (t : List ℕ) → isStripe p k s t ≡ true → isStripe p k s (summedAll p k s x y cs t) ≡ true
   unfolding summedAll
   sums-stripe none t h = h
   sums-stripe (next {done} {c} {cs} g ok) t h = sums-stripe ok (summed p k s x y c t) (summed-stripe c (g .number-below) (g .held) t h)
 
-  pub sums-kept : {done : List ℕ} {cs : List CellStep} → Standing p k x y done cs → (t : List ℕ) → isStripe p k s t ≡ true → (d : ℕ) → isKnown p x y done d ≡ true → cellAt s (summedAll p k s x y cs t) d ≡ cellAt s t d
+  pub sums-kept : {done : List ℕ} {cs : List CellStep} → Standing p k (isLost p x y) done cs → (t : List ℕ) → isStripe p k s t ≡ true → (d : ℕ) → isKnown p x y done d ≡ true → cellAt s (summedAll p k s x y cs t) d ≡ cellAt s t d
   unfolding summedAll
   sums-kept none t h d e = refl
   sums-kept (next {done} {c} {cs} g ok) t h d e =
@@ -224,7 +222,7 @@ module _ (p k s x y : ℕ) (apart : x ≡ y → ⊥) (hx : x < k + 2) (hy : y < 
       lost-in : isLost p x y d ≡ true → isIn d done ≡ true
       lost-in l = sym (ap (λ (b : Bool). not b || isIn d done) l) ∙ e
 
-  pub sums-prepared : {done : List ℕ} {cs : List CellStep} → Standing p k x y done cs → (t : List ℕ) → isStripe p k s t ≡ true → Prepared (summedAll p k s x y cs t) cs
+  pub sums-prepared : {done : List ℕ} {cs : List CellStep} → Standing p k (isLost p x y) done cs → (t : List ℕ) → isStripe p k s t ≡ true → Prepared (summedAll p k s x y cs t) cs
   unfolding summedAll
   sums-prepared none t h = bare
   sums-prepared (next {done} {c} {cs} g ok) t h =
@@ -233,5 +231,5 @@ module _ (p k s x y : ℕ) (apart : x ≡ y → ⊥) (hx : x < k + 2) (hy : y < 
       more
       (sums-kept ok u hu (c .cell) (known-lost p x y (c .cell) (c .cell ∷ done) (λ l. in-head (c .cell) done))
       ∙ summed-cell c (g .number-below) (g .held) t h
-      ∙ sum-same c t (summedAll p k s x y cs u) (λ d n. sums-kept (next g ok) t h d (survivor-known p x y d done n)))
+      ∙ sum-same c t (summedAll p k s x y cs u) (λ d n. sums-kept (next g ok) t h d (off-known (isLost p x y) d done n)))
       (sums-prepared ok u hu)
