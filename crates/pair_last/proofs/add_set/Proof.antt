@@ -1,6 +1,6 @@
 -- `add_set`: the set's cells on x are pushed, then those on y; the lost cell is among them, and their XOR is put there.
 use mathlib.Core.Path.{_≡_, refl, sym}
-use Prim.Native.Nat.{ℕ, _+_, _*_, _≤_}
+use Prim.Native.Nat.{_*_, _≤_}
 use native.Mathlib.Nat.{mul-le-mul}
 use native.Mathlib.Omega.{arith}
 use lib.ListN.{length, take}
@@ -12,9 +12,9 @@ use Rattle.xor_within.specs.Beside.{Beside}
 use Rattle.offsets.specs.Offsets.{scaled, Pushed}
 use Rattle.offsets.proofs.OffsetLaws.{length-scaled}
 use Rattle.set_offsets.proofs.SetLists.{both-pushed}
-use Rattle.pair_sums.proofs.SumLists.{lost-few, add-beside, add-done}
-use Rattle.pair_sums.proofs.add_set.Statement.{statement}
-use Rattle.pair_sums.proofs.add_set.Tie as tie
+use Rattle.pair_last.proofs.LostLists.{lost-few, add-beside, add-done}
+use Rattle.pair_last.proofs.add_set.Statement.{statement}
+use Rattle.pair_last.proofs.add_set.Tie as tie
 
 push-lost-requires : tie.Need-push-lost-requires
 push-lost-requires c κs =

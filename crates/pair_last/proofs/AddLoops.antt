@@ -1,0 +1,36 @@
+-- The loop over the rows of the last steps: the rows still to come, done to the stripe as it is, give what all rows give to the stripe as it was.
+use mathlib.Core.Path.{_≡_, refl, ap, ap₂, _∙_}
+use mathlib.Core.List.{List, _∷_}
+use Prim.Native.Nat.{ℕ, zero, suc, _-_, _≤_, _<_}
+use native.Mathlib.Omega.{arith}
+use lib.ListN.{set}
+use Rattle.liberation.specs.Sets.{place}
+use Rattle.liberation.specs.Plans.{diagonalOf}
+use Rattle.liberation_stripes.specs.Steps.{cellStep}
+use Rattle.liberation_pairs.specs.Pairs.{nextRow}
+use Rattle.liberation_pairs.specs.PairSteps.{walkSteps}
+use Rattle.liberation_sums.specs.Sums.{added, addedAll}
+
+module _ (p k s x y : ℕ) where
+  -- the diagonal set of row r and the row set of the next row were added
+  pub adds-turn :
+      (n r : ℕ) (t u v : List ℕ) → 0 < n
+      → u ≡ added p k s x y (cellStep (place p (nextRow p x y r) y) 1 (diagonalOf p x r)) t
+      → v ≡ added p k s x y (cellStep (place p (nextRow p x y r) x) 0 (nextRow p x y r)) u
+      → addedAll p k s x y (walkSteps (n - 1) p x y (nextRow p x y r)) v ≡ addedAll p k s x y (walkSteps n p x y r) t
+  unfolding walkSteps addedAll
+  adds-turn zero r t u v h e q = absurd (omega arith)
+  adds-turn (suc n) r t u v h e q =
+      let m : suc n - 1 ≡ n = omega arith in
+      ap₂ (λ (i : ℕ) (l : List ℕ). addedAll p k s x y (walkSteps i p x y (nextRow p x y r)) l) m
+      (q ∙ ap (added p k s x y (cellStep (place p (nextRow p x y r) x) 0 (nextRow p x y r))) e)
+
+  pub adds-last : (n r : ℕ) (t : List ℕ) → n ≤ 0 → addedAll p k s x y (walkSteps n p x y r) t ≡ t
+  unfolding walkSteps addedAll
+  adds-last zero r t h = refl
+  adds-last (suc n) r t h = absurd (omega arith)
+
+  -- a row set before them
+  pub adds-first : (n r : ℕ) (t u v : List ℕ) → u ≡ added p k s x y (cellStep (place p r x) 0 r) t → v ≡ addedAll p k s x y (walkSteps n p x y r) u → v ≡ addedAll p k s x y (cellStep (place p r x) 0 r ∷ walkSteps n p x y r) t
+  unfolding addedAll
+  adds-first n r t u v e q = q ∙ ap (addedAll p k s x y (walkSteps n p x y r)) e

@@ -1,0 +1,2 @@
+-- What the functions of the walk from sums ask.
+pub mod Disks

@@ -1,0 +1,109 @@
+// The start of the walk from sums, over two lost data disks of which y is not disk 0: the surviving cells of the start's sets are summed into the lost cells that these sets give, and the first cell is the XOR of those.
+ghost use mathlib.Core.Path.{_≡_};
+ghost use mathlib.Core.Logic.{_⊎_};
+ghost use Prim.Native.Nat.{_+_, _-_, _*_, _/_, _%_, _≤_, _<_};
+ghost use lib.ListN.{length};
+ghost use Rattle.liberation.specs.Sets.{place};
+ghost use Rattle.liberation_stripes.specs.Steps.{cellStep};
+ghost use Rattle.liberation_sums.specs.Sums.{summed, summedAll, startSteps, cellsOf, sumStarted};
+ghost use Rattle.pair_start.specs.Disks.{Walked};
+ghost use Rattle.offsets.specs.Offsets.{scaled, Pushed};
+ghost use Rattle.pair_sums.specs.Disks.{Lost};
+
+// A lost cell becomes the XOR of the surviving cells of a set.
+fn sum_set(
+    width: usize,
+    disks: usize,
+    size: usize,
+    x: usize,
+    y: usize,
+    kind: usize,
+    number: usize,
+    disk: usize,
+    row: usize,
+    stripe: &mut [u8],
+    at: &mut [usize],
+)
+    requires { ⌜ Lost width disks size x y (now stripe) (now at) × (number < width) × (row < width) × ((disk ≡ x) ⊎ (disk ≡ y)) ⌝ }
+    ensures { λ _. ⌜ now (stripe .exit) ≡ summed width disks size x y (cellStep (place width row disk) kind number) (now (stripe .entry)) ⌝ }
+{
+    let low = set_offsets::least(x, y);
+    let n = set_offsets::surviving(width, disks, size, kind, number, low, x + y - low, at);
+    let to = (disk * width + row) * size;
+    xor_within::gather_lists(stripe, to, size, &mut at[..n]);
+}
+
+// The row set and the diagonal set of each of `count` rows, from this row on, summed into the cells that they give.
+fn sum_sets(
+    count: usize,
+    width: usize,
+    disks: usize,
+    size: usize,
+    x: usize,
+    y: usize,
+    row: usize,
+    stripe: &mut [u8],
+    at: &mut [usize],
+)
+    requires { ⌜ Lost width disks size x y (now stripe) (now at) × (row < width) ⌝ }
+    ensures { λ _. ⌜ now (stripe .exit) ≡ summedAll width disks size x y (startSteps count width x y row) (now (stripe .entry)) ⌝ }
+{
+    let mut left = count;
+    let mut on = row;
+    while 0 < left {
+        sum_set(width, disks, size, x, y, 0, on, x, on, stripe, at);
+        let number = (on + width - x) % width;
+        let next = (number + y) % width;
+        sum_set(width, disks, size, x, y, 1, number, y, next, stripe, at);
+        on = next;
+        left -= 1;
+    }
+}
+
+// The offsets of the cells that the sets of `count` rows give, from this row on; their count.
+fn push_sums(
+    count: usize,
+    width: usize,
+    size: usize,
+    x: usize,
+    y: usize,
+    row: usize,
+    at: &mut [usize],
+) -> usize
+    requires { ⌜ (width ≤ 31) × (size ≤ 4096) × (x < width) × (y < width) × (row < width) × (count ≤ 16) × (length (now at) ≡ 33) ⌝ }
+    ensures { λ r. ⌜ Pushed (now (at .entry)) (now (at .exit)) 0 r (scaled size (cellsOf (startSteps count width x y row))) ⌝ }
+{
+    let mut left = count;
+    let mut on = row;
+    let mut n = 0;
+    while 0 < left {
+        at[n] = (x * width + on) * size;
+        on = ((on + width - x) % width + y) % width;
+        at[n + 1] = (y * width + on) * size;
+        n += 2;
+        left -= 1;
+    }
+    n
+}
+
+// The start: the sets of half of the rows, from that of the extra cell on y on, summed into the cells that they give. The first cell, the last of these, becomes the XOR of them all.
+pub fn start_sums(
+    width: usize,
+    disks: usize,
+    size: usize,
+    x: usize,
+    y: usize,
+    stripe: &mut [u8],
+    at: &mut [usize],
+)
+    requires { ⌜ Lost width disks size x y (now stripe) (now at) × Walked width disks x y × (1 ≤ y) ⌝ }
+    ensures { λ _. ⌜ now (stripe .exit) ≡ sumStarted width disks size x y (now (stripe .entry)) ⌝ }
+{
+    let count = (width - 1) / 2;
+    let from = pair_start::extra_row(width, y);
+    let row = pair_start::extra_row(width, x);
+    sum_sets(count, width, disks, size, x, y, from, stripe, at);
+    let n = push_sums(count, width, size, x, y, from, at);
+    let to = (y * width + row) * size;
+    xor_within::gather_within(stripe, to, size, &at[..n]);
+}
