@@ -155,11 +155,13 @@ bool stack_is_small(void)
         exit(2);
     }
     size_t before = taken(nothing);
-    for (size_t i = 0; i < 16 * 4; i++) {
+    for (size_t i = 0; i < 16 * 5; i++) {
         size_t width = WIDTHS[i % 4];
         shape = (struct cuzhaveli_shape){width, i % 5 ? width : 2, SIZES[i / 4 % 4]};
-        lost = i / 16 == 0 ? 0 : i / 16 == 1 ? shape.disks - 1 : shape.disks;
-        other = i / 16 == 0 ? 1 : i / 16 == 1 ? 0 : i / 16 == 2 ? shape.disks + 1 : 1;
+        /* two data disks, one of them disk 0 or neither, both parity disks, a data disk and P */
+        const size_t k = shape.disks, PAIRS[][2] = {{0, 1}, {k - 1, 0}, {k - 1, 1}, {k, k + 1}, {k, 1}};
+        lost = PAIRS[i / 16][0];
+        other = PAIRS[i / 16][1];
         set_plan();
         measure(before);
     }

@@ -49,7 +49,7 @@ next-by p x y r h =
     let e : r + p - x + y ≡ r + (y + p - x) = omega arith in
     mod-add-mod (r + p - x) p y ∙ ap (λ (n : ℕ). n % p) e ∙ sym (add-mod-mod r (y + p - x) p)
 
-after-by : (n p x y r : ℕ) → x ≤ p → r < p → rowAfter n p x y r ≡ (r + diagonalOf p x y * n) % p
+pub after-by : (n p x y r : ℕ) → x ≤ p → r < p → rowAfter n p x y r ≡ (r + diagonalOf p x y * n) % p
 unfolding rowAfter
 after-by zero p x y r h l = let e : r ≡ r + diagonalOf p x y * 0 = omega arith in sym (mod-eq-of-lt l) ∙ ap (λ (n : ℕ). n % p) e
 after-by (suc n) p x y r h l =

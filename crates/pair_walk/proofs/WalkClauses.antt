@@ -1,7 +1,7 @@
 -- The loops over the rows of a disk, and the walk's clauses at a number of the code's: none left, and one less.
 use mathlib.Core.Path.{_≡_, refl, sym, ap, ap₂, _∙_}
 use mathlib.Core.List.{List}
-use Prim.Native.Nat.{ℕ, zero, suc, _+_, _-_, _≤_, _<_}
+use Prim.Native.Nat.{ℕ, zero, suc, _+_, _-_, _*_, _/_, _%_, _≤_, _<_}
 use native.Mathlib.Numerals.{add-one}
 use native.Mathlib.Omega.{arith}
 use lib.ListN.{length}
@@ -9,6 +9,7 @@ use Rattle.liberation.specs.Sets.{place, rowSet, diagonalSet}
 use Rattle.liberation.specs.Plans.{diagonalOf}
 use Rattle.liberation_stripes.specs.Stripes.{solved, followed}
 use Rattle.liberation_pairs.specs.Pairs.{upDiagonals, nextRow, diagonalWalk, rowWalk}
+use Rattle.liberation_pairs.proofs.WalkRows.{rowAfter, after-by}
 use Rattle.stripes.specs.Cells.{Sized}
 
 -- a stripe that is as long
@@ -60,3 +61,28 @@ module _ (p k s x y : ℕ) where
   row-more (suc n) r t u v h e q =
       let m : suc n - 1 ≡ n = omega arith in
       q ∙ ap₂ (λ (i : ℕ) (l : List ℕ). diagonalWalk i p k s x y r l) m e
+
+  -- the walk over m rows and what follows it
+  walk-split : (m n r : ℕ) (t : List ℕ) → diagonalWalk (2 * m + n) p k s x y r t ≡ diagonalWalk n p k s x y (rowAfter m p x y r) (diagonalWalk (2 * m) p k s x y r t)
+  unfolding diagonalWalk rowWalk rowAfter
+  walk-split zero n r t = let e : 2 * 0 + n ≡ n = omega arith in ap (λ (i : ℕ). diagonalWalk i p k s x y r t) e
+  walk-split (suc m) n r t =
+      let e : 2 * suc m + n ≡ suc (suc (2 * m + n)) = omega arith in
+      let f : 2 * suc m ≡ suc (suc (2 * m)) = omega arith in
+      ap (λ (i : ℕ). diagonalWalk i p k s x y r t) e
+      ∙ walk-split m n (nextRow p x y r) _
+      ∙ sym (ap (λ (i : ℕ). diagonalWalk n p k s x y (rowAfter m p x y (nextRow p x y r)) (diagonalWalk i p k s x y r t)) f)
+
+  -- so in two halves, the second from the row that the first one comes to
+  pub walk-halves :
+      (r : ℕ) (t u v : List ℕ) → p % 2 ≡ 1 → x ≤ p → r < p
+      → u ≡ diagonalWalk (2 * ((p - 1) / 2)) p k s x y r t
+      → v ≡ diagonalWalk (2 * ((p - 1) / 2)) p k s x y ((r + diagonalOf p x y * ((p - 1) / 2)) % p) u
+      → v ≡ diagonalWalk (2 * (p - 1)) p k s x y r t
+  walk-halves r t u v odd h l eu ev =
+      let m = (p - 1) / 2 in
+      let e : 2 * m + 2 * m ≡ 2 * (p - 1) = omega arith in
+      ev
+      ∙ ap₂ (λ (i : ℕ) (w : List ℕ). diagonalWalk (2 * m) p k s x y i w) (sym (after-by m p x y r h l)) eu
+      ∙ sym (walk-split m (2 * m) r t)
+      ∙ ap (λ (i : ℕ). diagonalWalk i p k s x y r t) e

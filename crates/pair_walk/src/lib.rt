@@ -1,11 +1,13 @@
 // Two lost disks of a stripe within its limits, rebuilt in place: document 01, "Two lost disks". The walk as two functions that call each other; its first cell is found below.
 ghost use mathlib.Core.Path.{_≡_};
+ghost use mathlib.Core.Bool.{true};
 ghost use Prim.Native.Nat.{_+_, _-_, _*_, _/_, _%_, _≤_, _<_};
 ghost use lib.ListN.{length};
-ghost use Rattle.liberation.specs.Sets.{place, rowSet};
+ghost use Rattle.liberation.specs.Sets.{isWidth, place, rowSet};
 ghost use Rattle.liberation.specs.Plans.{extraRowOn};
 ghost use Rattle.liberation_stripes.specs.Stripes.{solved, followed};
 ghost use Rattle.liberation_pairs.specs.Pairs.{otherDisk, diagonalWalk, rowWalk, comesToOne, forward, dataSolved, upDiagonals, withRowParity, withDiagonalParity, orderedSolved, pairSolved};
+ghost use Rattle.liberation_sums.specs.Sums.{sumWalked};
 ghost use Rattle.stripes.specs.Cells.{Sized};
 ghost use Rattle.pair_start.specs.Disks.{Walked};
 
@@ -121,7 +123,7 @@ fn with_diagonal_parity(width: usize, disks: usize, size: usize, disk: usize, st
     stripes::solve_diagonals(width, disks, size, stripe);
 }
 
-// Two data disks after the first cell: its row's other cell, then the walk over the other rows.
+// Two data disks after the first cell: its row's other cell, then the walk over the other rows in two halves, so that it takes half of the stack. `middle` is the row at which the second half begins.
 fn walk_disks(width: usize, disks: usize, size: usize, x: usize, y: usize, stripe: &mut [u8])
     requires { ⌜ Sized width disks size (now stripe) ⌝ }
     requires { ⌜ Walked width disks x y ⌝ }
@@ -131,19 +133,40 @@ fn walk_disks(width: usize, disks: usize, size: usize, x: usize, y: usize, strip
     let other = pair_start::other_disk(x, y);
     let mut at = offsets::no_offsets();
     stripes::solve_by(width, disks, size, 0, row, other, row, stripe, &mut at);
-    let missing = 2 * (width - 1);
-    diagonal_step(missing, width, disks, size, x, y, row, stripe, &mut at);
+    let half = (width - 1) / 2;
+    let middle = (row + (y + width - x) % width * half) % width;
+    diagonal_step(2 * half, width, disks, size, x, y, row, stripe, &mut at);
+    diagonal_step(2 * half, width, disks, size, x, y, middle, stripe, &mut at);
 }
 
-// Two data disks a < b, walked in the order in which the walk goes through. The first cell is found here, so that its table is off the stack when the walk begins.
+// Two data disks, y not disk 0: the walk from sums. Its start leaves in half of the rows the sums of their sets' surviving cells, so the walk ends with the first of these rows and the last steps add.
+fn walk_sums(width: usize, disks: usize, size: usize, x: usize, y: usize, stripe: &mut [u8])
+    requires { ⌜ Sized width disks size (now stripe) ⌝ }
+    requires { ⌜ Walked width disks x y × (1 ≤ y) ⌝ }
+    ensures { λ _. ⌜ now (stripe .exit) ≡ sumWalked width disks size x y (now (stripe .entry)) ⌝ }
+{
+    let row = pair_start::extra_row(width, x);
+    let from = pair_start::extra_row(width, y);
+    let mut at = offsets::no_offsets();
+    pair_sums::start_sums(width, disks, size, x, y, stripe, &mut at);
+    stripes::solve_by(width, disks, size, 0, row, x, row, stripe, &mut at);
+    diagonal_step(width, width, disks, size, x, y, row, stripe, &mut at);
+    let rows = (width - 1) / 2 - 1;
+    pair_last::add_last(rows, width, disks, size, x, y, from, stripe, &mut at);
+}
+
+// Two data disks a < b, walked in the order in which the walk goes through: from sums, or to disk 0 from the first cell alone.
 fn solve_data(width: usize, disks: usize, size: usize, a: usize, b: usize, stripe: &mut [u8])
     requires { ⌜ Sized width disks size (now stripe) ⌝ }
-    requires { ⌜ (width % 2 ≡ 1) × (a < b) × (b < disks) ⌝ }
+    requires { ⌜ (isWidth width ≡ true) × (a < b) × (b < disks) ⌝ }
     ensures { λ _. ⌜ now (stripe .exit) ≡ dataSolved width disks size a b (now (stripe .entry)) ⌝ }
 {
     if goes_forward(width, a, b) {
-        pair_start::start(width, disks, size, a, b, stripe);
-        walk_disks(width, disks, size, a, b, stripe);
+        walk_sums(width, disks, size, a, b, stripe);
+        return;
+    }
+    if 0 < a {
+        walk_sums(width, disks, size, b, a, stripe);
         return;
     }
     pair_start::start(width, disks, size, b, a, stripe);
@@ -153,7 +176,7 @@ fn solve_data(width: usize, disks: usize, size: usize, a: usize, b: usize, strip
 // Two disks a < b: two data disks, a data disk and P, or Q and another.
 fn solve_ordered(width: usize, disks: usize, size: usize, a: usize, b: usize, stripe: &mut [u8])
     requires { ⌜ Sized width disks size (now stripe) ⌝ }
-    requires { ⌜ (width % 2 ≡ 1) × (a < b) × (b ≤ disks + 1) ⌝ }
+    requires { ⌜ (isWidth width ≡ true) × (a < b) × (b ≤ disks + 1) ⌝ }
     ensures { λ _. ⌜ now (stripe .exit) ≡ orderedSolved width disks size a b (now (stripe .entry)) ⌝ }
 {
     if b < disks {
@@ -177,7 +200,7 @@ pub fn solve_pair(
     stripe: &mut [u8],
 )
     requires { ⌜ Sized width disks size (now stripe) ⌝ }
-    requires { ⌜ (width % 2 ≡ 1) × (first ≤ disks + 1) × (second ≤ disks + 1) × (first ≡ second → ⊥) ⌝ }
+    requires { ⌜ (isWidth width ≡ true) × (first ≤ disks + 1) × (second ≤ disks + 1) × (first ≡ second → ⊥) ⌝ }
     ensures { λ _. ⌜ now (stripe .exit) ≡ pairSolved width disks size first second (now (stripe .entry)) ⌝ }
 {
     if first < second {

@@ -2,14 +2,14 @@
 use mathlib.Core.Path.{_≡_, sym, _∙_}
 use mathlib.Core.Bool.{true}
 use mathlib.Core.List.{List}
-use Prim.Native.Nat.{ℕ, _+_, _%_, _≤_}
+use Prim.Native.Nat.{ℕ, _+_, _≤_}
 use lib.Dec.{eqb, ltb}
 use borrow.Author.Tests.{ltb-false, eqb-false}
 use Rattle.laws.specs.Choice.{when, firstOf}
 use Rattle.laws.specs.Xor.{allBytes}
 use Rattle.laws.proofs.ChoiceLaws.{first-none, when-none, pick-refused, pick-done}
 use Rattle.liberation.specs.Sets.{isWidth, numbersFault, diskFault, longFault}
-use Rattle.liberation.proofs.Widths.{width-most, width-odd}
+use Rattle.liberation.proofs.Widths.{width-most}
 use Rattle.liberation.proofs.FaultLaws.{numbers-of, long-of}
 use Rattle.refusals.specs.declared.Answer.{Answer}
 use Rattle.refusals.specs.Answers.{Answers}
@@ -23,7 +23,6 @@ use Rattle.rebuild_two.specs.Says.{twoFault, TwoSays}
 pub record Accepted (p k s a b : ℕ) (t : List ℕ) : Type 0 where
   pub width : isWidth p ≡ true
   pub sized : Sized p k s t
-  pub odd : p % 2 ≡ 1
   pub first : a ≤ k + 1
   pub second : b ≤ k + 1
   pub apart : a ≡ b → ⊥
@@ -45,7 +44,6 @@ fault-none p k s a b t e =
         small = q .2;
         long = long-of (stripeLong p k s) t (h .1);
       };
-      odd = width-odd p (q .0);
       first = q .3;
       second = ltb-false (k + 1) b (when-none (ltb (k + 1) b) 2 (g .0));
       apart = eqb-false a b (when-none (eqb a b) 3 (h .0));

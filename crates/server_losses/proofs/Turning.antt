@@ -3,7 +3,7 @@ use mathlib.Core.Path.{_≡_, refl, sym, ap, ap₂, _∙_}
 use mathlib.Core.Bool.{Bool, true}
 use mathlib.Core.Logic.{_⊎_, ⊎-elim}
 use mathlib.Core.List.{List}
-use Prim.Native.Nat.{ℕ, suc, _+_, _*_, _%_, _≤_, _<_}
+use Prim.Native.Nat.{ℕ, suc, _+_, _≤_, _<_}
 use native.Mathlib.Numerals.{add-one}
 use native.Mathlib.Omega.{arith}
 use lib.ListN.{length}
@@ -12,7 +12,7 @@ use Rattle.laws.specs.Choice.{pick}
 use Rattle.laws.proofs.OrderLaws.{eq-or-ne}
 use Rattle.liberation.specs.Sets.{isWidth, arrayFault, planFault}
 use Rattle.liberation.specs.Plans.{planOf}
-use Rattle.liberation.proofs.Widths.{width-odd, width-most}
+use Rattle.liberation.proofs.Widths.{width-most}
 use Rattle.liberation.proofs.FaultLaws.{array-of, array-none, plan-none}
 use Rattle.liberation_stripes.specs.Stripes.{withCell, stripeLong, followed}
 use Rattle.liberation_stripes.proofs.CellLaws.{cell-fits}
@@ -82,10 +82,10 @@ module _ (a b d : ℕ) (e : d ≡ onlyLoss a b) where
       go (first-is x y w) = first-lost p k s a b t u x y (q ∙ sym (ap (λ (f : ℕ). followed p k s f (planOf p k f) t) w))
       go (second-is x y w) = second-lost p k s a b t u x y (q ∙ sym (ap (λ (f : ℕ). followed p k s f (planOf p k f) t) w))
 
-pub both-disks : (p k a b : ℕ) → arrayFault p k ≡ 0 → pairFault k a b ≡ 0 → (a ≡ 255 → ⊥) → (b ≡ 255 → ⊥) → (p % 2 ≡ 1) × (a ≤ k + 1) × (b ≤ k + 1) × (a ≡ b → ⊥)
+pub both-disks : (p k a b : ℕ) → arrayFault p k ≡ 0 → pairFault k a b ≡ 0 → (a ≡ 255 → ⊥) → (b ≡ 255 → ⊥) → (isWidth p ≡ true) × (a ≤ k + 1) × (b ≤ k + 1) × (a ≡ b → ⊥)
 both-disks p k a b array pair na nb =
     let l = losses-of k a b pair in
-    (width-odd p (array-of p k array .0), l .first (lost-true a na), l .second (lost-true b nb), l .apart (lost-true a na))
+    (array-of p k array .0, l .first (lost-true a na), l .second (lost-true b nb), l .apart (lost-true a na))
 
 -- the turn of the lost server j, and of another one
 module _ (p k s j i : ℕ) (ls ts : List ℕ) where

@@ -35,7 +35,7 @@ solve-pair-requires c κs =
     let i = c .before in
     let a = i .before .before .before .args in
     let q = fault-none (a .shape .width) (a .shape .disks) (a .shape .«cell_size») (a .first) (a .second) (a .stripe .now) (passed i) in
-    (q .sized, (q .odd, q .first, q .second, q .apart))
+    (q .sized, (q .width, q .first, q .second, q .apart))
 
 answered-requires-2 : tie.Need-answered-requires-2
 answered-requires-2 c κs = search needs
