@@ -18,7 +18,7 @@ use Rattle.liberation_sums.proofs.Adding.{lost-below}
 use Rattle.xor.specs.Parts.{withPart, xorOffsets}
 use Rattle.xor_within.specs.Beside.{Beside}
 use Rattle.offsets.specs.Offsets.{scaled, cellsFrom, Pushed}
-use Rattle.offsets.proofs.PushLaws.{walk-long}
+use Rattle.laws.proofs.Walks.{walk-long}
 use Rattle.offsets.proofs.KeptLaws.{cell-walk}
 use Rattle.offsets.proofs.OffsetLaws.{over-offsets}
 use Rattle.set_offsets.proofs.SetLists.{one-pushed, both-pushed, data-count}
