@@ -22,14 +22,14 @@ use Rattle.liberation.proofs.SetLaws.{lost-below, in-surviving, set-below, surv
 use Rattle.liberation.proofs.AcceptedLaws.{Passes, accepted-passes}
 use Rattle.liberation.proofs.RowLaws.{uses-all}
 use Rattle.liberation.proofs.ParityPlans.{rows-accepted, diagonals-accepted}
-use Rattle.liberation_stripes.specs.Stripes.{cellAt, xorOver, isStripe, clean, followed}
+use Rattle.liberation_stripes.specs.Stripes.{cellAt, xorOver, isStripe, clean, followed, columnOf, rebuilt}
 use Rattle.liberation_stripes.proofs.CellLaws.{cell-fits, cell-long}
 use Rattle.liberation_stripes.proofs.OverLaws.{Long, over-long, over-bytes, over-ext, over-append, over-split}
 use Rattle.liberation_stripes.proofs.Solving.{cells-long, stripe-long, SetZero, clean-at, clean-of}
 use Rattle.liberation_stripes.proofs.Following.{followed-stripe, followed-off, followed-zero}
 use Rattle.liberation_survivors.specs.Survivors.{withRebuilt, fits, rowSets, equation, equationHolds, equationsHold}
 use Rattle.liberation_survivors.specs.Explained.{Explains}
-use Rattle.liberation_survivors.proofs.Explaining.{fits-explains, explains-fits}
+use Rattle.liberation_survivors.proofs.Explaining.{fits-explains, explains-column, explains-fits}
 use Rattle.liberation_survivors.proofs.EquationCells.{row-sets-below, last-or, equation-last, equation-other, equation-below, equation-lost}
 
 -- a list of cells twice over has XOR zero
@@ -131,14 +131,12 @@ module _ (p k s d : ℕ) (disk : d < k + 2) (t : List ℕ) (stripe : isStripe p 
     filled-explains c = record { stripe = filled-stripe; cleans = c; alike = λ x m n. filled-alike x n }
 
   -- a data disk or P by the row sets: as the equations hold, the diagonal sets are zero
-  rows-explain : equationsHold p k s d t ≡ true → d ≤ k → (u : List ℕ) × Explains p k s d t u
+  rows-explain : equationsHold p k s d t ≡ true → d ≤ k → Explains p k s d t (followed p k s d (allOf p 0 0) t)
   rows-explain all h =
       let ok = rows-accepted p k d h in
-      let v = filled all 0 ok in (
-        v,
-        filled-explains all 0 ok
-            (clean-of p k s v (filled-zero all 0 ok) (λ i l. sym (equation-diagonal p k s v (filled-stripe all 0 ok) (filled-zero all 0 ok) d i h l) ∙ filled-equation all 0 ok i l)),
-      )
+      let v = filled all 0 ok in
+      filled-explains all 0 ok
+      (clean-of p k s v (filled-zero all 0 ok) (λ i l. sym (equation-diagonal p k s v (filled-stripe all 0 ok) (filled-zero all 0 ok) d i h l) ∙ filled-equation all 0 ok i l))
 
   -- Q by the diagonal sets: its equations are the row sets
   diagonals-explain : equationsHold p k s d t ≡ true → d ≡ suc k → (u : List ℕ) × Explains p k s d t u
@@ -152,7 +150,7 @@ module _ (p k s d : ℕ) (disk : d < k + 2) (t : List ℕ) (stripe : isStripe p 
 
   -- and survivors of which they hold are those of a clean stripe, for every p and k
   pub equations-explain : equationsHold p k s d t ≡ true → (u : List ℕ) × Explains p k s d t u
-  equations-explain all = ⊎-elim (λ e. diagonals-explain all e) (λ h. rows-explain all h) (last-or k d disk)
+  equations-explain all = ⊎-elim (λ e. diagonals-explain all e) (λ h. (followed p k s d (allOf p 0 0) t, rows-explain all h)) (last-or k d disk)
 
 -- for every width and every disk
 pub fits-equations : (p k s d : ℕ) → isWidth p ≡ true → k ≤ p → d < k + 2 → (t : List ℕ) → isStripe p k s t ≡ true → fits p k s d t ≡ equationsHold p k s d t
@@ -160,3 +158,9 @@ fits-equations p k s d width most disk t stripe =
     same-flag (fits p k s d t) (equationsHold p k s d t)
     (λ h. explains-equations p k s d disk t stripe (withRebuilt p k s d t) (fits-explains p k s d width most disk t stripe h))
     (λ h. let w = equations-explain p k s d disk t stripe h in explains-fits p k s d width most disk t stripe (w .0) (w .1))
+
+-- a data disk or P that fits is what all row sets give: what they leave is a clean stripe, and only one is t off the disk
+pub fits-rows : (p k s d : ℕ) → isWidth p ≡ true → k ≤ p → d ≤ k → (t : List ℕ) → isStripe p k s t ≡ true → fits p k s d t ≡ true → columnOf p s d (followed p k s d (allOf p 0 0) t) ≡ rebuilt p k s d t
+fits-rows p k s d width most low t stripe h =
+    let disk : d < k + 2 = omega arith in
+    explains-column p k s d width most disk t stripe (followed p k s d (allOf p 0 0) t) (rows-explain p k s d disk t stripe (sym (fits-equations p k s d width most disk t stripe) ∙ h) low)
