@@ -5,9 +5,10 @@ use mathlib.Core.List.{List}
 use Prim.Native.Nat.{ℕ, _+_, _<_}
 use native.Mathlib.Omega.{arith}
 use lib.ListN.{length}
+use borrow.Author.Tests.{not-false}
 use Rattle.laws.specs.Choice.{firstOf, when}
 use Rattle.laws.specs.Xor.{allBytes}
-use Rattle.laws.proofs.ChoiceLaws.{first-next, first-none, pick-refused, pick-done}
+use Rattle.laws.proofs.ChoiceLaws.{first-next, first-none, when-none, pick-refused, pick-done}
 use Rattle.liberation.specs.Sets.{isWidth}
 use Rattle.liberation.proofs.Widths.{width-most}
 use Rattle.liberation_stripes.specs.Stripes.{rebuilt}
@@ -30,9 +31,11 @@ test-asks p k s f m t e =
 pub test-says : (p k s f m : ℕ) (t : List ℕ) (b : Bool) (n : ℕ) → lengthsFault p k s f (length t) m ≡ 0 → b ≡ fits p k s f t → n ≡ when (not b) 19 → n ≡ firstOf (lengthsFault p k s f (length t) m) (when (not (fits p k s f t)) 19)
 test-says p k s f m t b n z e q = first-next n (lengthsFault p k s f (length t) m) (when (not (fits p k s f t)) 19) z (q ∙ ap (λ (c : Bool). when (not c) 19) e)
 
--- an accepted call is one that `rebuild_one` accepts
-pub untested : (p k s f : ℕ) (t o : List ℕ) → testedFault p k s f t o ≡ 0 → oneFault p k s f t o ≡ 0
-untested p k s f t o e = first-none (oneFault p k s f t o) (when (not (fits p k s f t)) 19) e .0
+-- an accepted call is one that `rebuild_one` accepts, and its survivors fit
+pub tested : (p k s f : ℕ) (t o : List ℕ) → testedFault p k s f t o ≡ 0 → (oneFault p k s f t o ≡ 0) × (fits p k s f t ≡ true)
+tested p k s f t o e =
+    let q = first-none (oneFault p k s f t o) (when (not (fits p k s f t)) 19) e in
+    (q .0, not-false (fits p k s f t) (when-none (not (fits p k s f t)) 18 (q .1)))
 
 pub refused : (p k s f n : ℕ) (t o : List ℕ) (r : Answer) → n ≡ testedFault p k s f t o → (n ≡ 0 → ⊥) → Answers n r → allBytes t ≡ true → TestedSays p k s f t o o r
 refused p k s f n t o r e z a b =

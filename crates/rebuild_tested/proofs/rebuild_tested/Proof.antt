@@ -1,10 +1,10 @@
--- `rebuild_tested`: a refusal leaves the column as it was; else the disk is rebuilt.
+-- `rebuild_tested`: a refusal leaves the column as it was; else the survivors fit, and the disk is rebuilt.
 use mathlib.Core.Path.{_≡_, sym, _∙_}
 use mathlib.Core.Bool.{true}
 use Rattle.laws.specs.Xor.{allBytes}
 use Rattle.xor.proofs.SourceLaws.{bytes-all}
 use Rattle.rebuild_tested.specs.Says.{testedFault}
-use Rattle.rebuild_tested.proofs.TestedRefusals.{untested, refused, accepted}
+use Rattle.rebuild_tested.proofs.TestedRefusals.{tested, refused, accepted}
 use borrow.Author.Needs.{needs}
 use Rattle.rebuild_tested.proofs.rebuild_tested.Statement.{statement}
 use Rattle.rebuild_tested.proofs.rebuild_tested.Tie as tie
@@ -30,11 +30,11 @@ returns c =
     let a = i .before .before .before .before .args in
     refused (a .shape .width) (a .shape .disks) (a .shape .«cell_size») (a .lost) (f .result) (a .stripe .now) (a .column .now) (c .answered .result) (f .ensures) (i .if1 .taken) (c .answered .ensures) (bytes (i .before .before .before))
 
-rebuild-column-requires : tie.Need-rebuild-column-requires
-rebuild-column-requires c κs =
+tested-column-requires : tie.Need-tested-column-requires
+tested-column-requires c κs =
     let i = c .before in
     let a = i .before .before .before .before .args in
-    untested (a .shape .width) (a .shape .disks) (a .shape .«cell_size») (a .lost) (a .stripe .now) (a .column .now) (passed i)
+    tested (a .shape .width) (a .shape .disks) (a .shape .«cell_size») (a .lost) (a .stripe .now) (a .column .now) (passed i)
 
 answered-requires-2 : tie.Need-answered-requires-2
 answered-requires-2 c κs = search needs
@@ -47,7 +47,7 @@ returns-2 c =
     let g = c .before .before .before in
     let i = g .before .before in
     let a = i .before .before .before .before .args in
-    accepted (a .shape .width) (a .shape .disks) (a .shape .«cell_size») (a .lost) (a .stripe .now) (a .column .now) (g .rebuild-column .last .1 .1 .1 .1 .1 .0) (c .answered2 .result) (passed i) (g .rebuild-column .ensures) (c .answered2 .ensures) (bytes (i .before .before .before))
+    accepted (a .shape .width) (a .shape .disks) (a .shape .«cell_size») (a .lost) (a .stripe .now) (a .column .now) (g .tested-column .last .1 .1 .1 .1 .1 .0) (c .answered2 .result) (passed i) (g .tested-column .ensures) (c .answered2 .ensures) (bytes (i .before .before .before))
 
 pub rebuild-tested-spec : {M : Type 1} → statement M
-rebuild-tested-spec = tie.close (tie.spec tested-fault-requires answered-requires returns rebuild-column-requires answered-requires-2 same-length returns-2)
+rebuild-tested-spec = tie.close (tie.spec tested-fault-requires answered-requires returns tested-column-requires answered-requires-2 same-length returns-2)
