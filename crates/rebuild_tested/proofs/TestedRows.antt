@@ -13,7 +13,7 @@ use Rattle.liberation_stripes.specs.Stripes.{stripeLong, followed, columnOf, wi
 use Rattle.liberation_stripes.proofs.CellLaws.{cell-fits, column-with}
 use Rattle.liberation_stripes.proofs.Solving.{stripe-of}
 use Rattle.liberation_survivors.specs.Survivors.{fits}
-use Rattle.liberation_survivors.proofs.Balancing.{fits-rows}
+use Rattle.liberation_survivors.proofs.EquationLaws.{fits-rows}
 use Rattle.xor.specs.Parts.{xorOffsets}
 use Rattle.xor.specs.Reach.{Reached}
 use Rattle.xor.proofs.BlockLaws.{offsets-long}
