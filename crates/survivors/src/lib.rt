@@ -94,12 +94,12 @@ fn push_equation(
     push_rows(width, disks, size, disk, number, at, n)
 }
 
-// Is the XOR of the parts of n bytes zero? What is shorter than a stretch goes block by block at once.
+// Is the XOR of the parts of n bytes zero? What is shorter than a stretch goes block by block at once, and so do the few parts of an equation of a narrow array: a second pass over a stretch takes longer.
 fn is_zero(stripe: &[u8], n: usize, at: &[usize]) -> bool
     requires { ⌜ (n ≤ length (now stripe)) × Reached n (length (now stripe)) (now at) ⌝ }
     ensures { λ r. ⌜ r ≡ same (xorOffsets n (now (stripe .entry)) (now (at .entry))) (replicate n 0) ⌝ }
 {
-    if n < 2048 {
+    if n < 2048 || at.len() < 16 {
         return xor_zero::blocks_are_zero(stripe, n, at);
     }
     xor_zero::is_zero(stripe, n, at)
