@@ -41,11 +41,11 @@ list c =
     let a = o .args in
     row-pushed (a .width) (a .disks) (a .size) (a .disk) (o .pre .1) (o .pre .2) (u .push .ensures) (c .push-row .ensures) .list
 
-slice-aggregate-gather : tie.Need-slice-aggregate-gather
-slice-aggregate-gather c = sym (long (c .before .before .before))
+slice-aggregate-gather-stretches : tie.Need-slice-aggregate-gather-stretches
+slice-aggregate-gather-stretches c = sym (long (c .before .before .before))
 
-gather-requires : tie.Need-gather-requires
-gather-requires c κs =
+gather-stretches-requires : tie.Need-gather-stretches-requires
+gather-stretches-requires c κs =
     let v = c .before .before .before in
     let o = v .before .before .before .before .before .before .before .before in
     let a = o .args in
@@ -56,7 +56,7 @@ gather-requires c κs =
 
 returns : tie.Need-returns
 returns c =
-    let g = c .before .before .gather in
+    let g = c .before .before .gather-stretches in
     let v = c .before .before .before .before .before .before in
     let o = v .before .before .before .before .before .before .before .before in
     let a = o .args in
@@ -74,7 +74,7 @@ column-by-rows-spec =
     (λ c. search needs)
     push-row-requires
     (λ c. search needs)
-    slice-aggregate-gather
-    gather-requires
+    slice-aggregate-gather-stretches
+    gather-stretches-requires
     (λ c. search needs)
     returns)
