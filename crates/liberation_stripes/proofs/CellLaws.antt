@@ -7,8 +7,9 @@ use Prim.Native.Nat.{ℕ, zero, suc, _+_, _-_, _*_, _≤_, _<_}
 use native.Mathlib.Nat.{mod-lt, mul-le-mul-right}
 use native.Mathlib.Omega.{arith}
 use lib.ListN.{length, take, drop, length-append, length-take, length-drop, take-append-drop}
-use lib.Seq.{length-take-le, take-at, drop-at, drop-drop, take-take, take-append-le, drop-append-le, take-append-add, drop-append-add}
+use lib.Seq.{length-take-le, take-at, drop-at, drop-drop, take-append-le, drop-append-le, take-append-add, drop-append-add}
 use Rattle.laws.proofs.OrderLaws.{lt-or-gt}
+use Rattle.laws.proofs.ListLaws.{part-front}
 use Rattle.liberation.specs.Sets.{place, rowAt, diskAt}
 use Rattle.liberation.proofs.SetLaws.{place-of}
 use Rattle.liberation_stripes.specs.Stripes.{cellAt, withCell, columnOf, withColumn}
@@ -19,13 +20,6 @@ cut-whole a n t =
     ap (λ (l : List ℕ). take a t ++ (take n (drop a t) ++ l)) (sym (drop-drop n a t))
     ∙ ap (λ (l : List ℕ). take a t ++ l) (take-append-drop n (drop a t))
     ∙ take-append-drop a t
-
--- a part that lies within the front
-pub part-front : (a n b : ℕ) (t : List ℕ) → a + n ≤ b → take n (drop a (take b t)) ≡ take n (drop a t)
-part-front zero n b t h = take-take n b t (omega arith)
-part-front (suc a) n zero t h = absurd (omega arith)
-part-front (suc a) n (suc b) [] h = refl
-part-front (suc a) n (suc b) (x ∷ t) h = part-front a n b t (omega arith)
 
 pub cell-fits : (n s x : ℕ) → x < n → x * s + s ≤ n * s
 cell-fits n s x h = omega (arith, mul-le-mul-right s h)

@@ -16,7 +16,7 @@ use Rattle.laws.specs.Lists.{isIn}
 use Rattle.laws.specs.Xor.{xorL, allBytes}
 use Rattle.laws.proofs.Flags.{same-flag, or-r}
 use Rattle.laws.proofs.OrderLaws.{lt-or-le}
-use Rattle.laws.proofs.ListLaws.{isIn-append, take-replicate}
+use Rattle.laws.proofs.ListLaws.{isIn-append, take-replicate, part-front}
 use Rattle.laws.proofs.LengthLaws.{drop-replicate}
 use Rattle.laws.proofs.ByteLaws.{bytes-append, bytes-take, bytes-drop}
 use Rattle.laws.proofs.XorLaws.{zero-xorL, zeros-bytes}
@@ -28,7 +28,7 @@ use Rattle.liberation.proofs.PlaceLaws.{some-row, disk-below}
 use Rattle.liberation.proofs.PartLaws.{full-data, full-parity}
 use Rattle.liberation_stripes.specs.Stripes.{cellAt, xorOver, isStripe, clean, encoded}
 use Rattle.liberation_stripes.specs.Widened.{widened}
-use Rattle.liberation_stripes.proofs.CellLaws.{part-front, cell-fits}
+use Rattle.liberation_stripes.proofs.CellLaws.{cell-fits}
 use Rattle.liberation_stripes.proofs.OverLaws.{Long, over-long, over-bytes}
 use Rattle.liberation_stripes.proofs.Solving.{cells-long, stripe-long, stripe-bytes, stripe-of, clean-at, clean-of}
 use Rattle.liberation_stripes.proofs.Encoding.{encoded-stripe, encoded-data, encoded-clean, encoded-only}
