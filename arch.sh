@@ -29,6 +29,10 @@ chmod +x "$tools/bin/clang"
 name=cuzhaveli
 set -- --crate-name $name "$PWD/crates/$name/src/lib.rt" --extern "std=$own/rlib/std.rlib"
 for crate in $(sed -n "s/^$name://p" crates.txt); do
+    if [ ! -d "crates/$crate" ]; then
+        set -- "$@" --extern "$crate=$own/rlib/$crate.rlib" # a library of the kit
+        continue
+    fi
     [ -d "target/rlib/$crate.rlib" ] || die "the crate $crate is not proved yet; run make first"
     set -- "$@" --extern "$crate=$PWD/target/rlib/$crate.rlib"
 done
