@@ -38,16 +38,18 @@ all: $(archives) $(tool) $(for_arch)
 
 ifeq ($(LIB),)
 $(shell [ ! -e build/from-lib ] || rm -f $(archives) build/from-lib) # archives that LIB= brought are not built ones
-build/lib%.a: crates.txt $(shell find crates -name '*.rt' -o -name '*.antt')
+build/libcuzhaveli.a: archive.sh crates.txt $(shell find crates -name '*.rt' -o -name '*.antt')
 	@command -v rt >/dev/null || { echo "make: the library is built by the Rattle kit, whose command rt is not on PATH; install the kit, or take a ready archive: make LIB=FILE" >&2; exit 1; }
-	@echo "make: proving and compiling $*: 3 to 5 minutes on two cores the first time, then only what changed; build/$*.log says how far"
+	@echo "make: proving and compiling: 3 to 5 minutes on two cores the first time, then only what changed; build/archive.log says how far"
 	@mkdir -p build
-	@rt staticlib $* >build/$*.log 2>&1 || { tail -n 20 build/$*.log >&2; echo "make: $@ was not built; the lines above are the end of build/$*.log" >&2; exit 1; }
-	@cp target/staticlib/lib$*.a $@
+	@./archive.sh build >build/archive.log 2>&1 || { tail -n 20 build/archive.log >&2; echo "make: $@ was not built; the lines above are the end of build/archive.log" >&2; exit 1; }
 	@echo "make: wrote $@"
 build/libcuzhaveli_plans.a: build/libcuzhaveli.a
-build/libcuzhaveli-%.a: build/libcuzhaveli.a arch.sh
-	@./arch.sh $* $(CURDIR)/$@ >build/$*.log 2>&1 || { tail -n 20 build/$*.log >&2; echo "make: $@ was not built; the lines above are the end of build/$*.log" >&2; exit 1; }
+	@[ -f $@ ] || cp build/members/cuzhaveli_plans.a $@
+	@echo "make: wrote $@"
+build/libcuzhaveli-%.a: build/libcuzhaveli.a
+	@./archive.sh build/for-$* $* >build/$*.log 2>&1 || { tail -n 20 build/$*.log >&2; echo "make: $@ was not built; the lines above are the end of build/$*.log" >&2; exit 1; }
+	@cp build/for-$*/libcuzhaveli.a $@
 	@echo "make: wrote $@"
 else
 build/lib%.a: FORCE

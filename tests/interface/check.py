@@ -5,11 +5,11 @@ Usage: tests/interface/check.py ARCHIVES FOLDER BOUNDARY
   ARCHIVES: the folder of libcuzhaveli.a and libcuzhaveli_plans.a; FOLDER: an existing folder for
   what is compiled; BOUNDARY: what tests/boundary printed.
 
-The exports of crates/cuzhaveli/src/lib.rt and the #[repr(C)] structs that they use are the
+The exports of crates/cuzhaveli_*/src/lib.rt and the #[repr(C)] structs that they use are the
 reference. include/cuzhaveli.h and rust/cuzhaveli/src/ffi.rs must declare the same calls and
 structs, with the same sizes and offsets; libcuzhaveli.a must define exactly these calls, and
-libcuzhaveli_plans.a those of crates/cuzhaveli_plans, which must be among them; an archive must hold
-no data and need nothing but memcpy and memset; the refusals must have one set of names and
+libcuzhaveli_plans.a those of crates/cuzhaveli_plans; an archive must hold no data and need nothing
+but memcpy and memset; the refusals must have one set of names and
 numbers in the header, the crate and the documents; the refusals that the header names for a
 call must be those that it gave in the random calls; header and Makefile must have one version;
 theorems that documents name must be there.
@@ -23,7 +23,7 @@ import subprocess
 import sys
 
 TOP = pathlib.Path(__file__).resolve().parents[2]
-EXPORTS = TOP / "crates/cuzhaveli/src/lib.rt"
+EXPORTS = sorted(TOP.glob("crates/cuzhaveli_*/src/lib.rt"))
 PLANS = TOP / "crates/cuzhaveli_plans/src/lib.rt"
 HEADER = TOP / "include/cuzhaveli.h"
 FFI = TOP / "rust/cuzhaveli/src/ffi.rs"
@@ -80,11 +80,14 @@ def rattle_parameters(items):
             yield name, pointer + lent[2]
 
 
-def read_exports(path):
+def read_exports(paths):
     pattern = r'#\[no_mangle\]\s*pub extern "C" fn (\w+)\s*\(([^)]*)\)\s*->\s*(\w+)'
     calls = {}
-    for name, parameters, result in re.findall(pattern, without_comments(path.read_text())):
-        calls[name] = list(rattle_parameters(split_list(parameters))) + [("", result)]
+    for path in paths:
+        for name, parameters, result in re.findall(pattern, without_comments(path.read_text())):
+            if name in calls:
+                differs(f"a second export {name}", path, "keep one of the two: the members of an archive have each name once")
+            calls[name] = list(rattle_parameters(split_list(parameters))) + [("", result)]
     return calls
 
 
@@ -159,7 +162,7 @@ def compare(what, wanted, given, where):
     for name in wanted.keys() - given.keys():
         differs(f"{what} {name} of the proved source is not declared", where, "declare it there")
     for name in given.keys() - wanted.keys():
-        differs(f"{what} {name} is declared, and no export has it", where, f"take it out, or export it in {EXPORTS}")
+        differs(f"{what} {name} is declared, and no export has it", where, "take it out, or export it in one of crates/cuzhaveli_*")
     for name in wanted.keys() & given.keys():
         if wanted[name] != given[name]:
             differs(f"{what} {name}: {given[name]}\n  proved: {wanted[name]}", where, "declare it as the proved source does")
@@ -331,8 +334,7 @@ def main():
         compare("struct", structs, given_structs, path)
     check_header(structs, folder)
     fields = check_layout(structs, folder)
-    plans = read_exports(PLANS)
-    compare("call", {name: call for name, call in calls.items() if name in plans}, plans, PLANS)
+    plans = read_exports([PLANS])
     symbols = check_archive(calls, library) + check_archive(plans, plans_library)
     refusals = check_refusals()
     check_version()

@@ -1,10 +1,12 @@
-// The calls on plans alone, for C and Rust programs that move no bytes of a stripe: the planner without the part that moves bytes.
-// The same calls with the same promises as in the crate `cuzhaveli`; a program links one of the two.
+// The calls on plans for C and Rust: each hands its numbers and slices on to the proved call and promises what that call promises.
+// Widths, disks, sizes and lengths come in as `usize`, so nothing is narrowed before it is tested.
 ghost use Rattle.planner.specs.Says.{PlanSays, ListSays};
 ghost use Rattle.judge.specs.Says.{JudgeSays};
 ghost use Rattle.plan_files.specs.Says.{JudgeTextSays, WriteSays, PlainSays};
+ghost use Rattle.plan_text.specs.Says.{TextSays};
 use judge::Judged;
 use plan_files::Written;
+use plan_text::Text;
 use planner::Plan;
 use refusals::Answer;
 
@@ -81,4 +83,12 @@ pub extern "C" fn cuzhaveli_plain_text(
     ensures { λ r. ⌜ PlainSays width disks lost (now (text .entry)) (now (out .entry)) (now (out .exit)) r ⌝ }
 {
     plan_files::plain_text(width, disks, lost, text, out)
+}
+
+// What the plan program prints for an input.
+#[no_mangle]
+pub extern "C" fn cuzhaveli_plan_text(input: &[u8]) -> Text
+    ensures { λ r. ⌜ TextSays (now (input .entry)) r ⌝ }
+{
+    plan_text::plan_text(input)
 }
