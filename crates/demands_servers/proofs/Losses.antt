@@ -12,7 +12,7 @@ use Rattle.refusals.specs.declared.Answer.{Answer}
 use Rattle.refusals.proofs.AnswerLaws.{answers-none}
 use Rattle.rebuild_one.specs.Says.{oneFault, OneSays}
 use Rattle.rebuild_two.specs.Says.{twoFault, TwoSays}
-use Rattle.server_losses.proofs.Turning.{none-lost, second-lost, first-lost, both-lost}
+use Rattle.server_mends.proofs.Turning.{none-lost, second-lost, first-lost, both-lost}
 use Rattle.servers.specs.Says.{RebuildServerSays}
 use Rattle.demands_servers.proofs.Servers.{rebuilds}
 

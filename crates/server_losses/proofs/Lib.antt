@@ -1,3 +1,2 @@
--- Laws: the refusals of losses, and mending one server after another.
+-- The refusals of losses.
 pub mod LossFaults
-pub mod Turning

@@ -60,7 +60,7 @@ pub fn rebuild_server(
     if fault != 0 {
         return refusals::answered(fault);
     }
-    server_losses::mend_all(width, disks, size, servers, lost, stripes, losses);
+    server_mends::mend_all(width, disks, size, servers, lost, stripes, losses);
     let long = (disks + 2) * (width * size);
     server_sums::solve_server(long, servers, lost, stripes);
     refusals::answered(0)

@@ -9,9 +9,9 @@ use Rattle.liberation_stripes.specs.Stripes.{stripeLong}
 use Rattle.liberation_stripes.proofs.CellLaws.{cell-long}
 use Rattle.liberation_servers.specs.Servers.{firstLoss, secondLoss, mended}
 use Rattle.xor.proofs.PartLaws.{put-part}
-use Rattle.server_losses.proofs.Turning.{turn-lost, turn-other, turn-small}
-use Rattle.server_losses.proofs.mend_turn.Statement.{statement}
-use Rattle.server_losses.proofs.mend_turn.Tie as tie
+use Rattle.server_mends.proofs.Turning.{turn-lost, turn-other, turn-small}
+use Rattle.server_mends.proofs.mend_turn.Statement.{statement}
+use Rattle.server_mends.proofs.mend_turn.Tie as tie
 
 returns : tie.Need-returns
 returns c =

@@ -4,9 +4,9 @@ use Prim.Native.Nat.{ℕ, _+_, _-_, _≤_}
 use native.Mathlib.Omega.{arith}
 use lib.ListN.{length}
 use Rattle.liberation_servers.specs.Servers.{mendedAll}
-use Rattle.server_losses.proofs.Turning.{turn-of, turns-none, turns-more}
-use Rattle.server_losses.proofs.mend_all.Statement.{statement}
-use Rattle.server_losses.proofs.mend_all.Tie as tie
+use Rattle.server_mends.proofs.Turning.{turn-of, turns-none, turns-more}
+use Rattle.server_mends.proofs.mend_all.Statement.{statement}
+use Rattle.server_mends.proofs.mend_all.Tie as tie
 
 abbrev Inv-loop : tie.InvT-loop
 Inv-loop width disks size servers lost stripes₀ losses i₀ stripes i =

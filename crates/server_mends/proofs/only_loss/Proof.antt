@@ -1,7 +1,7 @@
 -- `only_loss`: the two bytes tested one after the other.
-use Rattle.server_losses.proofs.Turning.{only-second, only-first, only-none}
-use Rattle.server_losses.proofs.only_loss.Statement.{statement}
-use Rattle.server_losses.proofs.only_loss.Tie as tie
+use Rattle.server_mends.proofs.Turning.{only-second, only-first, only-none}
+use Rattle.server_mends.proofs.only_loss.Statement.{statement}
+use Rattle.server_mends.proofs.only_loss.Tie as tie
 
 returns : tie.Need-returns
 returns c = only-second (c .before .args .first) (c .before .args .second) (c .if1 .taken)

@@ -1,9 +1,9 @@
 -- `mend_server`: the one lost disk by our plan; where there is no such one, two by the walk, or none. A disk that is lost is one of the array.
 use mathlib.Core.Path.{_≡_}
 use borrow.Author.Needs.{needs}
-use Rattle.server_losses.proofs.Turning.{none-lost, both-lost, second-none, second-too, only-plan, only-mended, both-disks}
-use Rattle.server_losses.proofs.mend_server.Statement.{statement}
-use Rattle.server_losses.proofs.mend_server.Tie as tie
+use Rattle.server_mends.proofs.Turning.{none-lost, both-lost, second-none, second-too, only-plan, only-mended, both-disks}
+use Rattle.server_mends.proofs.mend_server.Statement.{statement}
+use Rattle.server_mends.proofs.mend_server.Tie as tie
 
 rebuild-within-requires : tie.Need-rebuild-within-requires
 rebuild-within-requires c κs =

@@ -20,8 +20,8 @@ use Rattle.liberation_pairs.specs.Pairs.{pairSolved}
 use Rattle.liberation_servers.specs.Servers.{lost, firstLoss, secondLoss, pairFault, mended, mendedAt, mendedTurn, mendedAll}
 use Rattle.liberation_servers.specs.Claims.{Given, GivenLosses}
 use Rattle.liberation_servers.proofs.RefusalLaws.{losses-of}
-use Rattle.server_losses.specs.Turns.{onlyLoss, Turn}
+use Rattle.server_mends.specs.Turns.{onlyLoss, Turn}
 use Rattle.server_losses.proofs.LossFaults.{lost-false, lost-true}
 
 -- what the tests of two bytes pick
 pub only-second : (a b : ℕ) → a ≡ 255 → b ≡ onlyLoss a b

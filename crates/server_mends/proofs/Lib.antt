@@ -1,0 +1,2 @@
+-- Mending one server after another.
+pub mod Turning
