@@ -49,7 +49,7 @@ pub fn rebuild_two(shape: Shape, first: usize, second: usize, stripe: &mut [u8])
     if refusal != 0 {
         return refusals::answered(refusal);
     }
-    pair_walk::solve_pair(
+    pair_rebuild::solve_pair(
         shape.width,
         shape.disks,
         shape.cell_size,

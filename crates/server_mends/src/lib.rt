@@ -38,7 +38,7 @@ fn mend_server(
     if first == 255 {
         return;
     }
-    pair_walk::solve_pair(width, disks, size, first, second, stripe);
+    pair_rebuild::solve_pair(width, disks, size, first, second, stripe);
 }
 
 // Mends server i in the slice of all stripes, the lost server not.

@@ -7,8 +7,8 @@ use borrow.Author.Needs.{needs}
 use Rattle.liberation.specs.Plans.{diagonalOf}
 use Rattle.stripes.proofs.OrdinaryLaws.{row-own}
 use Rattle.pair_start.proofs.StartLaws.{other-range}
-use Rattle.pair_walk.proofs.WalkClauses.{sized-kept, walk-halves}
-use Rattle.pair_walk.proofs.DiskLaws.{walk-done}
+use Rattle.pair_steps.proofs.WalkClauses.{sized-kept, walk-halves}
+use Rattle.pair_walk.proofs.WalkLaws.{walk-done}
 use Rattle.pair_walk.proofs.walk_disks.Statement.{statement}
 use Rattle.pair_walk.proofs.walk_disks.Tie as tie
 

@@ -4,8 +4,8 @@ use native.Mathlib.Omega.{arith}
 use borrow.Author.Needs.{needs}
 use Rattle.stripes.specs.Cells.{Sized}
 use Rattle.stripes.proofs.OrdinaryLaws.{row-own}
-use Rattle.pair_walk.proofs.WalkClauses.{sized-kept}
-use Rattle.pair_walk.proofs.DiskLaws.{sums-done}
+use Rattle.pair_steps.proofs.WalkClauses.{sized-kept}
+use Rattle.pair_walk.proofs.WalkLaws.{sums-done}
 use Rattle.pair_walk.proofs.walk_sums.Statement.{statement}
 use Rattle.pair_walk.proofs.walk_sums.Tie as tie
 

@@ -1,8 +1,8 @@
 -- `solve_pair`: the lower disk first.
 use borrow.Author.Needs.{needs}
-use Rattle.pair_walk.proofs.DiskLaws.{pair-ordered, pair-turned}
-use Rattle.pair_walk.proofs.solve_pair.Statement.{statement}
-use Rattle.pair_walk.proofs.solve_pair.Tie as tie
+use Rattle.pair_rebuild.proofs.DiskLaws.{pair-ordered, pair-turned}
+use Rattle.pair_rebuild.proofs.solve_pair.Statement.{statement}
+use Rattle.pair_rebuild.proofs.solve_pair.Tie as tie
 
 returns : tie.Need-returns
 returns c =

@@ -10,15 +10,15 @@ use Rattle.liberation.specs.Plans.{diagonalOf}
 use Rattle.liberation_pairs.specs.Pairs.{nextRow}
 use Rattle.stripes.proofs.OrdinaryLaws.{row-own, diagonal-own}
 use Rattle.stripes.proofs.solve_by.Reads as solve-by-reads
-use Rattle.pair_walk.proofs.WalkClauses.{sized-kept, diagonal-none, diagonal-more, row-none, row-more}
-use Rattle.pair_walk.proofs.diagonal_step.Reads as diagonal-step
-use Rattle.pair_walk.proofs.diagonal_step.Kinds as diagonal-step-kinds
-use Rattle.pair_walk.proofs.+diagonal_step+row_step.Lts-diagonal_step as diagonal-step-lts
-use Rattle.pair_walk.proofs.row_step.Reads as row-step
-use Rattle.pair_walk.proofs.row_step.Kinds as row-step-kinds
-use Rattle.pair_walk.proofs.+diagonal_step+row_step.Lts-row_step as row-step-lts
-use Rattle.pair_walk.proofs.+diagonal_step+row_step.{statement}
-use Rattle.pair_walk.proofs.+diagonal_step+row_step.Tie.{close}
+use Rattle.pair_steps.proofs.WalkClauses.{sized-kept, diagonal-none, diagonal-more, row-none, row-more}
+use Rattle.pair_steps.proofs.diagonal_step.Reads as diagonal-step
+use Rattle.pair_steps.proofs.diagonal_step.Kinds as diagonal-step-kinds
+use Rattle.pair_steps.proofs.+diagonal_step+row_step.Lts-diagonal_step as diagonal-step-lts
+use Rattle.pair_steps.proofs.row_step.Reads as row-step
+use Rattle.pair_steps.proofs.row_step.Kinds as row-step-kinds
+use Rattle.pair_steps.proofs.+diagonal_step+row_step.Lts-row_step as row-step-lts
+use Rattle.pair_steps.proofs.+diagonal_step+row_step.{statement}
+use Rattle.pair_steps.proofs.+diagonal_step+row_step.Tie.{close}
 
 abbrev μ-diagonal-step : Measures 2 diagonal-step-kinds.ps ℕ
 μ-diagonal-step κs a = a .0

@@ -1,8 +1,8 @@
 -- `with_row_parity`: one disk after the other.
 use borrow.Author.Needs.{needs}
-use Rattle.pair_walk.proofs.DiskLaws.{row-done}
-use Rattle.pair_walk.proofs.with_row_parity.Statement.{statement}
-use Rattle.pair_walk.proofs.with_row_parity.Tie as tie
+use Rattle.pair_rebuild.proofs.DiskLaws.{row-done}
+use Rattle.pair_rebuild.proofs.with_row_parity.Statement.{statement}
+use Rattle.pair_rebuild.proofs.with_row_parity.Tie as tie
 
 returns : tie.Need-returns
 returns c =

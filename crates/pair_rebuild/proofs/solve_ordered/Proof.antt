@@ -2,9 +2,9 @@
 use native.Mathlib.Omega.{arith}
 use borrow.Author.Needs.{needs}
 use Rattle.liberation.proofs.Widths.{width-least}
-use Rattle.pair_walk.proofs.DiskLaws.{ordered-data, ordered-row, ordered-diagonal}
-use Rattle.pair_walk.proofs.solve_ordered.Statement.{statement}
-use Rattle.pair_walk.proofs.solve_ordered.Tie as tie
+use Rattle.pair_rebuild.proofs.DiskLaws.{ordered-data, ordered-row, ordered-diagonal}
+use Rattle.pair_rebuild.proofs.solve_ordered.Statement.{statement}
+use Rattle.pair_rebuild.proofs.solve_ordered.Tie as tie
 
 returns : tie.Need-returns
 returns c =

@@ -1,8 +1,8 @@
--- Two lost disks: the walk after its first cell, a disk and a parity disk, and the order of the disks.
+-- Two lost disks: a disk and a parity disk, which way the walk goes over two data disks, and the order of the disks.
 use mathlib.Core.Path.{_≡_, sym, ap, ap₂, _∙_}
 use mathlib.Core.Bool.{Bool, true, false}
-use mathlib.Core.List.{List, _∷_}
-use Prim.Native.Nat.{ℕ, _+_, _-_, _*_, _/_, _≤_, _<_}
+use mathlib.Core.List.{List}
+use Prim.Native.Nat.{ℕ, _+_, _-_, _/_, _≤_, _<_}
 use native.Mathlib.Numerals.{add-one}
 use native.Mathlib.Omega.{arith}
 use lib.Dec.{eqb, leb}
@@ -10,49 +10,17 @@ use borrow.Author.Tests.{leb-true, lt-ltb, le-ltb, eq-eqb, ne-eqb}
 use Rattle.laws.specs.Choice.{pick}
 use Rattle.laws.specs.Xor.{allBytes}
 use Rattle.laws.proofs.Flags.{and-l}
-use Rattle.liberation.specs.Sets.{isWidth, place, rowSet}
-use Rattle.liberation.specs.Plans.{extraRowOn, allOf}
+use Rattle.liberation.specs.Sets.{isWidth}
+use Rattle.liberation.specs.Plans.{allOf}
 use Rattle.liberation.proofs.Widths.{width-prime, width-odd}
-use Rattle.liberation_stripes.specs.Stripes.{isStripe, solved, followed}
-use Rattle.liberation_stripes.specs.Steps.{cellStep}
+use Rattle.liberation_stripes.specs.Stripes.{isStripe, followed}
 use Rattle.liberation_stripes.proofs.Solving.{stripe-of}
-use Rattle.liberation_pairs.specs.Pairs.{otherDisk, started, diagonalWalk, walked, comesToOne, forward, dataSolved, upDiagonals, withRowParity, withDiagonalParity, orderedSolved, pairSolved}
-use Rattle.liberation_pairs.specs.PairSteps.{walkSteps}
+use Rattle.liberation_pairs.specs.Pairs.{walked, comesToOne, forward, dataSolved, upDiagonals, withRowParity, withDiagonalParity, orderedSolved, pairSolved}
 use Rattle.liberation_pairs.proofs.Roles.{roles-forward, roles-backward}
-use Rattle.liberation_sums.specs.Sums.{addedAll, sumStarted, sumWalked}
+use Rattle.liberation_sums.specs.Sums.{sumWalked}
 use Rattle.liberation_sums.proofs.Summing.{sums-walk}
 use Rattle.stripes.specs.Cells.{Sized}
 use Rattle.pair_start.specs.Disks.{Walked}
-
--- the other cell of the first cell's row, then the walk over the other rows
-abbrev pub walkedOn : ℕ → ℕ → ℕ → ℕ → ℕ → List ℕ → List ℕ
-walkedOn p k s x y u = diagonalWalk (2 * (p - 1)) p k s x y (extraRowOn p x) (solved s (place p (extraRowOn p x) (otherDisk x y)) (rowSet p k (extraRowOn p x)) u)
-
-pub walk-done : (p k s x y r o : ℕ) (u v w : List ℕ) → r ≡ extraRowOn p x → o ≡ otherDisk x y → v ≡ solved s (o * p + r) (rowSet p k r) u → w ≡ diagonalWalk (2 * (p - 1)) p k s x y r v → w ≡ walkedOn p k s x y u
-walk-done p k s x y r o u v w er eo ev ew =
-    ew
-    ∙ ap₂ (λ (i : ℕ) (l : List ℕ). diagonalWalk (2 * (p - 1)) p k s x y i l) er
-    (ev ∙ ap₂ (λ (a i : ℕ). solved s (a * p + i) (rowSet p k i) u) eo er)
-
--- the first cell before them
-pub walk-started : (p k s x y : ℕ) (t u w : List ℕ) → u ≡ started p k s x y t → w ≡ walkedOn p k s x y u → w ≡ walked p k s x y t
-unfolding walked
-walk-started p k s x y t u w eu ew = ew ∙ ap (walkedOn p k s x y) eu
-
--- the walk from sums: its start, the other cell of the first cell's row, the walk, the last steps
-pub sums-done :
-    (p k s x y r q : ℕ) (t u v w z : List ℕ) → r ≡ extraRowOn p x → q ≡ extraRowOn p y
-    → u ≡ sumStarted p k s x y t
-    → v ≡ solved s (place p r x) (rowSet p k r) u
-    → w ≡ diagonalWalk p p k s x y r v
-    → z ≡ addedAll p k s x y (cellStep (place p q x) 0 q ∷ walkSteps ((p - 1) / 2 - 1) p x y q) w
-    → z ≡ sumWalked p k s x y t
-sums-done p k s x y r q t u v w z er eq eu ev ew ez =
-    ez
-    ∙ ap₂ (λ (i : ℕ) (l : List ℕ). addedAll p k s x y (cellStep (place p i x) 0 i ∷ walkSteps ((p - 1) / 2 - 1) p x y i) l) eq
-    (ew
-    ∙ ap₂ (λ (i : ℕ) (l : List ℕ). diagonalWalk p p k s x y i l) er
-    (ev ∙ ap₂ (λ (i : ℕ) (l : List ℕ). solved s (place p i x) (rowSet p k i) l) er eu))
 
 -- a disk and a parity disk, one after the other
 pub row-done : (p k s f : ℕ) (t u v : List ℕ) → u ≡ followed p k s f (upDiagonals p p f 0) t → v ≡ followed p k s k (allOf p 0 0) u → v ≡ withRowParity p k s f t

@@ -1,0 +1,2 @@
+-- The walk's clauses.
+pub mod WalkClauses
