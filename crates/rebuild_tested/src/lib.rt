@@ -3,14 +3,12 @@ use refusals::Answer;
 use refusals::Shape;
 ghost use mathlib.Core.Path.{_≡_};
 ghost use mathlib.Core.Bool.{true, not};
-ghost use Prim.Native.Nat.{_+_, _*_, _≤_, _<_};
-ghost use lib.ListN.{length, drop};
+ghost use Prim.Native.Nat.{_*_, _≤_, _<_};
+ghost use lib.ListN.{length};
 ghost use Rattle.laws.specs.Choice.{firstOf, when};
 ghost use Rattle.liberation.specs.Plans.{allOf};
 ghost use Rattle.liberation_stripes.specs.Stripes.{followed, columnOf, rebuilt};
 ghost use Rattle.liberation_survivors.specs.Survivors.{fits};
-ghost use Rattle.xor.specs.Parts.{withPart, xorOffsets};
-ghost use Rattle.xor.specs.Reach.{Reached};
 ghost use Rattle.stripes.specs.Cells.{Sized};
 ghost use Rattle.rebuild_one.specs.Says.{lengthsFault, oneFault};
 ghost use Rattle.rebuild_tested.specs.Says.{TestedSays};
@@ -36,29 +34,6 @@ fn tested_fault(
     19
 }
 
-// The 4,096 bytes of dst from b on = those of the XOR of the parts.
-fn put_stretch(dst: &mut [u8], t: &[u8], at: &[usize], b: usize)
-    requires { ⌜ (b + 4096 ≤ length (now dst)) × (length (now dst) ≤ length (now t)) × Reached (length (now dst)) (length (now t)) (now at) ⌝ }
-    ensures { λ _. ⌜ now (dst .exit) ≡ withPart 4096 b (xorOffsets 4096 (drop b (now (t .entry))) (now (at .entry))) (now (dst .entry)) ⌝ }
-{
-    let e = b + 4096;
-    xor_gather::gather(&mut dst[b..e], &t[b..], at);
-}
-
-// dst = the XOR of the parts of t at the offsets, stretch by stretch, so that a stretch stays in the first cache while list after list is added.
-fn gather_stretches(dst: &mut [u8], t: &[u8], at: &[usize])
-    requires { ⌜ (length (now dst) ≤ length (now t)) × Reached (length (now dst)) (length (now t)) (now at) ⌝ }
-    ensures { λ _. ⌜ now (dst .exit) ≡ xorOffsets (length (now (dst .entry))) (now (t .entry)) (now (at .entry)) ⌝ }
-{
-    let n = dst.len();
-    let mut b = 0;
-    while 4096 <= n - b {
-        put_stretch(dst, t, at, b);
-        b += 4096;
-    }
-    xor_gather::gather(&mut dst[b..], &t[b..], at);
-}
-
 // A data disk or P by the row sets, as one run of bytes: the column becomes the XOR of the other columns but Q's.
 fn column_by_rows(
     width: usize,
@@ -74,7 +49,7 @@ fn column_by_rows(
     let mut at = offsets::no_offsets();
     let n = offsets::push(width, size, 0, 0, 0, disk, &mut at, 0);
     let m = offsets::push_row(width, size, 0, disk + 1, disks + 1, &mut at, n);
-    gather_stretches(column, stripe, &at[..m]);
+    xor_stretches::gather_stretches(column, stripe, &at[..m]);
 }
 
 // A disk whose survivors are those of a clean stripe: every set gives the same bytes then, so the plan with the longest runs is followed, not the one with the fewest reads.

@@ -10,8 +10,8 @@ use Rattle.xor.specs.Reach.{Reached}
 use Rattle.xor.proofs.PartLaws.{put-part}
 use Rattle.xor.proofs.StoreLaws.{part-long}
 use Rattle.xor.proofs.BlockLaws.{tail-is, tail-long, reach-tail}
-use Rattle.rebuild_tested.proofs.put_stretch.Statement.{statement}
-use Rattle.rebuild_tested.proofs.put_stretch.Tie as tie
+use Rattle.xor_stretches.proofs.put_stretch.Statement.{statement}
+use Rattle.xor_stretches.proofs.put_stretch.Tie as tie
 
 gather-requires : tie.Need-gather-requires
 gather-requires c κs =

@@ -8,8 +8,8 @@ use lib.Seq.{drop-drop}
 use Rattle.xor.specs.Parts.{xorOffsets}
 use Rattle.xor.specs.Reach.{Reached}
 use Rattle.xor.proofs.BlockLaws.{block-next, block-last, tail-is, tail-long, reach-tail}
-use Rattle.rebuild_tested.proofs.gather_stretches.Statement.{statement}
-use Rattle.rebuild_tested.proofs.gather_stretches.Tie as tie
+use Rattle.xor_stretches.proofs.gather_stretches.Statement.{statement}
+use Rattle.xor_stretches.proofs.gather_stretches.Tie as tie
 
 -- the first b bytes stand
 abbrev Inv-loop : tie.InvT-loop
