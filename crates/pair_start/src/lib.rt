@@ -107,6 +107,6 @@ pub fn start(width: usize, disks: usize, size: usize, x: usize, y: usize, stripe
         &mut at,
     );
     let to = first * width + row;
-    let most = xor::list_most(size);
+    let most = xor_lists::list_most(size);
     odd::gather_odd(stripe, size, to, &marks[..cells], &mut at[..most]);
 }

@@ -1,38 +1,10 @@
-// The work on bytes: a slice becomes the XOR of parts of another slice, or is tested for it, in blocks of 128 and 64 bytes that stay in registers.
+// Sums of bytes: parts of a slice are added to another slice, or make blocks of 128 and 64 bytes that stay in registers.
 ghost use mathlib.Core.Path.{_≡_};
-ghost use Prim.Native.Nat.{_+_, _-_, _*_, _≤_, _<_};
-ghost use lib.ListN.{length, take, drop, replicate};
+ghost use Prim.Native.Nat.{_+_, _≤_};
+ghost use lib.ListN.{length, take, replicate};
 ghost use Rattle.laws.specs.Xor.{xorL};
-ghost use Rattle.laws.specs.Lists.{same};
-ghost use Rattle.xor.specs.Parts.{part, withPart, addFour, xorOffsets};
+ghost use Rattle.xor.specs.Parts.{part, addFour, xorOffsets};
 ghost use Rattle.xor.specs.Reach.{Reached};
-
-// dst = src.
-pub fn copy(dst: &mut [u8], src: &[u8])
-    requires { ⌜ length (now src) ≡ length (now dst) ⌝ }
-    ensures { λ _. ⌜ now (dst .exit) ≡ now (src .entry) ⌝ }
-{
-    let n = dst.len();
-    let mut i = 0;
-    while i < n {
-        dst[i] = src[i];
-        i += 1;
-    }
-}
-
-// Is every byte 0?
-pub fn all_zero(cell: &[u8]) -> bool
-    ensures { λ r. ⌜ r ≡ same (now (cell .entry)) (replicate (length (now (cell .entry))) 0) ⌝ }
-{
-    let n = cell.len();
-    let mut any: u8 = 0;
-    let mut i = 0;
-    while i < n {
-        any = any | cell[i];
-        i += 1;
-    }
-    any == 0
-}
 
 // dst ^= the bytes of t from a.
 pub fn add_one(dst: &mut [u8], t: &[u8], a: usize)
@@ -119,19 +91,4 @@ pub fn rest_of(t: &[u8], at: &[usize], m: usize) -> [u8; 64]
     let mut block = no_block();
     add_all(&mut block[..m], t, at);
     block
-}
-
-// How many parts of n bytes go into one list. Parts that are as far apart as cells of 4,096 bytes share a set of the cache, and a core may keep no more than eight lines of it; for short parts a second list costs more. No result depends on it, so its bounds are all that is promised.
-pub fn list_most(n: usize) -> usize
-    ensures { λ r. ⌜ (8 ≤ r) × (r ≤ 33) ⌝ }
-{
-    if n < 512 { 33 } else { 8 }
-}
-
-// Where a list of at most `most` numbers from index i on ends, of `count` numbers.
-pub fn list_end(i: usize, most: usize, count: usize) -> usize
-    requires { ⌜ (i ≤ count) × (0 < most) ⌝ }
-    ensures { λ r. ⌜ (i ≤ r) × (r ≤ count) × (i < count → i < r) ⌝ }
-{
-    if count - i < most { count } else { i + most }
 }

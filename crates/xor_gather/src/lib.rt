@@ -12,7 +12,7 @@ fn put_block(dst: &mut [u8], t: &[u8], at: &[usize], b: usize)
 {
     let e = b + 64;
     let block = xor::block_of(&t[b..], at);
-    xor::copy(&mut dst[b..e], &block[..64]);
+    bytes::copy(&mut dst[b..e], &block[..64]);
 }
 
 // The same of 128 bytes.
@@ -22,7 +22,7 @@ fn put_wide_block(dst: &mut [u8], t: &[u8], at: &[usize], b: usize)
 {
     let e = b + 128;
     let block = xor::wide_block_of(&t[b..], at);
-    xor::copy(&mut dst[b..e], &block[..128]);
+    bytes::copy(&mut dst[b..e], &block[..128]);
 }
 
 // The bytes of dst from b on, at most 64, = those of the XOR of the parts.
@@ -33,7 +33,7 @@ fn put_rest(dst: &mut [u8], t: &[u8], at: &[usize], b: usize)
     let n = dst.len();
     let m = n - b;
     let block = xor::rest_of(&t[b..], at, m);
-    xor::copy(&mut dst[b..n], &block[..m]);
+    bytes::copy(&mut dst[b..n], &block[..m]);
 }
 
 // dst = the XOR of the parts of t at the offsets, in blocks of 64 bytes.
@@ -71,7 +71,7 @@ pub fn gather(dst: &mut [u8], t: &[u8], at: &[usize])
     requires { ⌜ (length (now dst) ≤ length (now t)) × Reached (length (now dst)) (length (now t)) (now at) ⌝ }
     ensures { λ _. ⌜ now (dst .exit) ≡ xorOffsets (length (now (dst .entry))) (now (t .entry)) (now (at .entry)) ⌝ }
 {
-    let i = xor::list_end(0, xor::list_most(dst.len()), at.len());
+    let i = xor_lists::list_end(0, xor_lists::list_most(dst.len()), at.len());
     gather_blocks(dst, t, &at[..i]);
     if i < at.len() {
         xor::add_all(dst, t, &at[i..]);
