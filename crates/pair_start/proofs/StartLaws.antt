@@ -1,21 +1,19 @@
--- The first cell of the walk: the choices by disk 0, where the cell is, and that the odd cells gathered are its XOR.
+-- The first cell of the walk: where it is, and that the odd cells gathered are its XOR.
 use mathlib.Core.Path.{_≡_, refl, sym, ap, ap₂, subst, _∙_}
 use mathlib.Core.Bool.{Bool, true, false}
 use mathlib.Core.Logic.{⊎-elim}
 use mathlib.Core.List.{List}
-use Prim.Native.Nat.{ℕ, _+_, _*_, _/_, _%_, _≤_, _<_}
-use native.Mathlib.Nat.{mul-le-mul}
+use Prim.Native.Nat.{ℕ, _+_, _*_, _≤_, _<_}
 use native.Mathlib.Omega.{arith}
 use lib.Dec.{eqb}
 use lib.ListN.{length, getD, replicate, length-replicate, getD-replicate}
-use borrow.Author.Tests.{eqb-false, eq-eqb, ne-eqb}
+use borrow.Author.Tests.{eqb-false}
 use Rattle.laws.specs.Choice.{pick}
 use Rattle.laws.specs.Lists.{isIn}
 use Rattle.laws.proofs.Flags.{clash, flag}
 use Rattle.laws.proofs.MemberLaws.{at-in}
 use Rattle.liberation.specs.Sets.{place}
-use Rattle.liberation.specs.Plans.{secondRow, extraRowOn}
-use Rattle.liberation.proofs.LostLaws.{second-range}
+use Rattle.liberation.specs.Plans.{extraRowOn}
 use Rattle.liberation.proofs.SetLaws.{place-below}
 use Rattle.liberation_stripes.specs.Stripes.{cellAt, withCell}
 use Rattle.liberation_stripes.proofs.CellLaws.{cell-fits, cell-long}
@@ -31,25 +29,9 @@ use Rattle.odd.specs.Listed.{Marked}
 use Rattle.odd.proofs.OddLaws.{odd-offsets}
 use Rattle.set_offsets.specs.Cells.{survivors}
 use Rattle.stripes.specs.Cells.{Sized}
+use Rattle.pair_numbers.proofs.NumberLaws.{extra-below}
 use Rattle.pair_start.specs.Disks.{Walked}
 use Rattle.pair_start.proofs.ToggleLaws.{toggled-long, toggled-other}
-
--- the choice by disk 0
-pub pick-zero : (y a b : ℕ) → y ≡ 0 → a ≡ pick (eqb y 0) a b
-pick-zero y a b e = sym (ap (λ (f : Bool). pick f a b) (eq-eqb y 0 e))
-
-pub pick-other : (y a b : ℕ) → (y ≡ 0 → ⊥) → b ≡ pick (eqb y 0) a b
-pick-other y a b e = sym (ap (λ (f : Bool). pick f a b) (ne-eqb y 0 e))
-
--- the extra cell's row is one of the rows, and can be counted with
-pub extra-below : (p c : ℕ) → p % 2 ≡ 1 → 1 ≤ c → c < p → (1 ≤ secondRow p c) × (extraRowOn p c < p)
-extra-below p c odd low high = let r = second-range p c odd low high in (r .0, omega arith)
-
-pub half-most : (p c : ℕ) → p ≤ 31 → c < p → c * ((p + 1) / 2) ≤ 496
-half-most p c h k =
-    let m : c ≤ 31 = omega arith in
-    let l : (p + 1) / 2 ≤ 16 = omega arith in
-    omega (arith, mul-le-mul m l)
 
 -- x and y are walked
 module _ (p k x y : ℕ) (g : Walked p k x y) where

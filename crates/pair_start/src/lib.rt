@@ -1,9 +1,8 @@
 // The first cell of the walk over two lost data disks: document 01, "Two lost disks". Marks are toggled along several sets together, and the cells that occur an odd number of times are gathered.
 ghost use mathlib.Core.Path.{_≡_};
-ghost use Prim.Native.Nat.{_+_, _-_, _*_, _/_, _%_, _≤_, _<_};
+ghost use Prim.Native.Nat.{_≤_, _<_};
 ghost use Rattle.liberation.specs.Sets.{setOf};
-ghost use Rattle.liberation.specs.Plans.{extraRowOn};
-ghost use Rattle.liberation_pairs.specs.Pairs.{startSets, startCount, firstDisk, otherDisk, started};
+ghost use Rattle.liberation_pairs.specs.Pairs.{startSets, startCount, firstDisk, started};
 ghost use Rattle.odd.specs.Toggled.{toggledAll};
 ghost use Rattle.set_offsets.specs.Cells.{survivors};
 ghost use Rattle.stripes.specs.Cells.{Sized};
@@ -53,26 +52,11 @@ fn toggle_sets(
     }
 }
 
-// The row of the extra cell on a data disk that is not disk 0.
-pub fn extra_row(width: usize, disk: usize) -> usize
-    requires { ⌜ (width ≤ 31) × (width % 2 ≡ 1) × (1 ≤ disk) × (disk < width) ⌝ }
-    ensures { λ r. ⌜ (r ≡ extraRowOn width disk) × (r < width) ⌝ }
-{
-    disk * ((width + 1) / 2) % width - 1
-}
-
 // The disk of the first cell found.
 fn first_disk(x: usize, y: usize) -> usize
     ensures { λ r. ⌜ r ≡ firstDisk x y ⌝ }
 {
     if y == 0 { x } else { y }
-}
-
-// The other of the two disks.
-pub fn other_disk(x: usize, y: usize) -> usize
-    ensures { λ r. ⌜ r ≡ otherDisk x y ⌝ }
-{
-    if y == 0 { y } else { x }
 }
 
 // How many rows' sets the first cell is found from.
@@ -90,8 +74,8 @@ pub fn start(width: usize, disks: usize, size: usize, x: usize, y: usize, stripe
     ensures { λ _. ⌜ now (stripe .exit) ≡ started width disks size x y (now (stripe .entry)) ⌝ }
 {
     let first = first_disk(x, y);
-    let row = extra_row(width, x);
-    let from = extra_row(width, first);
+    let row = pair_numbers::extra_row(width, x);
+    let from = pair_numbers::extra_row(width, first);
     let count = start_count(width, y);
     let cells = width * (disks + 2);
     let mut marks = sets::no_marks();

@@ -100,8 +100,8 @@ pub fn start_sums(
     ensures { λ _. ⌜ now (stripe .exit) ≡ sumStarted width disks size x y (now (stripe .entry)) ⌝ }
 {
     let count = (width - 1) / 2;
-    let from = pair_start::extra_row(width, y);
-    let row = pair_start::extra_row(width, x);
+    let from = pair_numbers::extra_row(width, y);
+    let row = pair_numbers::extra_row(width, x);
     sum_sets(count, width, disks, size, x, y, from, stripe, at);
     let n = push_sums(count, width, size, x, y, from, at);
     let to = (y * width + row) * size;

@@ -15,8 +15,8 @@ pub fn walk_disks(width: usize, disks: usize, size: usize, x: usize, y: usize, s
     requires { ⌜ Walked width disks x y ⌝ }
     ensures { λ _. ⌜ now (stripe .exit) ≡ diagonalWalk (2 * (width - 1)) width disks size x y (extraRowOn width x) (solved size (place width (extraRowOn width x) (otherDisk x y)) (rowSet width disks (extraRowOn width x)) (now (stripe .entry))) ⌝ }
 {
-    let row = pair_start::extra_row(width, x);
-    let other = pair_start::other_disk(x, y);
+    let row = pair_numbers::extra_row(width, x);
+    let other = pair_numbers::other_disk(x, y);
     let mut at = offsets::no_offsets();
     stripes::solve_by(width, disks, size, 0, row, other, row, stripe, &mut at);
     let half = (width - 1) / 2;
@@ -31,8 +31,8 @@ pub fn walk_sums(width: usize, disks: usize, size: usize, x: usize, y: usize, st
     requires { ⌜ Walked width disks x y × (1 ≤ y) ⌝ }
     ensures { λ _. ⌜ now (stripe .exit) ≡ sumWalked width disks size x y (now (stripe .entry)) ⌝ }
 {
-    let row = pair_start::extra_row(width, x);
-    let from = pair_start::extra_row(width, y);
+    let row = pair_numbers::extra_row(width, x);
+    let from = pair_numbers::extra_row(width, y);
     let mut at = offsets::no_offsets();
     pair_sums::start_sums(width, disks, size, x, y, stripe, &mut at);
     stripes::solve_by(width, disks, size, 0, row, x, row, stripe, &mut at);

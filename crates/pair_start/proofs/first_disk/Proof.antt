@@ -1,5 +1,5 @@
 -- `first_disk`: the choice by disk 0.
-use Rattle.pair_start.proofs.StartLaws.{pick-zero, pick-other}
+use Rattle.pair_numbers.proofs.NumberLaws.{pick-zero, pick-other}
 use Rattle.pair_start.proofs.first_disk.Statement.{statement}
 use Rattle.pair_start.proofs.first_disk.Tie as tie
 

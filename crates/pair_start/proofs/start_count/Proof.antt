@@ -1,7 +1,7 @@
 -- `start_count`: the choice by disk 0.
 use Prim.Native.Nat.{_-_, _/_}
 use borrow.Author.Needs.{needs}
-use Rattle.pair_start.proofs.StartLaws.{pick-zero, pick-other}
+use Rattle.pair_numbers.proofs.NumberLaws.{pick-zero, pick-other}
 use Rattle.pair_start.proofs.start_count.Statement.{statement}
 use Rattle.pair_start.proofs.start_count.Tie as tie
 

@@ -1,7 +1,7 @@
 -- `other_disk`: the choice by disk 0.
-use Rattle.pair_start.proofs.StartLaws.{pick-zero, pick-other}
-use Rattle.pair_start.proofs.other_disk.Statement.{statement}
-use Rattle.pair_start.proofs.other_disk.Tie as tie
+use Rattle.pair_numbers.proofs.NumberLaws.{pick-zero, pick-other}
+use Rattle.pair_numbers.proofs.other_disk.Statement.{statement}
+use Rattle.pair_numbers.proofs.other_disk.Tie as tie
 
 returns : tie.Need-returns
 returns c = pick-zero (c .before .args .y) (c .before .args .y) (c .before .args .x) (c .if1 .taken)

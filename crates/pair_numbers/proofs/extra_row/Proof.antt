@@ -2,9 +2,9 @@
 use mathlib.Core.Path.{refl}
 use native.Mathlib.Omega.{arith}
 use borrow.Author.Needs.{needs}
-use Rattle.pair_start.proofs.StartLaws.{extra-below, half-most}
-use Rattle.pair_start.proofs.extra_row.Statement.{statement}
-use Rattle.pair_start.proofs.extra_row.Tie as tie
+use Rattle.pair_numbers.proofs.NumberLaws.{extra-below, half-most}
+use Rattle.pair_numbers.proofs.extra_row.Statement.{statement}
+use Rattle.pair_numbers.proofs.extra_row.Tie as tie
 
 mul-result : tie.Need-mul-result
 mul-result c = omega (arith, half-most (c .args .width) (c .args .disk) (c .pre .0) (c .pre .3))
