@@ -116,7 +116,7 @@ fn suspected(width: usize, disks: usize, size: usize, stripe: &[u8]) -> usize
     requires { ⌜ Sized width disks size (now stripe) × (isWidth width ≡ true) × (0 < width) ⌝ }
     ensures { λ r. ⌜ r ≡ suspect width disks size (now (stripe .entry)) ⌝ }
 {
-    let mut at = survivors::no_offsets();
+    let mut at = equation_offsets::no_offsets();
     let dirty = dirty_set(width, disks, size, stripe, &mut at);
     first_fit(width, disks, size, dirty, stripe, &mut at)
 }

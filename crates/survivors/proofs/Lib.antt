@@ -1,2 +1,2 @@
--- The equations of a disk as lists of offsets.
-pub mod EquationLists
+-- The test of a disk by its equations.
+pub mod EquationTests

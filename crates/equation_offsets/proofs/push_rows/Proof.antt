@@ -4,9 +4,9 @@ use Prim.Native.Nat.{_+_, _%_, _<_}
 use native.Mathlib.Nat.{mod-lt}
 use native.Mathlib.Omega.{arith}
 use borrow.Author.Needs.{needs}
-use Rattle.survivors.proofs.EquationLists.{rows-zero, rows-apart, rows-both}
-use Rattle.survivors.proofs.push_rows.Statement.{statement}
-use Rattle.survivors.proofs.push_rows.Tie as tie
+use Rattle.equation_offsets.proofs.EquationLists.{rows-zero, rows-apart, rows-both}
+use Rattle.equation_offsets.proofs.push_rows.Statement.{statement}
+use Rattle.equation_offsets.proofs.push_rows.Tie as tie
 
 -- the row of the ordinary cell
 row-is : (c : tie.After-row-on) → let a = c .before .before .args in c .row-on .result ≡ (a .number + a .disk) % a .width

@@ -1,9 +1,9 @@
 -- `push_equation`: a row set for Q, a diagonal set for P, a diagonal set and the row sets of its rows there for a data disk.
 use native.Mathlib.Omega.{arith}
 use borrow.Author.Needs.{needs}
-use Rattle.survivors.proofs.EquationLists.{last-pushed, row-parity-pushed, data-pushed}
-use Rattle.survivors.proofs.push_equation.Statement.{statement}
-use Rattle.survivors.proofs.push_equation.Tie as tie
+use Rattle.equation_offsets.proofs.EquationLists.{last-pushed, row-parity-pushed, data-pushed}
+use Rattle.equation_offsets.proofs.push_equation.Statement.{statement}
+use Rattle.equation_offsets.proofs.push_equation.Tie as tie
 
 returns : tie.Need-returns
 returns c =

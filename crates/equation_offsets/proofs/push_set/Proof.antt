@@ -1,9 +1,9 @@
 -- `push_set`: the set's list is made in the part of the lent list that starts after the first `count` numbers.
 use native.Mathlib.Omega.{arith}
 use borrow.Author.Needs.{needs}
-use Rattle.survivors.proofs.EquationLists.{set-after}
-use Rattle.survivors.proofs.push_set.Statement.{statement}
-use Rattle.survivors.proofs.push_set.Tie as tie
+use Rattle.equation_offsets.proofs.EquationLists.{set-after}
+use Rattle.equation_offsets.proofs.push_set.Statement.{statement}
+use Rattle.equation_offsets.proofs.push_set.Tie as tie
 
 returns : tie.Need-returns
 returns c =

@@ -1,38 +1,25 @@
--- The survivors of an equation as one list of offsets: pushes into a part of a list, the sets of an equation one after another, and the test of the whole list.
+-- The survivors of an equation as one list of offsets: pushes into a part of a list, and the sets of an equation one after another.
 use mathlib.Core.Path.{_≡_, sym, ap, subst, _∙_}
-use mathlib.Core.Bool.{Bool, true, false, _&&_, not, and-false}
+use mathlib.Core.Bool.{Bool, true, false, _&&_, and-false}
 use mathlib.Core.List.{List, [], _∷_, _++_, append-nil}
-use Prim.Native.Nat.{ℕ, suc, _+_, _-_, _*_, _%_, _≤_, _<_}
-use native.Mathlib.Nat.{mod-lt, mod-eq-of-lt, add-mod-mod, add-mod-right}
+use Prim.Native.Nat.{ℕ, suc, _+_, _-_, _%_, _≤_, _<_}
 use native.Mathlib.Omega.{arith}
 use lib.Dec.{eqb, leb}
-use lib.ListN.{length, take, replicate}
+use lib.ListN.{length, take}
 use lib.Seq.{length-take-le, take-append-le, take-append-add}
 use borrow.Author.Tests.{eq-eqb, ne-eqb, le-leb}
 use borrow.Rule.Slice.PartMut.{putMid, midOf, postOf, same-len-mid, mid-len}
 use Rattle.laws.specs.Choice.{pick}
-use Rattle.laws.specs.Lists.{same}
-use Rattle.laws.specs.Xor.{allBytes}
-use Rattle.laws.specs.Sums.{allTo}
-use Rattle.laws.proofs.AllLaws.{all-at, all-of}
 use Rattle.laws.proofs.Flags.{and-i}
 use Rattle.laws.proofs.KeptLaws.{kept-append}
-use Rattle.liberation.specs.Sets.{isWidth, place, rowSet, diagonalSet, setOf, extraRow, extraDisk, lostIn, survivingIn}
-use Rattle.liberation.proofs.SetLaws.{surviving-below, place-below, surviving-keeps}
+use Rattle.liberation.specs.Sets.{rowSet, diagonalSet, setOf, extraRow, extraDisk, lostIn, survivingIn}
+use Rattle.liberation.proofs.SetLaws.{surviving-keeps}
 use Rattle.liberation.proofs.LostLaws.{extraOn, lost-diagonal}
-use Rattle.liberation_stripes.specs.Stripes.{stripeLong}
-use Rattle.liberation_stripes.proofs.CellLaws.{cell-fits}
-use Rattle.liberation_stripes.proofs.Solving.{stripe-of}
-use Rattle.liberation_survivors.specs.Survivors.{rowSets, equation, equationHolds, equationsHold, fits}
-use Rattle.liberation_survivors.proofs.EquationCells.{equation-last, equation-other, equation-row-parity, equation-below}
-use Rattle.liberation_survivors.proofs.EquationLaws.{fits-equations}
-use Rattle.xor.specs.Parts.{xorOffsets}
-use Rattle.xor.specs.Reach.{Reached}
+use Rattle.liberation_survivors.specs.Survivors.{rowSets, equation}
+use Rattle.liberation_survivors.proofs.EquationCells.{equation-last, equation-other, equation-row-parity}
 use Rattle.offsets.specs.Offsets.{scaled, Pushed}
-use Rattle.offsets.proofs.OffsetLaws.{length-scaled, over-offsets, cells-reached}
 use Rattle.set_offsets.specs.Cells.{survivors}
 use Rattle.set_offsets.proofs.SetLists.{survivors-one, both-pushed}
-use Rattle.stripes.proofs.LoopLaws.{all-fails, all-seen}
 
 -- a push into the part of m numbers of a list l that starts after the first n
 pub part-pushed : (n m r : ℕ) (l new xs : List ℕ) → n + m ≤ length l → length new ≡ length (midOf n (n + m - n) l) → Pushed (midOf n (n + m - n) l) new 0 r xs → Pushed l (putMid n (n + m - n) l new) n (n + r) xs
@@ -105,39 +92,3 @@ module _ (p k s d i : ℕ) (l : i < p) where
       (ap (survivingIn p d) (equation-other p k d i h) ∙ kept-append (surviving-keeps p d) (diagonalSet p k i) (rowSets p k (lostIn p d (diagonalSet p k i))))
       u
       v
-
--- the list of an equation's survivors in a stripe t, and the test of their XOR
-module _ (p k s d i n : ℕ) (old at t : List ℕ) (numbered : i < p) (disk : d < k + 2) (room : length at ≡ 99) (long : length t ≡ stripeLong p k s) (pushed : Pushed old at 0 n (scaled s (survivingIn p d (equation p k d i)))) where
-  pub size-fits : s ≤ length t
-  size-fits = let l : 0 < k + 2 = omega arith in omega (arith, cell-fits (p * (k + 2)) s (place p i 0) (place-below p (k + 2) i 0 numbered l))
-
-  pub equation-reached : Reached s (length t) (take n at)
-  equation-reached =
-      let xs = survivingIn p d (equation p k d i) in
-      subst (Reached s (length t)) (sym (pushed .list))
-      (cells-reached s (p * (k + 2)) (length t) xs (surviving-below (p * (k + 2)) p d (equation p k d i) (equation-below p k d i numbered disk)) (omega arith) (omega (arith, pushed .count, pushed .fits, length-scaled s xs)))
-
-  pub equation-tested : (r : Bool) → r ≡ same (xorOffsets s t (take n at)) (replicate s 0) → r ≡ equationHolds p k s d t i
-  equation-tested r e = e ∙ ap (λ (l : List ℕ). same l (replicate s 0)) (ap (xorOffsets s t) (pushed .list) ∙ over-offsets s t (survivingIn p d (equation p k d i)))
-
--- what the equations say of the disk, tested from number b on and round
-module _ (p k s d b : ℕ) (t : List ℕ) (width : isWidth p ≡ true) (most : k ≤ p) (disk : d < k + 2) (long : length t ≡ stripeLong p k s) (bytes : allBytes t ≡ true) (below : b < p) where
-  fits-is : fits p k s d t ≡ equationsHold p k s d t
-  fits-is = fits-equations p k s d width most disk t (stripe-of p k s t (long ∙ omega arith) bytes)
-
-  -- every number comes in its turn
-  in-turn : (n : ℕ) → n < p → (b + (n + p - b) % p) % p ≡ n
-  in-turn n l = let e : b + (n + p - b) ≡ n + p = omega arith in add-mod-mod b (n + p - b) p ∙ ap (λ (m : ℕ). m % p) e ∙ add-mod-right n p ∙ mod-eq-of-lt l
-
-  pub one-refuses : (i : ℕ) (r : Bool) → i < p → r ≡ equationHolds p k s d t ((b + i) % p) → not r ≡ true → (i ≤ p) × (eqb i p ≡ fits p k s d t)
-  unfolding equationsHold
-  one-refuses i r l e n =
-      (omega arith, ne-eqb i p (λ q. omega arith) ∙ sym (fits-is ∙ all-fails p ((b + i) % p) (λ j. equationHolds p k s d t j) r (mod-lt (b + i) (omega arith)) e n))
-
-  pub none-refuses : (i : ℕ) → i ≤ p → p ≤ i → allTo i (λ j. equationHolds p k s d t ((b + j) % p)) ≡ true → (i ≤ p) × (eqb i p ≡ fits p k s d t)
-  unfolding equationsHold
-  none-refuses i l m e =
-      let q : i ≡ p = omega arith in
-      let f : ℕ → Bool = λ j. equationHolds p k s d t j in
-      let each : (n : ℕ) → n < p → f n ≡ true = λ n h. sym (ap f (in-turn n h)) ∙ all-at i (λ j. f ((b + j) % p)) e ((n + p - b) % p) (omega (arith, mod-lt (n + p - b) {m = p} (omega arith))) in
-      (l, eq-eqb i p q ∙ sym (fits-is ∙ all-of p f each))

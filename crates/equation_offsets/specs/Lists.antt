@@ -1,4 +1,4 @@
--- What the functions over a disk's equations ask.
+-- What the functions that push a disk's equations ask.
 use mathlib.Core.Path.{_≡_}
 use Prim.Native.Nat.{ℕ, _+_, _≤_, _<_}
 

@@ -1,0 +1,2 @@
+-- The equations of a disk as lists of offsets.
+pub mod EquationLists

@@ -1,0 +1,2 @@
+-- What a push of an equation's survivors asks.
+pub mod Lists
