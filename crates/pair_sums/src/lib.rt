@@ -30,7 +30,7 @@ fn sum_set(
     let low = set_offsets::least(x, y);
     let n = set_offsets::surviving(width, disks, size, kind, number, low, x + y - low, at);
     let to = (disk * width + row) * size;
-    xor_within::gather_lists(stripe, to, size, &mut at[..n]);
+    xor_within_lists::gather_lists(stripe, to, size, &mut at[..n]);
 }
 
 // The row set and the diagonal set of each of `count` rows, from this row on, summed into the cells that they give.

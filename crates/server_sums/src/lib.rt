@@ -49,5 +49,5 @@ pub fn solve_server(long: usize, servers: usize, server: usize, stripes: &mut [u
 {
     let mut at = no_servers();
     let n = push_others(long, servers, server, &mut at);
-    xor_within::gather_lists(stripes, server * long, long, &mut at[..n]);
+    xor_within_lists::gather_lists(stripes, server * long, long, &mut at[..n]);
 }

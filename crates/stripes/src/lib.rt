@@ -31,7 +31,7 @@ pub fn solve_by(
 {
     let n = set_offsets::others(width, disks, size, kind, number, disk, at);
     let to = (disk * width + row) * size;
-    xor_within::gather_lists(stripe, to, size, &mut at[..n]);
+    xor_within_lists::gather_lists(stripe, to, size, &mut at[..n]);
 }
 
 // The same by a list of its own.
@@ -61,7 +61,7 @@ pub fn solve_rows(width: usize, disks: usize, size: usize, disk: usize, stripe: 
     let n = offsets::push(width, size, 0, 0, 0, disk, &mut at, 0);
     let m = offsets::push_row(width, size, 0, disk + 1, disks + 1, &mut at, n);
     let column = width * size;
-    xor_within::gather_lists(stripe, disk * column, column, &mut at[..m]);
+    xor_within_lists::gather_lists(stripe, disk * column, column, &mut at[..m]);
 }
 
 // All cells of Q, each by its diagonal set.

@@ -3,9 +3,9 @@ use mathlib.Core.Path.{sym}
 use native.Mathlib.Omega.{arith}
 use lib.Seq.{length-take-le}
 use borrow.Author.Needs.{needs}
-use Rattle.xor_within.proofs.ListLaws.{first-beside, lists-done, still-apart}
-use Rattle.xor_within.proofs.gather_lists.Statement.{statement}
-use Rattle.xor_within.proofs.gather_lists.Tie as tie
+use Rattle.xor_within_lists.proofs.ListLaws.{first-beside, lists-done, still-apart}
+use Rattle.xor_within_lists.proofs.gather_lists.Statement.{statement}
+use Rattle.xor_within_lists.proofs.gather_lists.Tie as tie
 
 slice-aggregate-gather-within : tie.Need-slice-aggregate-gather-within
 slice-aggregate-gather-within c =

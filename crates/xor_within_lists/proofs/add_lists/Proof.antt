@@ -7,9 +7,9 @@ use borrow.Author.Needs.{needs}
 use Rattle.laws.specs.Xor.{xorL}
 use Rattle.xor.specs.Parts.{part, withPart, xorOffsets}
 use Rattle.xor.proofs.SourceLaws.{bytes-all}
-use Rattle.xor_within.proofs.ListLaws.{none-added, next-beside, next-rest, next-added, all-added}
-use Rattle.xor_within.proofs.add_lists.Statement.{statement}
-use Rattle.xor_within.proofs.add_lists.Tie as tie
+use Rattle.xor_within_lists.proofs.ListLaws.{none-added, next-beside, next-rest, next-added, all-added}
+use Rattle.xor_within_lists.proofs.add_lists.Statement.{statement}
+use Rattle.xor_within_lists.proofs.add_lists.Tie as tie
 
 abbrev Inv-loop : tie.InvT-loop
 Inv-loop t₀ d n at₀ from count i₀ t at i =

@@ -1,0 +1,2 @@
+-- Lists one after another.
+pub mod ListLaws
