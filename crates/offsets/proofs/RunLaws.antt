@@ -15,7 +15,7 @@ use Rattle.liberation.specs.Sets.{place, rowFrom, survivingIn}
 use Rattle.liberation_stripes.proofs.CellLaws.{cell-fits}
 use Rattle.xor.specs.Parts.{part, xorOffsets}
 use Rattle.xor.proofs.BlockLaws.{Within, part-block, offsets-long}
-use Rattle.bytes.proofs.ZeroLaws.{noneTo, none-add}
+use Rattle.byte_slices.proofs.ZeroLaws.{noneTo, none-add}
 use Rattle.offsets.specs.Offsets.{scaled}
 use Rattle.offsets.proofs.KeptLaws.{cell-walk, surviving-first}
 

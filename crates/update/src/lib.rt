@@ -24,7 +24,7 @@ fn put_cell(
     let end = start + size;
     xor::add_one(&mut stripe[start..end], cell, 0);
     update_parity::add_to_parity(width, disks, size, row, disk, stripe);
-    bytes::copy(&mut stripe[start..end], cell);
+    byte_slices::copy(&mut stripe[start..end], cell);
 }
 
 // The refusal of a call on a stripe and a cell of these many bytes, 0 for none. P and Q hold no data.

@@ -12,7 +12,7 @@ fn put_block(dst: &mut [u8], t: &[u8], at: &[usize], b: usize)
 {
     let e = b + 64;
     let block = xor::block_of(&t[b..], at);
-    bytes::copy(&mut dst[b..e], &block[..64]);
+    byte_slices::copy(&mut dst[b..e], &block[..64]);
 }
 
 // The same of 128 bytes.
@@ -22,7 +22,7 @@ fn put_wide_block(dst: &mut [u8], t: &[u8], at: &[usize], b: usize)
 {
     let e = b + 128;
     let block = xor::wide_block_of(&t[b..], at);
-    bytes::copy(&mut dst[b..e], &block[..128]);
+    byte_slices::copy(&mut dst[b..e], &block[..128]);
 }
 
 // The bytes of dst from b on, at most 64, = those of the XOR of the parts.
@@ -33,7 +33,7 @@ fn put_rest(dst: &mut [u8], t: &[u8], at: &[usize], b: usize)
     let n = dst.len();
     let m = n - b;
     let block = xor::rest_of(&t[b..], at, m);
-    bytes::copy(&mut dst[b..n], &block[..m]);
+    byte_slices::copy(&mut dst[b..n], &block[..m]);
 }
 
 // dst = the XOR of the parts of t at the offsets, in blocks of 64 bytes.

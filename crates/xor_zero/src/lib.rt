@@ -12,7 +12,7 @@ fn block_is_zero(t: &[u8], at: &[usize]) -> bool
     ensures { λ r. ⌜ r ≡ same (xorOffsets 64 (now (t .entry)) (now (at .entry))) (replicate 64 0) ⌝ }
 {
     let block = xor::block_of(t, at);
-    bytes::all_zero(&block[..64])
+    byte_slices::all_zero(&block[..64])
 }
 
 // Is the XOR of the parts of 128 bytes zero?
@@ -21,7 +21,7 @@ fn wide_block_is_zero(t: &[u8], at: &[usize]) -> bool
     ensures { λ r. ⌜ r ≡ same (xorOffsets 128 (now (t .entry)) (now (at .entry))) (replicate 128 0) ⌝ }
 {
     let block = xor::wide_block_of(t, at);
-    bytes::all_zero(&block[..128])
+    byte_slices::all_zero(&block[..128])
 }
 
 // Is the XOR of the parts of m bytes, at most 64, zero?
@@ -30,7 +30,7 @@ fn rest_is_zero(t: &[u8], at: &[usize], m: usize) -> bool
     ensures { λ r. ⌜ r ≡ same (xorOffsets m (now (t .entry)) (now (at .entry))) (replicate m 0) ⌝ }
 {
     let block = xor::rest_of(t, at, m);
-    bytes::all_zero(&block[..m])
+    byte_slices::all_zero(&block[..m])
 }
 
 // Is the XOR of the parts of n bytes zero? In blocks of 64 bytes.
@@ -80,7 +80,7 @@ fn stretch_is_zero(t: &[u8], at: &[usize]) -> bool
 {
     let mut stretch = no_stretch();
     xor_gather::gather(&mut stretch[..2048], t, at);
-    bytes::all_zero(&stretch[..2048])
+    byte_slices::all_zero(&stretch[..2048])
 }
 
 // Is the XOR of the parts of n bytes zero, n a number of stretches?

@@ -9,7 +9,7 @@ use borrow.Author.Tests.{not-true, not-false}
 use Rattle.laws.specs.Lists.{same}
 use Rattle.xor.specs.Parts.{xorOffsets}
 use Rattle.xor.proofs.BlockLaws.{tail-is, reach-tail}
-use Rattle.bytes.proofs.ZeroLaws.{zeroFrom, zero-all, zero-next}
+use Rattle.byte_slices.proofs.ZeroLaws.{zeroFrom, zero-all, zero-next}
 use Rattle.xor_zero.proofs.blocks_are_zero.Statement.{statement}
 use Rattle.xor_zero.proofs.blocks_are_zero.Tie as tie
 

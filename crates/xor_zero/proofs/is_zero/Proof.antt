@@ -10,7 +10,7 @@ use borrow.Author.Tests.{not-true, not-false}
 use Rattle.laws.specs.Lists.{same}
 use Rattle.xor.specs.Parts.{xorOffsets}
 use Rattle.xor.proofs.BlockLaws.{tail-is, tail-long, reach-tail}
-use Rattle.bytes.proofs.ZeroLaws.{zeroFrom, zero-split}
+use Rattle.byte_slices.proofs.ZeroLaws.{zeroFrom, zero-split}
 use Rattle.xor_zero.proofs.is_zero.Statement.{statement}
 use Rattle.xor_zero.proofs.is_zero.Tie as tie
 

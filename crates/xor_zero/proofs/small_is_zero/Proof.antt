@@ -9,7 +9,7 @@ use borrow.Author.Tests.{not-true, not-false}
 use Rattle.laws.specs.Lists.{same}
 use Rattle.xor.specs.Parts.{xorOffsets}
 use Rattle.xor.proofs.BlockLaws.{tail-is, reach-tail}
-use Rattle.bytes.proofs.ZeroLaws.{zeroFrom, zero-all, zero-next, zero-none}
+use Rattle.byte_slices.proofs.ZeroLaws.{zeroFrom, zero-all, zero-next, zero-none}
 use Rattle.xor_zero.proofs.small_is_zero.Statement.{statement}
 use Rattle.xor_zero.proofs.small_is_zero.Tie as tie
 
