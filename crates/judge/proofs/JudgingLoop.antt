@@ -19,8 +19,8 @@ use Rattle.liberation.specs.Judging.{Judged, judged, judge, judgeFrom, othersTh
 use Rattle.liberation.proofs.SetLaws.{survivors-below}
 use Rattle.liberation.proofs.AcceptedLaws.{passed}
 use Rattle.liberation.proofs.Passing.{judge-next}
-use Rattle.sets.specs.Marks.{Marked}
-use Rattle.sets.proofs.MarkLaws.{marked-read, marked-few}
+use Rattle.cell_marks.specs.Marks.{Marked}
+use Rattle.cell_marks.proofs.MarkLaws.{marked-read, marked-few}
 use Rattle.liberation.proofs.MarkLists.{length-marks, mark-set}
 use Rattle.refusals.specs.declared.Answer.{Answer}
 use Rattle.refusals.specs.Answers.{Answers}

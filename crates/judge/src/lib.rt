@@ -52,7 +52,7 @@ fn judge_steps(width: usize, disks: usize, lost: usize, plan: &[u8], marks: &mut
             };
         }
         done[row] = 1;
-        let fresh = sets::mark_set(width, disks, lost, kind, number, marks);
+        let fresh = cell_marks::mark_set(width, disks, lost, kind, number, marks);
         reads += fresh;
         i += 1;
     }
@@ -87,6 +87,6 @@ pub fn judge_plan(width: usize, disks: usize, lost: usize, plan: &[u8]) -> Judge
             reads: 0,
         };
     }
-    let mut marks = sets::no_marks();
+    let mut marks = cell_marks::no_marks();
     judge_steps(width, disks, lost, plan, &mut marks[..width * (disks + 2)])
 }

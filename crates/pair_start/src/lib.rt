@@ -78,7 +78,7 @@ pub fn start(width: usize, disks: usize, size: usize, x: usize, y: usize, stripe
     let from = pair_numbers::extra_row(width, first);
     let count = start_count(width, y);
     let cells = width * (disks + 2);
-    let mut marks = sets::no_marks();
+    let mut marks = cell_marks::no_marks();
     let mut at = offsets::no_offsets();
     toggle_sets(
         count,

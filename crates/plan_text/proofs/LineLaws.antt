@@ -10,8 +10,8 @@ use Rattle.laws.specs.Lists.{added}
 use Rattle.liberation.specs.Sets.{isWidth, setOf, survivingIn}
 use Rattle.liberation.specs.Plans.{Step, planOf, marksFrom}
 use Rattle.liberation.proofs.SetLaws.{survivors-below}
-use Rattle.sets.specs.Marks.{Marked}
-use Rattle.sets.proofs.MarkLaws.{marked-read}
+use Rattle.cell_marks.specs.Marks.{Marked}
+use Rattle.cell_marks.proofs.MarkLaws.{marked-read}
 use Rattle.step_records.specs.declared.Steps.{Steps}
 use Rattle.step_records.specs.Records.{Holds}
 use Rattle.liberation.proofs.RecordLaws.{StepAt, step-at, plan-length, plan-passed, plan-number}

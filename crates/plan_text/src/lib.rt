@@ -125,7 +125,7 @@ fn put_steps(
     while i < width {
         let kind = kinds[i] as usize;
         let number = numbers[i] as usize;
-        let new = sets::mark_set(width, width, disk, kind, number, marks);
+        let new = cell_marks::mark_set(width, width, disk, kind, number, marks);
         next = put_line(out, next, i, rows[i] as usize, kind, number, new as usize);
         i += 1;
     }
@@ -139,7 +139,7 @@ fn put_plan(out: &mut [u8], at: usize, width: usize, disk: usize, steps: Steps) 
 {
     let lines = text::put(out, at, b"step,row,set,number,new\n");
     let n = width * (width + 2);
-    let mut marks = sets::no_marks();
+    let mut marks = cell_marks::no_marks();
     put_steps(out, lines, width, disk, steps, &mut marks[..n])
 }
 

@@ -10,8 +10,8 @@ use Rattle.liberation.specs.Sets.{setOf, survivingIn}
 use Rattle.liberation.specs.Plans.{Step, readFrom, cellsRead, readCount, marksFrom}
 use Rattle.liberation.proofs.SetLaws.{survivors-below}
 use Rattle.liberation.proofs.RecordLaws.{StepAt}
-use Rattle.sets.specs.Marks.{Marked}
-use Rattle.sets.proofs.MarkLaws.{marked-read, marked-few}
+use Rattle.cell_marks.specs.Marks.{Marked}
+use Rattle.cell_marks.proofs.MarkLaws.{marked-read, marked-few}
 
 -- The loop over the steps: after i of them the marks stand for the cells read so far, and `reads` counts them.
 pub record Reading (p k f : ℕ) (ss : List Step) (m : List ℕ) (reads i : ℕ) : Type 0 where

@@ -34,7 +34,7 @@ fn mark_steps(width: usize, disks: usize, lost: usize, s: Steps, marks: &mut [u8
     while i < width {
         let kind = kinds[i] as usize;
         let number = numbers[i] as usize;
-        reads += sets::mark_set(width, disks, lost, kind, number, marks);
+        reads += cell_marks::mark_set(width, disks, lost, kind, number, marks);
         i += 1;
     }
     reads
@@ -58,7 +58,7 @@ fn finished(width: usize, disks: usize, lost: usize, p: Planned) -> Plan
 {
     let s = p.steps;
     let n = width * (disks + 2);
-    let mut marks = sets::no_marks();
+    let mut marks = cell_marks::no_marks();
     let reads = mark_steps(width, disks, lost, s, &mut marks[..n]);
     let answer = p.answer;
     Plan {

@@ -10,7 +10,7 @@ use Rattle.liberation.proofs.Widths.{width-most}
 use Rattle.liberation.proofs.MarkLists.{length-marks}
 use Rattle.liberation.proofs.RecordLaws.{plan-length}
 use Rattle.text.proofs.WriteLaws.{wrote-long}
-use Rattle.sets.proofs.MarkLaws.{marked-few}
+use Rattle.cell_marks.proofs.MarkLaws.{marked-few}
 use Rattle.plan_text.proofs.LineLaws.{PlanStep, plan-step, Printing, printing-start, printing-turn, printing-end}
 use Rattle.plan_text.proofs.put_steps.Tie as tie
 use Rattle.plan_text.proofs.put_steps.Statement.{statement}

@@ -1,0 +1,2 @@
+-- What marking promises.
+pub mod Marks
