@@ -23,7 +23,7 @@ use Rattle.offsets.proofs.KeptLaws.{cell-walk}
 use Rattle.offsets.proofs.OffsetLaws.{over-offsets}
 use Rattle.set_offsets.proofs.SetLists.{one-pushed, both-pushed, data-count}
 use Rattle.pair_sums.specs.Disks.{Lost}
-use Rattle.pair_sums.proofs.SumLists.{cells-beside}
+use Rattle.stripes.proofs.OrdinaryLaws.{cells-beside}
 
 -- a set's cells on a lost disk: that of the row or the diagonal, and the extra cell if it is there
 module _ (p k kind i f : ℕ) (h : i < p) (l : f < k) where

@@ -1,47 +1,28 @@
--- Lists of cells, one of which may be the cell that is written; and of a set's surviving cells, none of which is a lost cell.
-use mathlib.Core.Path.{_≡_, sym, subst, ap, _∙_}
+-- Lists of a set's surviving cells, none of which is a lost cell.
+use mathlib.Core.Path.{_≡_, ap, _∙_}
 use mathlib.Core.Bool.{true, false}
-use mathlib.Core.Logic.{_⊎_, inl, inr, ⊎-elim}
+use mathlib.Core.Logic.{_⊎_, ⊎-elim}
 use mathlib.Core.List.{List}
-use Prim.Native.Nat.{ℕ, _+_, _*_, _≤_, _<_}
-use native.Mathlib.Nat.{mul-le-mul}
+use Prim.Native.Nat.{ℕ, _+_, _*_, _<_}
 use native.Mathlib.Omega.{arith}
-use lib.ListN.{length, getD, set, take}
-use Rattle.laws.specs.Lists.{isIn, allBelow}
+use lib.ListN.{length, set, take}
+use Rattle.laws.specs.Lists.{isIn}
 use Rattle.laws.proofs.Flags.{clash, flag}
-use Rattle.laws.proofs.OrderLaws.{lt-or-le}
 use Rattle.liberation.specs.Sets.{place, setOf}
 use Rattle.liberation.proofs.SetLaws.{place-below}
-use Rattle.liberation_stripes.proofs.CellLaws.{cell-fits}
 use Rattle.liberation_stripes.specs.Steps.{cellStep}
 use Rattle.liberation_pairs.specs.PairSteps.{isLost}
 use Rattle.liberation_pairs.proofs.Upward.{lost-first, lost-second}
 use Rattle.liberation_sums.specs.Sums.{summed}
 use Rattle.liberation_sums.proofs.Adding.{survivor-off}
 use Rattle.xor.specs.Parts.{withPart, xorOffsets}
-use Rattle.xor_within.specs.Beside.{Beside, Apart}
+use Rattle.xor_within.specs.Beside.{Apart}
 use Rattle.offsets.specs.Offsets.{scaled, Pushed}
-use Rattle.offsets.proofs.OffsetLaws.{length-scaled, each-offset, over-offsets}
+use Rattle.offsets.proofs.OffsetLaws.{length-scaled, over-offsets}
 use Rattle.set_offsets.specs.Cells.{survivors}
-use Rattle.set_offsets.proofs.SetLists.{reached, survivors-below}
+use Rattle.set_offsets.proofs.SetLists.{survivors-below}
 use Rattle.stripes.proofs.OrdinaryLaws.{apart-from}
 use Rattle.pair_sums.specs.Disks.{Lost}
-
--- cells in a list beside a cell: each is that cell, or lies apart from it
-module _ (s r n : ℕ) (old at xs t : List ℕ) (room : length at ≡ 33) (pushed : Pushed old at 0 r (scaled s xs)) (below : allBelow n xs ≡ true) (long : length t ≡ n * s) where
-  pub cells-beside : (x : ℕ) → x < n → Beside (x * s) s (length t) (take r at)
-  cells-beside x h =
-      record {
-        sources = reached s r n old at xs t room pushed below long;
-        fits = omega (arith, cell-fits n s x h);
-        apart = subst (λ (l : List ℕ). (i : ℕ) → i < length l → (getD l i 0 + s ≤ x * s) ⊎ (x * s ≤ getD l i 0)) (sym (pushed .list)) (each-offset (λ a. (a + s ≤ x * s) ⊎ (x * s ≤ a)) s xs (λ i l. one (getD xs i 0)));
-      }
-    where
-      one : (d : ℕ) → (d * s + s ≤ x * s) ⊎ (x * s ≤ d * s)
-      one d = ⊎-elim (λ q. inl (cell-fits x s d q)) (λ q. inr (mul-le-mul q (le-refl s))) (lt-or-le d x)
-        where
-          le-refl : (m : ℕ) → m ≤ m
-          le-refl m = omega arith
 
 -- the survivors of a set, pushed for the two disks in order, lie apart from a lost cell, and their XOR is the set's sum
 module _ (p k s x y : ℕ) (t old at : List ℕ) (q : Lost p k s x y t old) (room : length at ≡ 33) (kind i n r f : ℕ) (numbered : i < p) (row : r < p) (on : (f ≡ x) ⊎ (f ≡ y)) where

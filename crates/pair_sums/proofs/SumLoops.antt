@@ -23,7 +23,7 @@ use Rattle.offsets.specs.Offsets.{scaled, Pushed}
 use Rattle.offsets.proofs.OffsetLaws.{length-scaled, over-offsets}
 use Rattle.offsets.proofs.PushLaws.{pushed-one, pushed-then}
 use Rattle.pair_sums.specs.Disks.{Lost}
-use Rattle.pair_sums.proofs.SumLists.{cells-beside}
+use Rattle.stripes.proofs.OrdinaryLaws.{cells-beside}
 
 -- a stripe and a list that are as long
 pub still-lost : {p k s x y : ℕ} {t₀ at₀ : List ℕ} (t at : List ℕ) → Lost p k s x y t₀ at₀ → length t ≡ length t₀ → length at ≡ length at₀ → Lost p k s x y t at

@@ -1,10 +1,10 @@
 -- The set without one of its ordinary cells: a set has one ordinary cell on a disk, and the extra cell is none of them, so it is the set without that disk, but for the extra cell. The XOR of those cells, put at the ordinary one, is the set's step.
 use mathlib.Core.Path.{_≡_, refl, sym, subst, ap, ap₂, _∙_}
 use mathlib.Core.Bool.{Bool, true, false, _&&_, not, and-false}
-use mathlib.Core.Logic.{_⊎_}
+use mathlib.Core.Logic.{_⊎_, inl, inr, ⊎-elim}
 use mathlib.Core.List.{List, _++_}
 use Prim.Native.Nat.{ℕ, suc, _+_, _*_, _%_, _≤_, _<_}
-use native.Mathlib.Nat.{mod-lt}
+use native.Mathlib.Nat.{mod-lt, mul-le-mul}
 use native.Mathlib.Omega.{arith}
 use lib.Dec.{eqb, ltb, leb}
 use lib.ListN.{length, getD, take}
@@ -12,6 +12,7 @@ use borrow.Author.Tests.{eq-eqb, ne-eqb, eqb-true, le-leb}
 use Rattle.laws.specs.Choice.{pick}
 use Rattle.laws.specs.Lists.{isIn, allBelow}
 use Rattle.laws.proofs.Flags.{and-i, or-l, or-r, clash, same-flag}
+use Rattle.laws.proofs.OrderLaws.{lt-or-le}
 use Rattle.laws.proofs.ListLaws.{isIn-append}
 use Rattle.laws.proofs.MemberLaws.{at-in, in-below}
 use Rattle.laws.proofs.KeptLaws.{kept-append, kept-below, kept-same}
@@ -24,12 +25,12 @@ use Rattle.liberation_stripes.proofs.CellLaws.{cell-fits, cells-apart}
 use Rattle.liberation_stripes.proofs.OverLaws.{without-keeps, without-none}
 use Rattle.xor.specs.Parts.{withPart, xorOffsets}
 use Rattle.xor.specs.Reach.{Reached}
-use Rattle.xor_within.specs.Beside.{Apart}
+use Rattle.xor_within.specs.Beside.{Beside, Apart}
 use Rattle.offsets.specs.Offsets.{scaled, Pushed}
 use Rattle.offsets.proofs.OffsetLaws.{length-scaled, over-offsets, each-offset, cells-reached}
 use Rattle.offsets.proofs.KeptLaws.{surviving-keeps}
 use Rattle.set_offsets.specs.Cells.{survivors, ordinaryOf, extraIn}
-use Rattle.set_offsets.proofs.SetLists.{survivors-one, set-split, extra-kept, own-row}
+use Rattle.set_offsets.proofs.SetLists.{survivors-one, set-split, extra-kept, own-row, reached}
 use Rattle.stripes.specs.Cells.{Ordinary}
 
 -- the set without its ordinary cell on disk c
@@ -79,6 +80,22 @@ module _ (s r n : ℕ) (old at xs t : List ℕ) (few : length xs ≤ 100) (pushe
 
       apart : (i : ℕ) → i < length xs → (getD xs i 0 * s + s ≤ x * s) ⊎ (x * s + s ≤ getD xs i 0 * s)
       apart i l = cells-apart s (getD xs i 0) x (other i l)
+
+-- cells in a list beside a cell: each is that cell, or lies apart from it
+module _ (s r n : ℕ) (old at xs t : List ℕ) (room : length at ≡ 33) (pushed : Pushed old at 0 r (scaled s xs)) (below : allBelow n xs ≡ true) (long : length t ≡ n * s) where
+  pub cells-beside : (x : ℕ) → x < n → Beside (x * s) s (length t) (take r at)
+  cells-beside x h =
+      record {
+        sources = reached s r n old at xs t room pushed below long;
+        fits = omega (arith, cell-fits n s x h);
+        apart = subst (λ (l : List ℕ). (i : ℕ) → i < length l → (getD l i 0 + s ≤ x * s) ⊎ (x * s ≤ getD l i 0)) (sym (pushed .list)) (each-offset (λ a. (a + s ≤ x * s) ⊎ (x * s ≤ a)) s xs (λ i l. one (getD xs i 0)));
+      }
+    where
+      one : (d : ℕ) → (d * s + s ≤ x * s) ⊎ (x * s ≤ d * s)
+      one d = ⊎-elim (λ q. inl (cell-fits x s d q)) (λ q. inr (mul-le-mul q (le-refl s))) (lt-or-le d x)
+        where
+          le-refl : (m : ℕ) → m ≤ m
+          le-refl m = omega arith
 
 -- their XOR put at the cell x, of a set xs without x, is the set's step
 pub step-put : (s x n : ℕ) (xs old at t u : List ℕ) → Pushed old at 0 n (scaled s (without x xs)) → u ≡ withPart s (x * s) (xorOffsets s t (take n at)) t → u ≡ solved s x xs t
