@@ -22,7 +22,8 @@ use Rattle.liberation_stripes.proofs.Rebuilding.{one-back, lost-unused, only-re
 use Rattle.refusals.specs.declared.Answer.{Answer}
 use Rattle.planner.specs.Says.{ListSays}
 use Rattle.check_stripe.specs.declared.Checked.{Checked}
-use Rattle.stripes.specs.Says.{stripeFault, EncodeSays}
+use Rattle.stripes.specs.Says.{stripeFault}
+use Rattle.encode_stripe.specs.Says.{EncodeSays}
 use Rattle.check_stripe.specs.Says.{CheckSays}
 use Rattle.stripes.proofs.StripeRefusals.{fault-none as within-limits}
 use Rattle.rebuild_one.specs.Says.{OneSays}

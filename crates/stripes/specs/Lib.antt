@@ -1,3 +1,3 @@
--- What encoding a stripe promises, and what its steps ask.
+-- What the steps over a stripe ask, and the refusals of a call on one.
 pub mod Cells
 pub mod Says

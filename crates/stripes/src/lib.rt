@@ -1,4 +1,4 @@
-// Encoding a stripe, which writes P and Q, and its steps: one cell by its set, all cells of a disk by their sets.
+// Steps over a stripe: one cell by its set, all cells of a disk by their sets; and the refusals of a call on a stripe.
 ghost use mathlib.Core.Path.{_≡_};
 ghost use mathlib.Core.Bool.{not};
 ghost use Prim.Native.Nat.{_+_, _≤_, _<_};
@@ -9,9 +9,6 @@ ghost use Rattle.liberation.specs.Sets.{place, setOf, shapeFault};
 ghost use Rattle.liberation.specs.Plans.{allOf};
 ghost use Rattle.liberation_stripes.specs.Stripes.{solved, followed, stripeLong};
 ghost use Rattle.stripes.specs.Cells.{Sized, Ordinary};
-ghost use Rattle.stripes.specs.Says.{EncodeSays};
-use refusals::Answer;
-use refusals::Shape;
 
 // A set's ordinary cell, of this disk and row, becomes the XOR of the other cells of the set, by a lent list.
 pub fn solve_by(
@@ -86,23 +83,4 @@ pub fn stripe_fault(width: usize, disks: usize, size: usize, long: usize) -> u8
         return fault;
     }
     refusals::length_fault(long, (disks + 2) * (width * size))
-}
-
-// Writes P and Q of a stripe. Refusals: 1, 13, 2, 5; a refused call leaves the stripe as it was.
-pub fn encode_stripe(shape: Shape, stripe: &mut [u8]) -> Answer
-    ensures { λ r. ⌜ EncodeSays (shape .width) (shape .disks) (shape .«cell_size») (now (stripe .entry)) (now (stripe .exit)) r ⌝ }
-{
-    let fault = stripe_fault(shape.width, shape.disks, shape.cell_size, stripe.len());
-    if fault != 0 {
-        return refusals::answered(fault);
-    }
-    solve_rows(
-        shape.width,
-        shape.disks,
-        shape.cell_size,
-        shape.disks,
-        stripe,
-    );
-    solve_diagonals(shape.width, shape.disks, shape.cell_size, stripe);
-    refusals::answered(0)
 }

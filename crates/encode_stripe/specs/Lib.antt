@@ -1,0 +1,2 @@
+-- What encoding a stripe promises.
+pub mod Says
