@@ -16,10 +16,10 @@ fn is_zero(stripe: &[u8], n: usize, at: &[usize]) -> bool
     requires { ⌜ (n ≤ length (now stripe)) × Reached n (length (now stripe)) (now at) ⌝ }
     ensures { λ r. ⌜ r ≡ same (xorOffsets n (now (stripe .entry)) (now (at .entry))) (replicate n 0) ⌝ }
 {
-    if n < 2048 || at.len() < 16 {
+    if n < 2048 || at.len() < 12 {
         return xor_zero::blocks_are_zero(stripe, n, at);
     }
-    xor_zero::is_zero(stripe, n, at)
+    xor_zero::long_is_zero(stripe, n, at)
 }
 
 // Does an equation hold: do its survivors XOR to zero?

@@ -1,4 +1,4 @@
--- `is_zero`: the stretches, and what is left of the n bytes after them.
+-- `long_is_zero`: the stretches, and what is left of the n bytes after them.
 use mathlib.Core.Path.{_≡_, sym, ap, _∙_}
 use mathlib.Core.Bool.{Bool, true, false, _&&_}
 use mathlib.Core.List.{List}
@@ -11,8 +11,8 @@ use Rattle.laws.specs.Lists.{same}
 use Rattle.xor.specs.Parts.{xorOffsets}
 use Rattle.xor.proofs.BlockLaws.{tail-is, tail-long, reach-tail}
 use Rattle.byte_slices.proofs.ZeroLaws.{zeroFrom, zero-split}
-use Rattle.xor_zero.proofs.is_zero.Statement.{statement}
-use Rattle.xor_zero.proofs.is_zero.Tie as tie
+use Rattle.xor_zero.proofs.long_is_zero.Statement.{statement}
+use Rattle.xor_zero.proofs.long_is_zero.Tie as tie
 
 stretches-are-zero-requires : tie.Need-stretches-are-zero-requires
 stretches-are-zero-requires c κs =
@@ -50,8 +50,8 @@ returns-2 c =
     ∙ ap (λ (u : List ℕ). same (xorOffsets (a .n - b) u (a .at .now)) (replicate (a .n - b) 0)) (tail-is b (a .t .now))
     ∙ sym (split w true (not-false (w .stretches-are-zero .result) (c .before .before .if1 .left)))
 
-pub is-zero-spec : {M : Type 1} → statement M
-is-zero-spec =
+pub long-is-zero-spec : {M : Type 1} → statement M
+long-is-zero-spec =
     tie.close
     (tie.spec
     (λ c κs. search needs)

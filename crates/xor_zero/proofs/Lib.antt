@@ -1,0 +1,2 @@
+-- The laws behind the loops.
+pub mod LastLaws
