@@ -58,6 +58,9 @@ members=$folder/members
 rm -rf "$members" "$folder/libcuzhaveli.a" "$folder/libcuzhaveli_plans.a"
 mkdir "$members"
 exports=$(sed -n 's/^\(cuzhaveli_[a-z]*\):.*/\1/p' crates.txt | LC_ALL=C sort)
+# rt check proves what is not proved yet on all processors, rt staticlib one crate after another
+# shellcheck disable=SC2086 # the exports are words
+[ -n "$arch" ] || rt check $exports
 for export in $exports; do
     if [ -z "$arch" ]; then proved "$export" "$members/$export.a"; else compiled "$export" "$members/$export.a"; fi
     (cd "$members" && ar x "$export.a" "$export.o")
