@@ -4,13 +4,13 @@ use super::model::{encode, stripe_length};
 use super::{arrays, Lent, Random, Shape};
 
 /// Cell sizes of accepted stripes.
-const SIZES: [usize; 8] = [1, 2, 3, 7, 8, 64, 511, 4_096];
+const SIZES: [usize; 9] = [1, 2, 3, 7, 8, 64, 511, 512, 4_096];
 
 /// Cell sizes where there are fewer data disks than rows.
 const PART_SIZES: [usize; 3] = [1, 7, 64];
 
 /// Arrays of fewer data disks than rows that have the largest cells too.
-const LARGE_PARTS: [(usize, usize); 4] = [(3, 2), (7, 5), (13, 6), (31, 2)];
+const LARGE_PARTS: [(usize, usize); 6] = [(3, 2), (7, 5), (13, 6), (13, 12), (23, 11), (31, 2)];
 
 /// The stripe of document 01's example, disk after disk.
 pub const EXAMPLE: [u8; 15] = [
