@@ -17,7 +17,7 @@ fn is_zero(stripe: &[u8], n: usize, at: &[usize]) -> bool
     ensures { λ r. ⌜ r ≡ same (xorOffsets n (now (stripe .entry)) (now (at .entry))) (replicate n 0) ⌝ }
 {
     if n < 2048 || at.len() < 12 {
-        return xor_zero::blocks_are_zero(stripe, n, at);
+        return xor_zero_blocks::blocks_are_zero(stripe, n, at);
     }
     xor_zero::long_is_zero(stripe, n, at)
 }

@@ -10,8 +10,8 @@ use Rattle.laws.specs.Lists.{same}
 use Rattle.xor.specs.Parts.{xorOffsets}
 use Rattle.xor.proofs.BlockLaws.{tail-is, reach-tail}
 use Rattle.byte_slices.proofs.ZeroLaws.{zeroFrom, zero-all, zero-next}
-use Rattle.xor_zero.proofs.blocks_are_zero.Statement.{statement}
-use Rattle.xor_zero.proofs.blocks_are_zero.Tie as tie
+use Rattle.xor_zero_blocks.proofs.blocks_are_zero.Statement.{statement}
+use Rattle.xor_zero_blocks.proofs.blocks_are_zero.Tie as tie
 
 abbrev Inv-loop : tie.InvT-loop
 Inv-loop t n at b₀ b = (b ≤ n) × (same (xorOffsets n t at) (replicate n 0) ≡ zeroFrom b n t at)

@@ -5,8 +5,8 @@ use Prim.Native.Nat.{ℕ}
 use lib.ListN.{length, replicate}
 use borrow.Author.Needs.{needs}
 use Rattle.laws.specs.Lists.{same}
-use Rattle.xor_zero.proofs.block_is_zero.Statement.{statement}
-use Rattle.xor_zero.proofs.block_is_zero.Tie as tie
+use Rattle.xor_zero_blocks.proofs.block_is_zero.Statement.{statement}
+use Rattle.xor_zero_blocks.proofs.block_is_zero.Tie as tie
 
 returns : tie.Need-returns
 returns c =

@@ -9,9 +9,9 @@ use Rattle.laws.specs.Lists.{same}
 use Rattle.xor.specs.Parts.{part}
 use Rattle.xor.specs.Reach.{Reached}
 use Rattle.byte_slices.proofs.ZeroLaws.{noneTo}
-use Rattle.xor_zero.proofs.LastLaws.{sumWith, sum-next, sum-split, sum-all}
-use Rattle.xor_zero.proofs.sum_is_zero.Statement.{statement}
-use Rattle.xor_zero.proofs.sum_is_zero.Tie as tie
+use Rattle.xor_zero_stretch.proofs.LastLaws.{sumWith, sum-next, sum-split, sum-all}
+use Rattle.xor_zero_stretch.proofs.sum_is_zero.Statement.{statement}
+use Rattle.xor_zero_stretch.proofs.sum_is_zero.Tie as tie
 
 abbrev Inv-loop : tie.InvT-loop
 Inv-loop stretch t at b₀ b = (b ≤ 2048) × (b % 128 ≡ 0) × (noneTo b (sumWith 2048 t at stretch) ≡ true)

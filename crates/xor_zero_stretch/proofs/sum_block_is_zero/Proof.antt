@@ -8,9 +8,9 @@ use Rattle.laws.specs.Lists.{same}
 use Rattle.laws.specs.Xor.{xorL}
 use Rattle.xor.specs.Parts.{part, xorOffsets}
 use Rattle.xor.proofs.BlockLaws.{tail-is, reach-tail}
-use Rattle.xor_zero.proofs.LastLaws.{sumWith}
-use Rattle.xor_zero.proofs.sum_block_is_zero.Statement.{statement}
-use Rattle.xor_zero.proofs.sum_block_is_zero.Tie as tie
+use Rattle.xor_zero_stretch.proofs.LastLaws.{sumWith}
+use Rattle.xor_zero_stretch.proofs.sum_block_is_zero.Statement.{statement}
+use Rattle.xor_zero_stretch.proofs.sum_block_is_zero.Tie as tie
 
 wide-block-of-requires : tie.Need-wide-block-of-requires
 wide-block-of-requires c κs =

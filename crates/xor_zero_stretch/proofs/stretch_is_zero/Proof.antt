@@ -9,9 +9,9 @@ use Rattle.laws.specs.Lists.{same}
 use Rattle.xor.specs.Parts.{xorOffsets}
 use Rattle.xor.specs.Reach.{Reached}
 use Rattle.xor.proofs.BlockLaws.{reach-some}
-use Rattle.xor_zero.proofs.LastLaws.{two-lists}
-use Rattle.xor_zero.proofs.stretch_is_zero.Statement.{statement}
-use Rattle.xor_zero.proofs.stretch_is_zero.Tie as tie
+use Rattle.xor_zero_stretch.proofs.LastLaws.{two-lists}
+use Rattle.xor_zero_stretch.proofs.stretch_is_zero.Statement.{statement}
+use Rattle.xor_zero_stretch.proofs.stretch_is_zero.Tie as tie
 
 slice-aggregate-gather : tie.Need-slice-aggregate-gather
 slice-aggregate-gather c =

@@ -7,8 +7,8 @@ use lib.ListN.{length, take, replicate}
 use lib.Seq.{length-take-le}
 use borrow.Author.Needs.{needs}
 use Rattle.laws.specs.Lists.{same}
-use Rattle.xor_zero.proofs.rest_is_zero.Statement.{statement}
-use Rattle.xor_zero.proofs.rest_is_zero.Tie as tie
+use Rattle.xor_zero_blocks.proofs.rest_is_zero.Statement.{statement}
+use Rattle.xor_zero_blocks.proofs.rest_is_zero.Tie as tie
 
 long : (c : tie.After-rest-of) → let m = c .before .before .before .args .m in length (take m (c .rest-of .result)) ≡ m
 long c =
