@@ -14,7 +14,8 @@ use Rattle.liberation_stripes.proofs.Solving.{stripe-of, clean-of}
 use Rattle.liberation_stripes.proofs.Encoding.{encoded-only}
 use Rattle.set_offsets.specs.Cells.{parityDisk}
 use Rattle.stripes.specs.Cells.{Sized}
-use Rattle.encode_groups.specs.Groups.{parityCell, groupSum, addedSet, Group, KindAdded, SetsAdded}
+use Rattle.group_sets.specs.Groups.{parityCell, groupSum, addedSet, Group}
+use Rattle.encode_groups.specs.Added.{KindAdded, SetsAdded}
 use Rattle.encode_groups.proofs.GroupSums.{DataSame, parity-apart, sum-same, added-cell, added-other, added-data, sumBelow, sum-more, sum-clean}
 
 -- a stripe and a list of the same lengths do as well

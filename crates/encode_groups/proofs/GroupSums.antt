@@ -24,8 +24,8 @@ use Rattle.liberation_stripes.proofs.Solving.{SetZero, cells-long}
 use Rattle.offsets.specs.Offsets.{cellsFrom}
 use Rattle.set_offsets.specs.Cells.{parityDisk, extraIn}
 use Rattle.set_offsets.proofs.SetLists.{ordinary-split, set-split}
-use Rattle.encode_groups.specs.Groups.{extraBetween, groupCells, parityCell, groupSources, groupSum, addedSet}
-use Rattle.encode_groups.proofs.GroupLists.{extra-from, cells-below, extra-below, group-below, parity-below, sources-below, cells-in-two}
+use Rattle.group_sets.specs.Groups.{extraBetween, groupCells, parityCell, groupSources, groupSum, addedSet}
+use Rattle.group_sets.proofs.GroupLists.{extra-from, cells-below, extra-below, group-below, parity-below, sources-below, cells-in-two}
 
 -- every data cell of u is that of t
 abbrev pub DataSame : ℕ → ℕ → ℕ → List ℕ → List ℕ → Type 0

@@ -1,4 +1,3 @@
--- The cells that a group adds to a set's sum as lists, and the sums group after group.
-pub mod GroupLists
+-- The sums group after group.
 pub mod GroupSums
 pub mod GroupLoops

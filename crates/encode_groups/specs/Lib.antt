@@ -1,2 +1,2 @@
 -- What adding a group of data disks to the parity cells promises.
-pub mod Groups
+pub mod Added

@@ -4,7 +4,7 @@ use Prim.Native.Nat.{_+_, _-_, _≤_, _<_}
 use native.Mathlib.Omega.{arith}
 use lib.ListN.{length}
 use borrow.Author.Needs.{needs}
-use Rattle.encode_groups.specs.Groups.{SetsAdded}
+use Rattle.encode_groups.specs.Added.{SetsAdded}
 use Rattle.encode_groups.proofs.GroupLoops.{still-group, sized-long, sets-none, sets-turn, sets-end}
 use Rattle.encode_groups.proofs.add_sets.Statement.{statement}
 use Rattle.encode_groups.proofs.add_sets.Tie as tie

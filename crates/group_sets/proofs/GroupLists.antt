@@ -24,7 +24,7 @@ use Rattle.offsets.proofs.OffsetLaws.{over-offsets}
 use Rattle.set_offsets.specs.Cells.{parityDisk, extraIn}
 use Rattle.set_offsets.proofs.SetLists.{extra-row, parity-most, none-pushed, both-pushed}
 use Rattle.stripes.proofs.OrdinaryLaws.{cells-beside}
-use Rattle.encode_groups.specs.Groups.{extraBetween, groupCells, parityCell, groupSources, groupSum, addedSet, Group}
+use Rattle.group_sets.specs.Groups.{extraBetween, groupCells, parityCell, groupSources, groupSum, addedSet, Group}
 
 -- a walk in two parts
 walk-add : {f : ℕ → ℕ} {l : ℕ → ℕ → List ℕ} → Walk f l → (m n c : ℕ) → l (m + n) c ≡ l m c ++ l n (c + m)

@@ -11,10 +11,10 @@ use Rattle.liberation.specs.Sets.{place}
 use Rattle.xor_within.specs.Beside.{Beside}
 use Rattle.offsets.specs.Offsets.{scaled, Pushed}
 use Rattle.set_offsets.proofs.SetLists.{data-count}
-use Rattle.encode_groups.specs.Groups.{groupSources}
-use Rattle.encode_groups.proofs.GroupLists.{own-few, sources-pushed, group-beside, group-added}
-use Rattle.encode_groups.proofs.add_diagonal.Statement.{statement}
-use Rattle.encode_groups.proofs.add_diagonal.Tie as tie
+use Rattle.group_sets.specs.Groups.{groupSources}
+use Rattle.group_sets.proofs.GroupLists.{own-few, sources-pushed, group-beside, group-added}
+use Rattle.group_sets.proofs.add_diagonal.Statement.{statement}
+use Rattle.group_sets.proofs.add_diagonal.Tie as tie
 
 -- the cell's place and its offset are small numbers
 small : (c : tie.After-slice-known2) → let a = c .before .before .args in ((a .disks + 1) * a .width ≤ 32 * 31) × (((a .disks + 1) * a .width + a .number) * a .size ≤ 1023 * 4096)

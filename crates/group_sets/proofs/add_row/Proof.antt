@@ -9,10 +9,10 @@ use borrow.Author.Needs.{needs}
 use Rattle.liberation.specs.Sets.{place}
 use Rattle.xor_within.specs.Beside.{Beside}
 use Rattle.offsets.specs.Offsets.{scaled, Pushed}
-use Rattle.encode_groups.specs.Groups.{groupSources}
-use Rattle.encode_groups.proofs.GroupLists.{own-few, row-pushed, group-beside, group-added}
-use Rattle.encode_groups.proofs.add_row.Statement.{statement}
-use Rattle.encode_groups.proofs.add_row.Tie as tie
+use Rattle.group_sets.specs.Groups.{groupSources}
+use Rattle.group_sets.proofs.GroupLists.{own-few, row-pushed, group-beside, group-added}
+use Rattle.group_sets.proofs.add_row.Statement.{statement}
+use Rattle.group_sets.proofs.add_row.Tie as tie
 
 -- the cell's place and its offset are small numbers
 small : (c : tie.After-slice-known2) → let a = c .before .before .args in (a .disks * a .width ≤ 31 * 31) × ((a .disks * a .width + a .row) * a .size ≤ 1023 * 4096)

@@ -1,0 +1,2 @@
+-- What adding a group of data disks to one parity cell promises.
+pub mod Groups
