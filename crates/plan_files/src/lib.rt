@@ -78,7 +78,7 @@ fn room_fault(width: usize, disks: usize, lost: usize, room: usize) -> u8
     if fault != 0 {
         return fault;
     }
-    refusals::length_fault(room, 263)
+    number_tests::length_fault(room, 263)
 }
 
 // Writes an accepted plan of three bytes a step in its plain form into a lent slice of 263 bytes. Refusals: 1, 13, 3, 5, then 6 to 9.
@@ -89,7 +89,7 @@ pub fn write_plan(width: usize, disks: usize, lost: usize, plan: &[u8], out: &mu
     if fault != 0 {
         return unwritten(fault);
     }
-    let length = refusals::length_fault(plan.len(), 3 * width);
+    let length = number_tests::length_fault(plan.len(), 3 * width);
     if length != 0 {
         return unwritten(length);
     }

@@ -51,11 +51,11 @@ pub fn one_fault(
     if fault != 0 {
         return fault;
     }
-    let short = refusals::length_fault(stripe, (disks + 2) * (width * size));
+    let short = number_tests::length_fault(stripe, (disks + 2) * (width * size));
     if short != 0 {
         return short;
     }
-    refusals::length_fault(column, width * size)
+    number_tests::length_fault(column, width * size)
 }
 
 // Makes our plan and follows it, where a call on these slices is not refused: for callers that have tested that.

@@ -24,14 +24,14 @@ fn two_fault(
     if fault != 0 {
         return fault;
     }
-    let other = refusals::disk_fault(disks, second);
+    let other = number_tests::disk_fault(disks, second);
     if other != 0 {
         return other;
     }
     if first == second {
         return 4;
     }
-    refusals::length_fault(long, (disks + 2) * (width * size))
+    number_tests::length_fault(long, (disks + 2) * (width * size))
 }
 
 // Rebuilds two lost disks in place. Refusals: 1, 13, 2, 3, 4, 5; a refused call leaves the stripe as it was.

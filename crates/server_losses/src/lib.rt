@@ -13,7 +13,7 @@ fn byte_fault(disks: usize, disk: usize) -> u8
     if disk == 255 {
         return 0;
     }
-    refusals::disk_fault(disks, disk)
+    number_tests::disk_fault(disks, disk)
 }
 
 // The refusal of a server's two losses by 3 or 4, 0 for none.

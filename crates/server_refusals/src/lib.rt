@@ -38,5 +38,5 @@ pub fn call_fault(
     if number != 0 {
         return number;
     }
-    refusals::length_fault(long, (servers + 1) * ((disks + 2) * (width * size)))
+    number_tests::length_fault(long, (servers + 1) * ((disks + 2) * (width * size)))
 }

@@ -20,7 +20,7 @@ fn rebuild_fault(
     if call != 0 {
         return call;
     }
-    let pairs = refusals::length_fault(losses.len(), 2 * (servers + 1));
+    let pairs = number_tests::length_fault(losses.len(), 2 * (servers + 1));
     if pairs != 0 {
         return pairs;
     }

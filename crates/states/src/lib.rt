@@ -87,7 +87,7 @@ fn state_report_fault(state: ArrayState, disk: usize, back: bool) -> u8
     if fault != 0 {
         return fault;
     }
-    let past = refusals::disk_fault(state.disks, disk);
+    let past = number_tests::disk_fault(state.disks, disk);
     if past != 0 {
         return past;
     }

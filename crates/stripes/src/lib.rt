@@ -82,5 +82,5 @@ pub fn stripe_fault(width: usize, disks: usize, size: usize, long: usize) -> u8
     if fault != 0 {
         return fault;
     }
-    refusals::length_fault(long, (disks + 2) * (width * size))
+    number_tests::length_fault(long, (disks + 2) * (width * size))
 }

@@ -46,11 +46,11 @@ fn update_fault(
     if disks <= disk {
         return 3;
     }
-    let first = refusals::length_fault(stripe, (disks + 2) * (width * size));
+    let first = number_tests::length_fault(stripe, (disks + 2) * (width * size));
     if first != 0 {
         return first;
     }
-    let second = refusals::length_fault(cell, size);
+    let second = number_tests::length_fault(cell, size);
     if second != 0 {
         return second;
     }

@@ -1,8 +1,8 @@
 -- `disks_fault`: the two tests are those of the definition.
 use mathlib.Core.Path.{sym}
 use Rattle.liberation.proofs.FaultLaws.{disks-few, disks-many, disks-accepted}
-use Rattle.refusals.proofs.disks_fault.Statement.{statement}
-use Rattle.refusals.proofs.disks_fault.Tie as tie
+use Rattle.number_tests.proofs.disks_fault.Statement.{statement}
+use Rattle.number_tests.proofs.disks_fault.Tie as tie
 
 returns : tie.Need-returns
 returns c = let a = c .before .args in sym (disks-few (a .width) (a .disks) (c .if1 .taken))

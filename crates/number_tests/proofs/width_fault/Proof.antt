@@ -4,8 +4,8 @@ use mathlib.Core.List.{List, [], _∷_}
 use Prim.Native.Nat.{ℕ}
 use Rattle.laws.proofs.OneOf.{is-in, not-in}
 use Rattle.liberation.proofs.FaultLaws.{width-accepted, width-refused}
-use Rattle.refusals.proofs.width_fault.Statement.{statement}
-use Rattle.refusals.proofs.width_fault.Tie as tie
+use Rattle.number_tests.proofs.width_fault.Statement.{statement}
+use Rattle.number_tests.proofs.width_fault.Tie as tie
 
 -- the widths after the first
 others : List ℕ

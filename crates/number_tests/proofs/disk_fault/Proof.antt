@@ -3,8 +3,8 @@ use mathlib.Core.Path.{sym}
 use native.Mathlib.Omega.{arith}
 use borrow.Author.Needs.{needs}
 use Rattle.liberation.proofs.FaultLaws.{disk-refused, disk-accepted}
-use Rattle.refusals.proofs.disk_fault.Statement.{statement}
-use Rattle.refusals.proofs.disk_fault.Tie as tie
+use Rattle.number_tests.proofs.disk_fault.Statement.{statement}
+use Rattle.number_tests.proofs.disk_fault.Tie as tie
 
 returns : tie.Need-returns
 returns c = sym (disk-accepted (c .before .args .disks) (c .before .args .disk) (omega arith))

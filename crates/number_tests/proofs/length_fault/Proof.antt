@@ -3,8 +3,8 @@ use mathlib.Core.Path.{sym, ap}
 use mathlib.Core.Bool.{Bool, not}
 use borrow.Author.Tests.{eq-eqb, ne-eqb}
 use Rattle.laws.specs.Choice.{when}
-use Rattle.refusals.proofs.length_fault.Statement.{statement}
-use Rattle.refusals.proofs.length_fault.Tie as tie
+use Rattle.number_tests.proofs.length_fault.Statement.{statement}
+use Rattle.number_tests.proofs.length_fault.Tie as tie
 
 returns : tie.Need-returns
 returns c = let a = c .before .args in sym (ap (λ (b : Bool). when (not b) 5) (eq-eqb (a .long) (a .required) (c .if1 .taken)))

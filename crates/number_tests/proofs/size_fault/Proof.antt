@@ -2,8 +2,8 @@
 use mathlib.Core.Path.{sym}
 use native.Mathlib.Omega.{arith}
 use Rattle.liberation.proofs.FaultLaws.{size-none, size-over, size-accepted}
-use Rattle.refusals.proofs.size_fault.Statement.{statement}
-use Rattle.refusals.proofs.size_fault.Tie as tie
+use Rattle.number_tests.proofs.size_fault.Statement.{statement}
+use Rattle.number_tests.proofs.size_fault.Tie as tie
 
 returns : tie.Need-returns
 returns c = sym (size-none (c .before .args .size) (c .if1 .taken))
