@@ -1,2 +1,2 @@
--- The choices by disk 0, and the row of an extra cell.
+-- The row of an extra cell.
 pub mod NumberLaws

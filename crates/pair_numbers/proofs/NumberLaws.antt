@@ -1,21 +1,10 @@
--- The choices by disk 0, and the row of an extra cell.
-use mathlib.Core.Path.{_≡_, sym, ap}
-use mathlib.Core.Bool.{Bool}
+-- The row of an extra cell.
+use mathlib.Core.Path.{_≡_}
 use Prim.Native.Nat.{ℕ, _+_, _*_, _/_, _%_, _≤_, _<_}
 use native.Mathlib.Nat.{mul-le-mul}
 use native.Mathlib.Omega.{arith}
-use lib.Dec.{eqb}
-use borrow.Author.Tests.{eq-eqb, ne-eqb}
-use Rattle.laws.specs.Choice.{pick}
 use Rattle.liberation.specs.Plans.{secondRow, extraRowOn}
 use Rattle.liberation.proofs.LostLaws.{second-range}
-
--- the choice by disk 0
-pub pick-zero : (y a b : ℕ) → y ≡ 0 → a ≡ pick (eqb y 0) a b
-pick-zero y a b e = sym (ap (λ (f : Bool). pick f a b) (eq-eqb y 0 e))
-
-pub pick-other : (y a b : ℕ) → (y ≡ 0 → ⊥) → b ≡ pick (eqb y 0) a b
-pick-other y a b e = sym (ap (λ (f : Bool). pick f a b) (ne-eqb y 0 e))
 
 -- the extra cell's row is one of the rows, and can be counted with
 pub extra-below : (p c : ℕ) → p % 2 ≡ 1 → 1 ≤ c → c < p → (1 ≤ secondRow p c) × (extraRowOn p c < p)

@@ -1,8 +1,7 @@
-// Numbers of the walk over two lost data disks: the row of an extra cell, and the disk that the first cell is not on.
+// A number of the walk over two lost data disks: the row of an extra cell.
 ghost use mathlib.Core.Path.{_≡_};
 ghost use Prim.Native.Nat.{_%_, _≤_, _<_};
 ghost use Rattle.liberation.specs.Plans.{extraRowOn};
-ghost use Rattle.liberation_pairs.specs.Pairs.{otherDisk};
 
 // The row of the extra cell on a data disk that is not disk 0.
 pub fn extra_row(width: usize, disk: usize) -> usize
@@ -10,11 +9,4 @@ pub fn extra_row(width: usize, disk: usize) -> usize
     ensures { λ r. ⌜ (r ≡ extraRowOn width disk) × (r < width) ⌝ }
 {
     disk * ((width + 1) / 2) % width - 1
-}
-
-// The other of the two disks.
-pub fn other_disk(x: usize, y: usize) -> usize
-    ensures { λ r. ⌜ r ≡ otherDisk x y ⌝ }
-{
-    if y == 0 { y } else { x }
 }

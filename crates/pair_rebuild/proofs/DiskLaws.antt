@@ -31,11 +31,17 @@ diagonal-done p k s f t u v e q = q ∙ ap₂ (λ (g : ℕ) (l : List ℕ). foll
 
 -- a < b: which way the walk goes
 module _ (p k s a b : ℕ) (t u : List ℕ) where
-  pub data-forward : (f : Bool) → f ≡ forward p a b → f ≡ true → u ≡ walked p k s a b t → u ≡ dataSolved p k s a b t
+  data-forward : (f : Bool) → f ≡ forward p a b → f ≡ true → u ≡ walked p k s a b t → u ≡ dataSolved p k s a b t
   data-forward f e q w = w ∙ sym (ap (λ (c : Bool). pick c (walked p k s a b t) (walked p k s b a t)) (sym e ∙ q))
 
-  pub data-back : (f : Bool) → f ≡ forward p a b → f ≡ false → u ≡ walked p k s b a t → u ≡ dataSolved p k s a b t
+  data-back : (f : Bool) → f ≡ forward p a b → f ≡ false → u ≡ walked p k s b a t → u ≡ dataSolved p k s a b t
   data-back f e q w = w ∙ sym (ap (λ (c : Bool). pick c (walked p k s a b t) (walked p k s b a t)) (sym e ∙ q))
+
+  -- the same to disk 0
+  pub data-zero : (f : Bool) → f ≡ forward p a b → f ≡ false → a ≤ 0 → u ≡ walked p k s b 0 t → u ≡ dataSolved p k s a b t
+  data-zero f e q h w =
+      let z : 0 ≡ a = omega arith in
+      data-back f e q (w ∙ ap (λ (y : ℕ). walked p k s b y t) z)
 
   -- the same from sums, to a disk that is not disk 0
   module _ (width : isWidth p ≡ true) (sized : Sized p k s t) (bytes : allBytes t ≡ true) (less : a < b) (below : b < k) where
@@ -76,10 +82,10 @@ module _ (p k s a b : ℕ) (t u : List ℕ) where
   unfolding pairSolved
   pair-turned h w = w ∙ sym (ap (λ (c : Bool). pick c (orderedSolved p k s a b t) (orderedSolved p k s b a t)) (le-ltb a b h))
 
--- a < b are walked forward, never from disk 0, or back
+-- a < b are walked forward, never from disk 0, or back, from b
 module _ (p k a b : ℕ) (width : isWidth p ≡ true) (less : a < b) (below : b < k) where
   pub walked-forward : (f : Bool) → f ≡ forward p a b → f ≡ true → Walked p k a b
   walked-forward f e q = record { odd = width-odd p width; low = leb-true 1 a (and-l (leb 1 a) (comesToOne ((p - 1) / 2) p (b - a) (b - a)) (sym e ∙ q)); high = omega arith; other = below }
 
-  pub walked-back : Walked p k b a
-  walked-back = record { odd = width-odd p width; low = omega arith; high = below; other = omega arith }
+  pub walked-back : (y : ℕ) → y < b → Walked p k b y
+  walked-back y h = record { odd = width-odd p width; low = omega arith; high = below; other = omega arith }

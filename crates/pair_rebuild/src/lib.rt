@@ -83,8 +83,8 @@ fn solve_data(width: usize, disks: usize, size: usize, a: usize, b: usize, strip
         pair_walk::walk_sums(width, disks, size, b, a, stripe);
         return;
     }
-    pair_start::start(width, disks, size, b, a, stripe);
-    pair_walk::walk_disks(width, disks, size, b, a, stripe);
+    pair_start::start(width, disks, size, b, stripe);
+    pair_walk::walk_to_zero(width, disks, size, b, stripe);
 }
 
 // Two disks a < b: two data disks, a data disk and P, or Q and another.

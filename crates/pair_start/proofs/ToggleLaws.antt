@@ -1,9 +1,9 @@
--- Marks toggled for the surviving cells of sets, set by set and row by row of the start. A lost cell is none of them, so its mark is as it was.
+-- Marks toggled for the surviving cells of sets where disks x and 0 are lost, set by set and row by row of the start. A lost cell is none of them, so its mark is as it was.
 use mathlib.Core.Path.{_≡_, refl, sym, ap, ap₂, subst, _∙_}
 use mathlib.Core.Bool.{true, false}
-use mathlib.Core.Logic.{⊎-elim}
 use mathlib.Core.List.{List, [], _∷_, _++_}
-use Prim.Native.Nat.{ℕ, zero, suc, _+_, _-_, _*_, _≤_, _<_}
+use Prim.Native.Nat.{ℕ, zero, suc, _-_, _*_, _%_, _≤_, _<_}
+use native.Mathlib.Nat.{add-zero, mod-eq-of-lt}
 use native.Mathlib.Omega.{arith}
 use lib.Bits.{bitXor}
 use lib.Dec.{eqb}
@@ -13,7 +13,6 @@ use borrow.Author.Tests.{eqb-false}
 use Rattle.laws.specs.Lists.{isIn, allBelow}
 use Rattle.laws.proofs.Flags.{or-false-l, or-false-r}
 use Rattle.laws.proofs.ListLaws.{below-at}
-use Rattle.laws.proofs.OrderLaws.{lt-or-le}
 use Rattle.liberation.specs.Sets.{rowSet, diagonalSet}
 use Rattle.liberation.specs.Plans.{diagonalOf}
 use Rattle.liberation_pairs.specs.Pairs.{nextRow, startSets}
@@ -45,61 +44,42 @@ unfolding scaled
 scaled-one [] = refl
 scaled-one (x ∷ xs) = let e : x * 1 ≡ x = omega arith in ap₂ (λ (y : ℕ) (ys : List ℕ). y ∷ ys) e (scaled-one xs)
 
--- the two disks in order: l is the smaller one
-module _ (p x y l : ℕ) (e : l ≡ y - (y - x)) where
-  pub in-order : (l ≤ x + y - l) × (l ≤ x) × (l ≤ y)
-  in-order = (omega arith, omega arith, omega arith)
-
-  pub ordered-survivors : (xs : List ℕ) → survivors p l (x + y - l) xs ≡ survivors p x y xs
-  ordered-survivors xs = ⊎-elim low high (lt-or-le x y)
-    where
-      low : x < y → survivors p l (x + y - l) xs ≡ survivors p x y xs
-      low h =
-          let a : l ≡ x = omega arith in
-          let b : x + y - l ≡ y = omega arith in
-          ap₂ (λ (i j : ℕ). survivors p i j xs) a b
-
-      high : y ≤ x → survivors p l (x + y - l) xs ≡ survivors p x y xs
-      high h =
-          let a : l ≡ y = omega arith in
-          let b : x + y - l ≡ x = omega arith in
-          ap₂ (λ (i j : ℕ). survivors p i j xs) a b ∙ survivors-swap p y x xs
-
 -- the places that were pushed for a set
-pub set-places : {old at : List ℕ} {n : ℕ} (p x y l : ℕ) (xs : List ℕ) → l ≡ y - (y - x) → Pushed old at 0 n (scaled 1 (survivors p l (x + y - l) xs)) → take n at ≡ survivors p x y xs
-set-places p x y l xs e u = u .list ∙ scaled-one (survivors p l (x + y - l) xs) ∙ ordered-survivors p x y l e xs
+pub set-places : {old at : List ℕ} {n : ℕ} (p x : ℕ) (xs : List ℕ) → Pushed old at 0 n (scaled 1 (survivors p 0 x xs)) → take n at ≡ survivors p x 0 xs
+set-places p x xs u = u .list ∙ scaled-one (survivors p 0 x xs) ∙ survivors-swap p 0 x xs
 
 -- they have marks
 pub places-marked : (n : ℕ) (at xs : List ℕ) → at ≡ xs → allBelow n xs ≡ true → (i : ℕ) → i < length at → getD at i 0 < n
 places-marked n at xs e b = subst (λ (l : List ℕ). (i : ℕ) → i < length l → getD l i 0 < n) (sym e) (λ i h. below-at n i xs b h)
 
 -- marks and a list that are as long
-pub still-toggling : {p k x y : ℕ} {ms₀ at₀ : List ℕ} (ms at : List ℕ) → Toggling p k x y ms₀ at₀ → length ms ≡ length ms₀ → length at ≡ length at₀ → Toggling p k x y ms at
-still-toggling ms at q e f = record { widest = q .widest; disks = q .disks; one = q .one; other = q .other; marks = e ∙ q .marks; room = f ∙ q .room }
+pub still-toggling : {p k x : ℕ} {ms₀ at₀ : List ℕ} (ms at : List ℕ) → Toggling p k x ms₀ at₀ → length ms ≡ length ms₀ → length at ≡ length at₀ → Toggling p k x ms at
+still-toggling ms at q e f = record { widest = q .widest; disks = q .disks; one = q .one; marks = e ∙ q .marks; room = f ∙ q .room }
 
--- the loop over the rows of the start
-module _ (p k x y : ℕ) where
+-- the loop over the rows of the start: the row that is next is the diagonal's number
+module _ (p k x : ℕ) where
   abbrev pub rowsRest : ℕ → ℕ → List ℕ → List ℕ
-  rowsRest n r ms = toggledAll (survivors p x y (startSets n p k x y r)) ms
+  rowsRest n r ms = toggledAll (survivors p x 0 (startSets n p k x 0 r)) ms
 
   -- the surviving cells of xs have made u of ms, and those of ys are still to come
-  then : (xs ys ms u : List ℕ) → u ≡ toggledAll (survivors p x y xs) ms → toggledAll (survivors p x y ys) u ≡ toggledAll (survivors p x y (xs ++ ys)) ms
+  then : (xs ys ms u : List ℕ) → u ≡ toggledAll (survivors p x 0 xs) ms → toggledAll (survivors p x 0 ys) u ≡ toggledAll (survivors p x 0 (xs ++ ys)) ms
   then xs ys ms u e =
-      ap (toggledAll (survivors p x y ys)) e
-      ∙ sym (toggled-append (survivors p x y xs) (survivors p x y ys) ms)
-      ∙ sym (ap (λ (l : List ℕ). toggledAll l ms) (survivors-append p x y xs ys))
+      ap (toggledAll (survivors p x 0 ys)) e
+      ∙ sym (toggled-append (survivors p x 0 xs) (survivors p x 0 ys) ms)
+      ∙ sym (ap (λ (l : List ℕ). toggledAll l ms) (survivors-append p x 0 xs ys))
 
-  pub rows-turn : (n r : ℕ) (ms u v : List ℕ) → 0 < n → u ≡ toggledAll (survivors p x y (rowSet p k r)) ms → v ≡ toggledAll (survivors p x y (diagonalSet p k (diagonalOf p x r))) u → rowsRest (n - 1) (nextRow p x y r) v ≡ rowsRest n r ms
+  pub rows-turn : (n r : ℕ) (ms u v : List ℕ) → 0 < n → diagonalOf p x r < p → u ≡ toggledAll (survivors p x 0 (rowSet p k r)) ms → v ≡ toggledAll (survivors p x 0 (diagonalSet p k (diagonalOf p x r))) u → rowsRest (n - 1) (diagonalOf p x r) v ≡ rowsRest n r ms
   unfolding startSets
-  rows-turn zero r ms u v h e q = absurd (omega arith)
-  rows-turn (suc n) r ms u v h e q =
+  rows-turn zero r ms u v h l e q = absurd (omega arith)
+  rows-turn (suc n) r ms u v h l e q =
       let m : suc n - 1 ≡ n = omega arith in
-      let rest : List ℕ = startSets n p k x y (nextRow p x y r) in
-      ap (λ (i : ℕ). rowsRest i (nextRow p x y r) v) m
+      let rest : List ℕ = startSets n p k x 0 (nextRow p x 0 r) in
+      let next : nextRow p x 0 r ≡ diagonalOf p x r = ap (λ (i : ℕ). i % p) (add-zero (diagonalOf p x r)) ∙ mod-eq-of-lt l in
+      ap₂ (λ (i j : ℕ). rowsRest i j v) m (sym next)
       ∙ then (diagonalSet p k (diagonalOf p x r)) rest u v q
       ∙ then (rowSet p k r) (diagonalSet p k (diagonalOf p x r) ++ rest) ms u e
 
   pub rows-last : (n r : ℕ) (ms : List ℕ) → n ≤ 0 → rowsRest n r ms ≡ ms
   unfolding startSets toggledAll
-  rows-last zero r ms h = ap (λ (l : List ℕ). toggledAll l ms) (survivors-none p x y)
+  rows-last zero r ms h = ap (λ (l : List ℕ). toggledAll l ms) (survivors-none p x 0)
   rows-last (suc n) r ms h = absurd (omega arith)

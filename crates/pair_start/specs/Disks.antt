@@ -11,11 +11,10 @@ pub record Walked (p k x y : ℕ) : Type 0 where
   pub high : x < k
   pub other : y < k
 
--- a mark for each cell of a stripe, and a list with room for the cells of any set
-pub record Toggling (p k x y : ℕ) (ms at : List ℕ) : Type 0 where
+-- a mark for each cell of a stripe, and a list with room for the cells of any set, where x and 0 are lost
+pub record Toggling (p k x : ℕ) (ms at : List ℕ) : Type 0 where
   pub widest : p ≤ 31
   pub disks : k ≤ p
   pub one : x < k
-  pub other : y < k
   pub marks : length ms ≡ p * (k + 2)
   pub room : length at ≡ 33

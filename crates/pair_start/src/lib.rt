@@ -1,96 +1,57 @@
-// The first cell of the walk over two lost data disks: document 01, "Two lost disks". Marks are toggled along several sets together, and the cells that occur an odd number of times are gathered.
+// The first cell of the walk to disk 0 over two lost data disks: document 01, "Two lost disks". Marks are toggled along all sets together, and the cells that occur an odd number of times are gathered.
 ghost use mathlib.Core.Path.{_≡_};
-ghost use Prim.Native.Nat.{_≤_, _<_};
+ghost use Prim.Native.Nat.{_<_};
 ghost use Rattle.liberation.specs.Sets.{setOf};
-ghost use Rattle.liberation_pairs.specs.Pairs.{startSets, startCount, firstDisk, started};
+ghost use Rattle.liberation_pairs.specs.Pairs.{startSets, started};
 ghost use Rattle.odd.specs.Toggled.{toggledAll};
 ghost use Rattle.set_offsets.specs.Cells.{survivors};
 ghost use Rattle.stripes.specs.Cells.{Sized};
 ghost use Rattle.pair_start.specs.Disks.{Toggling, Walked};
 
-// The marks of a set's surviving cells are toggled. Cells of one byte have their places as offsets.
+// The marks of a set's cells on neither disk x nor disk 0 are toggled. Cells of one byte have their places as offsets.
 fn toggle_set(
     width: usize,
     disks: usize,
     x: usize,
-    y: usize,
     kind: usize,
     number: usize,
     marks: &mut [u8],
     at: &mut [usize],
 )
-    requires { ⌜ Toggling width disks x y (now marks) (now at) × (number < width) ⌝ }
-    ensures { λ _. ⌜ now (marks .exit) ≡ toggledAll (survivors width x y (setOf width disks kind number)) (now (marks .entry)) ⌝ }
+    requires { ⌜ Toggling width disks x (now marks) (now at) × (number < width) ⌝ }
+    ensures { λ _. ⌜ now (marks .exit) ≡ toggledAll (survivors width x 0 (setOf width disks kind number)) (now (marks .entry)) ⌝ }
 {
-    let low = set_offsets::least(x, y);
-    let n = set_offsets::surviving(width, disks, 1, kind, number, low, x + y - low, at);
+    let n = set_offsets::surviving(width, disks, 1, kind, number, 0, x, at);
     odd::toggle_all(marks, &at[..n]);
 }
 
-// The marks of the surviving cells of the row set and the diagonal set of each of `count` rows, from this row on, are toggled.
-fn toggle_sets(
-    count: usize,
-    width: usize,
-    disks: usize,
-    x: usize,
-    y: usize,
-    row: usize,
-    marks: &mut [u8],
-    at: &mut [usize],
-)
-    requires { ⌜ Toggling width disks x y (now marks) (now at) × (row < width) ⌝ }
-    ensures { λ _. ⌜ now (marks .exit) ≡ toggledAll (survivors width x y (startSets count width disks x y row)) (now (marks .entry)) ⌝ }
+// The marks of the surviving cells of the row set and the diagonal set of each row, from this row on, are toggled. The diagonal through disk x's cell of a row has the number of the next row, since that is the row of its cell on disk 0.
+fn toggle_sets(width: usize, disks: usize, x: usize, row: usize, marks: &mut [u8], at: &mut [usize])
+    requires { ⌜ Toggling width disks x (now marks) (now at) × (row < width) ⌝ }
+    ensures { λ _. ⌜ now (marks .exit) ≡ toggledAll (survivors width x 0 (startSets width width disks x 0 row)) (now (marks .entry)) ⌝ }
 {
-    let mut left = count;
+    let mut left = width;
     let mut on = row;
     while 0 < left {
-        toggle_set(width, disks, x, y, 0, on, marks, at);
-        let number = (on + width - x) % width;
-        toggle_set(width, disks, x, y, 1, number, marks, at);
-        on = (number + y) % width;
+        toggle_set(width, disks, x, 0, on, marks, at);
+        on = (on + width - x) % width;
+        toggle_set(width, disks, x, 1, on, marks, at);
         left -= 1;
     }
 }
 
-// The disk of the first cell found.
-fn first_disk(x: usize, y: usize) -> usize
-    ensures { λ r. ⌜ r ≡ firstDisk x y ⌝ }
-{
-    if y == 0 { x } else { y }
-}
-
-// How many rows' sets the first cell is found from.
-fn start_count(width: usize, y: usize) -> usize
-    requires { ⌜ 1 ≤ width ⌝ }
-    ensures { λ r. ⌜ r ≡ startCount width y ⌝ }
-{
-    if y == 0 { width } else { (width - 1) / 2 }
-}
-
-// The first cell of the walk: the XOR of the surviving cells of several sets together. A cell that occurs an even number of times in them is left out.
-pub fn start(width: usize, disks: usize, size: usize, x: usize, y: usize, stripe: &mut [u8])
+// The first cell of the walk to disk 0: the XOR of the surviving cells of all sets together. A cell that occurs an even number of times in them is left out.
+pub fn start(width: usize, disks: usize, size: usize, x: usize, stripe: &mut [u8])
     requires { ⌜ Sized width disks size (now stripe) ⌝ }
-    requires { ⌜ Walked width disks x y ⌝ }
-    ensures { λ _. ⌜ now (stripe .exit) ≡ started width disks size x y (now (stripe .entry)) ⌝ }
+    requires { ⌜ Walked width disks x 0 ⌝ }
+    ensures { λ _. ⌜ now (stripe .exit) ≡ started width disks size x 0 (now (stripe .entry)) ⌝ }
 {
-    let first = first_disk(x, y);
     let row = pair_numbers::extra_row(width, x);
-    let from = pair_numbers::extra_row(width, first);
-    let count = start_count(width, y);
     let cells = width * (disks + 2);
     let mut marks = cell_marks::no_marks();
     let mut at = offsets::no_offsets();
-    toggle_sets(
-        count,
-        width,
-        disks,
-        x,
-        y,
-        from,
-        &mut marks[..cells],
-        &mut at,
-    );
-    let to = first * width + row;
+    toggle_sets(width, disks, x, row, &mut marks[..cells], &mut at);
+    let to = x * width + row;
     let most = xor_lists::list_most(size);
     odd::gather_odd(stripe, size, to, &marks[..cells], &mut at[..most]);
 }

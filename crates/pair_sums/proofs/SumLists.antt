@@ -1,13 +1,14 @@
 -- Lists of a set's surviving cells, none of which is a lost cell.
-use mathlib.Core.Path.{_≡_, ap, _∙_}
+use mathlib.Core.Path.{_≡_, ap, ap₂, _∙_}
 use mathlib.Core.Bool.{true, false}
 use mathlib.Core.Logic.{_⊎_, ⊎-elim}
 use mathlib.Core.List.{List}
-use Prim.Native.Nat.{ℕ, _+_, _*_, _<_}
+use Prim.Native.Nat.{ℕ, _+_, _-_, _*_, _≤_, _<_}
 use native.Mathlib.Omega.{arith}
 use lib.ListN.{length, set, take}
 use Rattle.laws.specs.Lists.{isIn}
 use Rattle.laws.proofs.Flags.{clash, flag}
+use Rattle.laws.proofs.OrderLaws.{lt-or-le}
 use Rattle.liberation.specs.Sets.{place, setOf}
 use Rattle.liberation.proofs.SetLaws.{place-below}
 use Rattle.liberation_stripes.specs.Steps.{cellStep}
@@ -20,9 +21,29 @@ use Rattle.xor_within.specs.Beside.{Apart}
 use Rattle.offsets.specs.Offsets.{scaled, Pushed}
 use Rattle.offsets.proofs.OffsetLaws.{length-scaled, over-offsets}
 use Rattle.set_offsets.specs.Cells.{survivors}
-use Rattle.set_offsets.proofs.SetLists.{survivors-below}
+use Rattle.set_offsets.proofs.SetLists.{survivors-swap, survivors-below}
 use Rattle.stripes.proofs.OrdinaryLaws.{apart-from}
 use Rattle.pair_sums.specs.Disks.{Lost}
+
+-- the two disks in order: l is the smaller one
+module _ (p x y l : ℕ) (e : l ≡ y - (y - x)) where
+  pub in-order : (l ≤ x + y - l) × (l ≤ x) × (l ≤ y)
+  in-order = (omega arith, omega arith, omega arith)
+
+  pub ordered-survivors : (xs : List ℕ) → survivors p l (x + y - l) xs ≡ survivors p x y xs
+  ordered-survivors xs = ⊎-elim low high (lt-or-le x y)
+    where
+      low : x < y → survivors p l (x + y - l) xs ≡ survivors p x y xs
+      low h =
+          let a : l ≡ x = omega arith in
+          let b : x + y - l ≡ y = omega arith in
+          ap₂ (λ (i j : ℕ). survivors p i j xs) a b
+
+      high : y ≤ x → survivors p l (x + y - l) xs ≡ survivors p x y xs
+      high h =
+          let a : l ≡ y = omega arith in
+          let b : x + y - l ≡ x = omega arith in
+          ap₂ (λ (i j : ℕ). survivors p i j xs) a b ∙ survivors-swap p y x xs
 
 -- the survivors of a set, pushed for the two disks in order, lie apart from a lost cell, and their XOR is the set's sum
 module _ (p k s x y : ℕ) (t old at : List ℕ) (q : Lost p k s x y t old) (room : length at ≡ 33) (kind i n r f : ℕ) (numbered : i < p) (row : r < p) (on : (f ≡ x) ⊎ (f ≡ y)) where

@@ -1,29 +1,43 @@
--- The walk after its first cell, and the walk from sums, from their parts one after another.
-use mathlib.Core.Path.{_≡_, ap, ap₂, _∙_}
+-- The walk to disk 0 after its first cell, and the walk from sums, from their parts one after another.
+use mathlib.Core.Path.{_≡_, sym, ap, ap₂, _∙_}
 use mathlib.Core.List.{List, _∷_}
-use Prim.Native.Nat.{ℕ, _+_, _-_, _*_, _/_}
+use Prim.Native.Nat.{ℕ, _+_, _-_, _*_, _/_, _%_, _≤_, _<_}
+use native.Mathlib.Nat.{mod-eq-of-lt}
+use native.Mathlib.Omega.{arith}
 use Rattle.liberation.specs.Sets.{place, rowSet}
-use Rattle.liberation.specs.Plans.{extraRowOn}
+use Rattle.liberation.specs.Plans.{extraRowOn, diagonalOf}
 use Rattle.liberation_stripes.specs.Stripes.{solved}
 use Rattle.liberation_stripes.specs.Steps.{cellStep}
-use Rattle.liberation_pairs.specs.Pairs.{otherDisk, started, diagonalWalk, walked}
+use Rattle.liberation_pairs.specs.Pairs.{started, diagonalWalk, walked}
 use Rattle.liberation_pairs.specs.PairSteps.{walkSteps}
 use Rattle.liberation_sums.specs.Sums.{addedAll, sumStarted, sumWalked}
+use Rattle.pair_steps.proofs.WalkClauses.{walk-halves}
 
 -- the other cell of the first cell's row, then the walk over the other rows
-abbrev pub walkedOn : ℕ → ℕ → ℕ → ℕ → ℕ → List ℕ → List ℕ
-walkedOn p k s x y u = diagonalWalk (2 * (p - 1)) p k s x y (extraRowOn p x) (solved s (place p (extraRowOn p x) (otherDisk x y)) (rowSet p k (extraRowOn p x)) u)
+abbrev pub walkedOn : ℕ → ℕ → ℕ → ℕ → List ℕ → List ℕ
+walkedOn p k s x u = diagonalWalk (2 * (p - 1)) p k s x 0 (extraRowOn p x) (solved s (place p (extraRowOn p x) 0) (rowSet p k (extraRowOn p x)) u)
 
-pub walk-done : (p k s x y r o : ℕ) (u v w : List ℕ) → r ≡ extraRowOn p x → o ≡ otherDisk x y → v ≡ solved s (o * p + r) (rowSet p k r) u → w ≡ diagonalWalk (2 * (p - 1)) p k s x y r v → w ≡ walkedOn p k s x y u
-walk-done p k s x y r o u v w er eo ev ew =
-    ew
-    ∙ ap₂ (λ (i : ℕ) (l : List ℕ). diagonalWalk (2 * (p - 1)) p k s x y i l) er
-    (ev ∙ ap₂ (λ (a i : ℕ). solved s (a * p + i) (rowSet p k i) u) eo er)
+-- the walk comes in two halves; disk x is not disk 0, so the way to the second one is known
+pub walk-done :
+    (p k s x r : ℕ) (t u v w : List ℕ) → p % 2 ≡ 1 → 1 ≤ x → x < p → r < p → r ≡ extraRowOn p x
+    → u ≡ solved s (place p r 0) (rowSet p k r) t
+    → v ≡ diagonalWalk (2 * ((p - 1) / 2)) p k s x 0 r u
+    → w ≡ diagonalWalk (2 * ((p - 1) / 2)) p k s x 0 ((r + (p - x) * ((p - 1) / 2)) % p) v
+    → w ≡ walkedOn p k s x t
+walk-done p k s x r t u v w odd low high l er eu ev ew =
+    walk-halves p k s x 0 r u v w odd (omega arith) l ev (ew ∙ ap (λ (i : ℕ). diagonalWalk (2 * ((p - 1) / 2)) p k s x 0 ((r + i * ((p - 1) / 2)) % p) v) (sym way))
+    ∙ ap₂ (λ (i : ℕ) (m : List ℕ). diagonalWalk (2 * (p - 1)) p k s x 0 i m) er (eu ∙ ap (λ (i : ℕ). solved s (place p i 0) (rowSet p k i) t) er)
+  where
+    way : diagonalOf p x 0 ≡ p - x
+    way =
+        let e : 0 + p - x ≡ p - x = omega arith in
+        let b : p - x < p = omega arith in
+        ap (λ (i : ℕ). i % p) e ∙ mod-eq-of-lt b
 
 -- the first cell before them
-pub walk-started : (p k s x y : ℕ) (t u w : List ℕ) → u ≡ started p k s x y t → w ≡ walkedOn p k s x y u → w ≡ walked p k s x y t
+pub walk-started : (p k s x : ℕ) (t u w : List ℕ) → u ≡ started p k s x 0 t → w ≡ walkedOn p k s x u → w ≡ walked p k s x 0 t
 unfolding walked
-walk-started p k s x y t u w eu ew = ew ∙ ap (walkedOn p k s x y) eu
+walk-started p k s x t u w eu ew = ew ∙ ap (walkedOn p k s x) eu
 
 -- the walk from sums: its start, the other cell of the first cell's row, the walk, the last steps
 pub sums-done :

@@ -4,25 +4,24 @@ ghost use Prim.Native.Nat.{_-_, _*_, _≤_};
 ghost use Rattle.liberation.specs.Sets.{place, rowSet};
 ghost use Rattle.liberation.specs.Plans.{extraRowOn};
 ghost use Rattle.liberation_stripes.specs.Stripes.{solved};
-ghost use Rattle.liberation_pairs.specs.Pairs.{otherDisk, diagonalWalk};
+ghost use Rattle.liberation_pairs.specs.Pairs.{diagonalWalk};
 ghost use Rattle.liberation_sums.specs.Sums.{sumWalked};
 ghost use Rattle.stripes.specs.Cells.{Sized};
 ghost use Rattle.pair_start.specs.Disks.{Walked};
 
-// Two data disks after the first cell: its row's other cell, then the walk over the other rows in two halves, so that it takes half of the stack. `middle` is the row at which the second half begins.
-pub fn walk_disks(width: usize, disks: usize, size: usize, x: usize, y: usize, stripe: &mut [u8])
+// Data disks x and 0 after the first cell: its row's other cell, then the walk over the other rows in two halves, so that it takes half of the stack. `middle` is the row at which the second half begins.
+pub fn walk_to_zero(width: usize, disks: usize, size: usize, x: usize, stripe: &mut [u8])
     requires { ⌜ Sized width disks size (now stripe) ⌝ }
-    requires { ⌜ Walked width disks x y ⌝ }
-    ensures { λ _. ⌜ now (stripe .exit) ≡ diagonalWalk (2 * (width - 1)) width disks size x y (extraRowOn width x) (solved size (place width (extraRowOn width x) (otherDisk x y)) (rowSet width disks (extraRowOn width x)) (now (stripe .entry))) ⌝ }
+    requires { ⌜ Walked width disks x 0 ⌝ }
+    ensures { λ _. ⌜ now (stripe .exit) ≡ diagonalWalk (2 * (width - 1)) width disks size x 0 (extraRowOn width x) (solved size (place width (extraRowOn width x) 0) (rowSet width disks (extraRowOn width x)) (now (stripe .entry))) ⌝ }
 {
     let row = pair_numbers::extra_row(width, x);
-    let other = pair_numbers::other_disk(x, y);
     let mut at = offsets::no_offsets();
-    stripes::solve_by(width, disks, size, 0, row, other, row, stripe, &mut at);
+    stripes::solve_by(width, disks, size, 0, row, 0, row, stripe, &mut at);
     let half = (width - 1) / 2;
-    let middle = (row + (y + width - x) % width * half) % width;
-    pair_steps::diagonal_step(2 * half, width, disks, size, x, y, row, stripe, &mut at);
-    pair_steps::diagonal_step(2 * half, width, disks, size, x, y, middle, stripe, &mut at);
+    let middle = (row + (width - x) * half) % width;
+    pair_steps::diagonal_step(2 * half, width, disks, size, x, 0, row, stripe, &mut at);
+    pair_steps::diagonal_step(2 * half, width, disks, size, x, 0, middle, stripe, &mut at);
 }
 
 // Two data disks, y not disk 0: the walk from sums. Its start leaves in half of the rows the sums of their sets' surviving cells, so the walk ends with the first of these rows and the last steps add.

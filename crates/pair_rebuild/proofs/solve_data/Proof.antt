@@ -1,13 +1,14 @@
 -- `solve_data`: the walk goes from a to b, or from b to a: from sums, which is the walk as the disks are those of a width and the stripe is bytes; to disk 0 on the stripe with the first cell.
 use mathlib.Core.Path.{_≡_}
 use mathlib.Core.Bool.{true}
+use Prim.Native.Nat.{ℕ, _<_}
 use native.Mathlib.Omega.{arith}
 use borrow.Author.Needs.{needs}
 use Rattle.laws.specs.Xor.{allBytes}
 use Rattle.xor.proofs.SourceLaws.{bytes-all}
 use Rattle.pair_start.specs.Disks.{Walked}
 use Rattle.pair_walk.proofs.WalkLaws.{walk-started}
-use Rattle.pair_rebuild.proofs.DiskLaws.{data-back, sums-forward, sums-back, walked-forward, walked-back}
+use Rattle.pair_rebuild.proofs.DiskLaws.{data-zero, sums-forward, sums-back, walked-forward, walked-back}
 use Rattle.pair_rebuild.proofs.solve_data.Statement.{statement}
 use Rattle.pair_rebuild.proofs.solve_data.Tie as tie
 
@@ -23,7 +24,7 @@ disks-forward i =
     let a = o .args in
     walked-forward (a .width) (a .disks) (a .a) (a .b) (o .pre .1 .0) (o .pre .1 .1) (o .pre .1 .2) (g .result) (g .ensures) (i .if1 .taken)
 
-disks-back : (i : tie.Else1) → let a = i .before .before .before .args in Walked (a .width) (a .disks) (a .b) (a .a)
+disks-back : (i : tie.Else1) (y : ℕ) → let a = i .before .before .before .args in y < a .b → Walked (a .width) (a .disks) (a .b) y
 disks-back i = let o = i .before .before .before in walked-back (o .args .width) (o .args .disks) (o .args .a) (o .args .b) (o .pre .1 .0) (o .pre .1 .1) (o .pre .1 .2)
 
 walk-sums-requires : tie.Need-walk-sums-requires
@@ -39,7 +40,7 @@ returns c =
     sums-forward (a .width) (a .disks) (a .size) (a .a) (a .b) (a .stripe .now) (w .walk-sums .last .1 .1 .1 .1 .1 .0) (o .pre .1 .0) (o .pre .0) (bytes (i .before .before)) (o .pre .1 .1) (o .pre .1 .2) (g .result) (g .ensures) (i .if1 .taken) (w .walk-sums .ensures)
 
 walk-sums-requires-2 : tie.Need-walk-sums-requires-2
-walk-sums-requires-2 c κs = let i = c .before in (i .before .before .before .before .pre .0, (disks-back (i .before), i .if2 .taken))
+walk-sums-requires-2 c κs = let i = c .before in (i .before .before .before .before .pre .0, (disks-back (i .before) (i .before .before .before .before .args .a) (i .before .before .before .before .pre .1 .1), i .if2 .taken))
 
 returns-2 : tie.Need-returns-2
 returns-2 c =
@@ -52,10 +53,10 @@ returns-2 c =
     sums-back (a .width) (a .disks) (a .size) (a .a) (a .b) (a .stripe .now) (w .walk-sums2 .last .1 .1 .1 .1 .1 .0) (o .pre .1 .0) (o .pre .0) (bytes (i .before .before)) (o .pre .1 .1) (o .pre .1 .2) (g .result) (g .ensures) (i .if1 .left) (j .if2 .taken) (w .walk-sums2 .ensures)
 
 start-requires : tie.Need-start-requires
-start-requires c κs = let i = c .before .before in (i .before .before .before .pre .0, disks-back i)
+start-requires c κs = let i = c .before .before in (i .before .before .before .pre .0, disks-back i 0 (omega arith))
 
-walk-disks-requires : tie.Need-walk-disks-requires
-walk-disks-requires c κs = (search needs, disks-back (c .before .before .before .before .before .before))
+walk-to-zero-requires : tie.Need-walk-to-zero-requires
+walk-to-zero-requires c κs = (search needs, disks-back (c .before .before .before .before .before .before) 0 (omega arith))
 
 returns-3 : tie.Need-returns-3
 returns-3 c =
@@ -64,8 +65,8 @@ returns-3 c =
     let i = s .before .before .before in
     let g = i .before .goes-forward in
     let a = i .before .before .before .args in
-    let o = w .walk-disks .last .1 .1 .1 .1 .1 .0 in
-    data-back (a .width) (a .disks) (a .size) (a .a) (a .b) (a .stripe .now) o (g .result) (g .ensures) (i .if1 .left) (walk-started (a .width) (a .disks) (a .size) (a .b) (a .a) (a .stripe .now) (s .start .last .1 .1 .1 .1 .1 .0) o (s .start .ensures) (w .walk-disks .ensures))
+    let o = w .walk-to-zero .last .1 .1 .1 .1 .0 in
+    data-zero (a .width) (a .disks) (a .size) (a .a) (a .b) (a .stripe .now) o (g .result) (g .ensures) (i .if1 .left) (omega arith) (walk-started (a .width) (a .disks) (a .size) (a .b) (a .stripe .now) (s .start .last .1 .1 .1 .1 .0) o (s .start .ensures) (w .walk-to-zero .ensures))
 
 pub solve-data-spec : {M : Type 1} → statement M
 solve-data-spec =
@@ -79,6 +80,6 @@ solve-data-spec =
     (λ c. search needs)
     returns-2
     start-requires
-    walk-disks-requires
+    walk-to-zero-requires
     (λ c. search needs)
     returns-3)

@@ -12,33 +12,26 @@ use Rattle.liberation.proofs.MarkLists.{take-marks, no-cells, cells-most}
 use Rattle.odd.specs.Toggled.{toggledAll}
 use Rattle.odd.specs.Listed.{Marked}
 use Rattle.set_offsets.specs.Cells.{survivors}
-use Rattle.pair_start.proofs.StartLaws.{first-range, start-marked, start-done}
+use Rattle.pair_start.proofs.StartLaws.{start-marked, start-done}
 use Rattle.pair_start.proofs.start.Statement.{statement}
 use Rattle.pair_start.proofs.start.Tie as tie
 
-extra-row-requires-2 : tie.Need-extra-row-requires-2
-extra-row-requires-2 c κs =
-    let z = c .before .before .before in
-    let a = z .args in
-    let g = first-range (a .width) (a .disks) (a .x) (a .y) (z .pre .1) (c .before .first-disk .result) (c .before .first-disk .ensures) in
-    (z .pre .0 .widest, z .pre .1 .odd, g .0, omega (arith, g .1, z .pre .0 .disks))
-
 -- the stripe has few cells
-few : (c : tie.After-start-count) → let a = c .before .before .before .before .before .args in a .width * (a .disks + 2) ≤ 1023
-few c = let z = c .before .before .before .before .before in cells-most (z .args .width) (z .args .disks) (z .pre .0 .widest) (z .pre .0 .disks)
+few : (c : tie.After-extra-row) → let a = c .before .before .args in a .width * (a .disks + 2) ≤ 1023
+few c = let z = c .before .before in cells-most (z .args .width) (z .args .disks) (z .pre .0 .widest) (z .pre .0 .disks)
 
 mul-cells : tie.Need-mul-cells
 mul-cells c = omega (arith, few c)
 
 -- none of them is marked
-none : (c : tie.After-no-marks) → let a = c .before .before .before .before .before .before .args in take (a .width * (a .disks + 2)) (c .no-marks .result) ≡ replicate (a .width * (a .disks + 2)) 0
+none : (c : tie.After-no-marks) → let a = c .before .before .before .args in take (a .width * (a .disks + 2)) (c .no-marks .result) ≡ replicate (a .width * (a .disks + 2)) 0
 none c =
-    let a = c .before .before .before .before .before .before .args in
+    let a = c .before .before .before .args in
     let n = a .width * (a .disks + 2) in
     ap (take n) (c .no-marks .ensures) ∙ take-marks n 1023 0 [] (few (c .before)) ∙ sym (no-cells n 0)
 
-marks-long : (c : tie.After-no-marks) → let a = c .before .before .before .before .before .before .args in length (take (a .width * (a .disks + 2)) (c .no-marks .result)) ≡ a .width * (a .disks + 2)
-marks-long c = let a = c .before .before .before .before .before .before .args in ap length (none c) ∙ length-replicate {A = ℕ} (a .width * (a .disks + 2)) 0
+marks-long : (c : tie.After-no-marks) → let a = c .before .before .before .args in length (take (a .width * (a .disks + 2)) (c .no-marks .result)) ≡ a .width * (a .disks + 2)
+marks-long c = let a = c .before .before .before .args in ap length (none c) ∙ length-replicate {A = ℕ} (a .width * (a .disks + 2)) 0
 
 array-borrow-prefix-marks : tie.Need-array-borrow-prefix-marks
 array-borrow-prefix-marks c =
@@ -51,48 +44,43 @@ slice-aggregate-toggle-sets c = sym (marks-long (c .before .before))
 toggle-sets-requires : tie.Need-toggle-sets-requires
 toggle-sets-requires c κs =
     let k = c .before .before .before .before in
-    let o = k .before .before .before .before .before in
-    (record { widest = o .pre .0 .widest; disks = o .pre .0 .disks; one = o .pre .1 .high; other = o .pre .1 .other; marks = marks-long (c .before .before .before); room = search needs }, k .before .extra-row2 .ensures .1)
+    let o = k .before .before in
+    (record { widest = o .pre .0 .widest; disks = o .pre .0 .disks; one = o .pre .1 .high; marks = marks-long (c .before .before .before); room = search needs }, k .extra-row .ensures .1)
 
 -- the marks of all cells of the stripe, after the start's sets
 abbrev marks : (v : tie.After-toggle-sets) → List ℕ
 marks v =
     let m = v .before .before .before .before in
-    let a = m .before .before .before .before .before .before .args in
+    let a = m .before .before .before .args in
     let n = a .width * (a .disks + 2) in
-    take n (v .toggle-sets .last .1 .1 .1 .1 .1 .1 .0 ++ drop n (m .no-marks .result))
+    take n (v .toggle-sets .last .1 .1 .1 .1 .0 ++ drop n (m .no-marks .result))
 
-toggled-long : (v : tie.After-toggle-sets) → let a = v .before .before .before .before .before .before .before .before .before .before .args in length (v .toggle-sets .last .1 .1 .1 .1 .1 .1 .0) ≡ a .width * (a .disks + 2)
-toggled-long v = v .toggle-sets .kept .1 .1 .1 .1 .1 .1 .0 ∙ marks-long (v .before .before .before .before)
+toggled-long : (v : tie.After-toggle-sets) → let a = v .before .before .before .before .before .before .before .args in length (v .toggle-sets .last .1 .1 .1 .1 .0) ≡ a .width * (a .disks + 2)
+toggled-long v = v .toggle-sets .kept .1 .1 .1 .1 .0 ∙ marks-long (v .before .before .before .before)
 
-made : (v : tie.After-toggle-sets) → let k = v .before .before .before .before .before in let a = k .before .before .before .before .before .args in marks v ≡ toggledAll (survivors (a .width) (a .x) (a .y) (startSets (k .start-count .result) (a .width) (a .disks) (a .x) (a .y) (k .before .extra-row2 .result))) (replicate (a .width * (a .disks + 2)) 0)
+made : (v : tie.After-toggle-sets) → let k = v .before .before .before .before .before in let a = k .before .before .args in marks v ≡ toggledAll (survivors (a .width) (a .x) 0 (startSets (a .width) (a .width) (a .disks) (a .x) 0 (k .extra-row .result))) (replicate (a .width * (a .disks + 2)) 0)
 made v =
     let m = v .before .before .before .before in
     let k = m .before in
-    let a = k .before .before .before .before .before .args in
+    let a = k .before .before .args in
     let n = a .width * (a .disks + 2) in
-    take-at (v .toggle-sets .last .1 .1 .1 .1 .1 .1 .0) (drop n (m .no-marks .result)) n (toggled-long v)
+    take-at (v .toggle-sets .last .1 .1 .1 .1 .0) (drop n (m .no-marks .result)) n (toggled-long v)
     ∙ v .toggle-sets .ensures
-    ∙ ap (toggledAll (survivors (a .width) (a .x) (a .y) (startSets (k .start-count .result) (a .width) (a .disks) (a .x) (a .y) (k .before .extra-row2 .result)))) (none m)
+    ∙ ap (toggledAll (survivors (a .width) (a .x) 0 (startSets (a .width) (a .width) (a .disks) (a .x) 0 (k .extra-row .result)))) (none m)
 
-ready : (v : tie.After-toggle-sets) → let k = v .before .before .before .before .before in let a = k .before .before .before .before .before .args in Marked (a .size) (k .before .before .before .first-disk .result * a .width + k .before .before .extra-row .result) (marks v) (a .stripe .now)
+ready : (v : tie.After-toggle-sets) → let k = v .before .before .before .before .before in let a = k .before .before .args in Marked (a .size) (a .x * a .width + k .extra-row .result) (marks v) (a .stripe .now)
 ready v =
     let k = v .before .before .before .before .before in
-    let f = k .before .before .before .first-disk in
-    let r = k .before .before .extra-row in
-    let q = k .before .extra-row2 in
-    let n = k .start-count in
-    let o = k .before .before .before .before .before in
+    let r = k .extra-row in
+    let o = k .before .before in
     let a = o .args in
-    start-marked (a .width) (a .disks) (a .x) (a .y) (o .pre .1) (o .pre .0 .disks) (a .size) (f .result) (r .result) (q .result) (n .result) (marks v) (a .stripe .now) (o .pre .0) (f .ensures) (r .ensures .0) (q .ensures .0) (n .ensures) (made v) (few k)
+    start-marked (a .width) (a .disks) (a .x) (o .pre .1) (o .pre .0 .disks) (a .size) (r .result) (marks v) (a .stripe .now) (o .pre .0) (r .ensures .0) (made v) (few k)
 
 -- the first cell's place is a small number
-low : (k : tie.After-start-count) → k .before .before .before .first-disk .result * k .before .before .before .before .before .args .width ≤ 31 * 31
+low : (k : tie.After-extra-row) → let a = k .before .before .args in a .x * a .width ≤ 31 * 31
 low k =
-    let o = k .before .before .before .before .before in
-    let a = o .args in
-    let f = k .before .before .before .first-disk in
-    let h : f .result ≤ 31 = omega (arith, first-range (a .width) (a .disks) (a .x) (a .y) (o .pre .1) (f .result) (f .ensures), o .pre .0 .widest) in
+    let o = k .before .before in
+    let h : o .args .x ≤ 31 = omega (arith, o .pre .1 .high, o .pre .0 .disks, o .pre .0 .widest) in
     mul-le-mul h (o .pre .0 .widest)
 
 mul-to : tie.Need-mul-to
@@ -101,7 +89,7 @@ mul-to c = omega (arith, low (c .before .before .before .before .before .before 
 add-to : tie.Need-add-to
 add-to c =
     let k = c .before .before .before .before .before .before .before in
-    omega (arith, low k, k .before .before .extra-row .ensures .1, k .before .before .before .before .before .pre .0 .widest)
+    omega (arith, low k, k .extra-row .ensures .1, k .before .before .pre .0 .widest)
 
 array-share-prefix-marks : tie.Need-array-share-prefix-marks
 array-share-prefix-marks c = simp length-append (omega (arith, toggled-long (c .before .before .before .before)))
@@ -110,10 +98,10 @@ slice-aggregate-gather-odd : tie.Need-slice-aggregate-gather-odd
 slice-aggregate-gather-odd c = sym (length-take-le _ _ (simp length-append (omega (arith, toggled-long (c .before .before .before .before .before)))))
 
 -- the first numbers of the list are lent
-lent : (c : tie.After-list-most) → let m = c .list-most .result in length (take m (c .before .before .before .toggle-sets .last .1 .1 .1 .1 .1 .1 .1 .0)) ≡ m
+lent : (c : tie.After-list-most) → let m = c .list-most .result in length (take m (c .before .before .before .toggle-sets .last .1 .1 .1 .1 .1 .0)) ≡ m
 lent c =
-    let l : length (c .before .before .before .toggle-sets .last .1 .1 .1 .1 .1 .1 .1 .0) ≡ 33 = search needs in
-    length-take-le (c .list-most .result) (c .before .before .before .toggle-sets .last .1 .1 .1 .1 .1 .1 .1 .0) (omega arith)
+    let l : length (c .before .before .before .toggle-sets .last .1 .1 .1 .1 .1 .0) ≡ 33 = search needs in
+    length-take-le (c .list-most .result) (c .before .before .before .toggle-sets .last .1 .1 .1 .1 .1 .0) (omega arith)
 
 slice-aggregate-gather-odd-2 : tie.Need-slice-aggregate-gather-odd-2
 slice-aggregate-gather-odd-2 c = sym (lent (c .before .before .before))
@@ -126,21 +114,15 @@ returns c =
     let g = c .before .before .before .gather-odd in
     let v = c .before .before .before .before .before .before .before .before .before .before in
     let k = v .before .before .before .before .before in
-    let f = k .before .before .before .first-disk in
-    let r = k .before .before .extra-row in
-    let q = k .before .extra-row2 in
-    let n = k .start-count in
-    let o = k .before .before .before .before .before in
+    let r = k .extra-row in
+    let o = k .before .before in
     let a = o .args in
-    start-done (a .width) (a .disks) (a .x) (a .y) (o .pre .1) (o .pre .0 .disks) (a .size) (f .result) (r .result) (q .result) (n .result) (marks v) (a .stripe .now) (o .pre .0) (f .ensures) (r .ensures .0) (q .ensures .0) (n .ensures) (made v) (g .last .0) (g .ensures)
+    start-done (a .width) (a .disks) (a .x) (o .pre .1) (o .pre .0 .disks) (a .size) (r .result) (marks v) (a .stripe .now) (o .pre .0) (r .ensures .0) (made v) (g .last .0) (g .ensures)
 
 pub start-spec : {M : Type 1} → statement M
 start-spec =
     tie.close
     (tie.spec
-    (λ c κs. search needs)
-    (λ c κs. search needs)
-    extra-row-requires-2
     (λ c κs. search needs)
     (λ c. search needs)
     mul-cells

@@ -1,7 +1,7 @@
 -- `toggle_set`: the surviving cells of the set are pushed by their places, and each has a mark.
 use mathlib.Core.Path.{_≡_, sym, ap, _∙_}
 use mathlib.Core.List.{List}
-use Prim.Native.Nat.{ℕ, _+_, _-_, _*_}
+use Prim.Native.Nat.{ℕ, _+_, _*_}
 use native.Mathlib.Omega.{arith}
 use lib.ListN.{length, take}
 use lib.Seq.{length-take-le}
@@ -10,22 +10,16 @@ use Rattle.laws.specs.Lists.{allBelow}
 use Rattle.liberation.specs.Sets.{setOf}
 use Rattle.odd.specs.Toggled.{toggledAll}
 use Rattle.set_offsets.specs.Cells.{survivors}
-use Rattle.set_offsets.proofs.SetLists.{survivors-below}
-use Rattle.pair_start.proofs.ToggleLaws.{in-order, ordered-survivors, set-places, places-marked}
+use Rattle.set_offsets.proofs.SetLists.{survivors-swap, survivors-below}
+use Rattle.pair_start.proofs.ToggleLaws.{set-places, places-marked}
 use Rattle.pair_start.proofs.toggle_set.Statement.{statement}
 use Rattle.pair_start.proofs.toggle_set.Tie as tie
 
-sub-surviving : tie.Need-sub-surviving
-sub-surviving c = let a = c .before .before .before .args in omega (arith, in-order (a .width) (a .x) (a .y) (c .least .result) (c .least .ensures) .1)
-
 surviving-requires : tie.Need-surviving-requires
 surviving-requires c κs =
-    let m = c .before .least in
-    let o = c .before .before .before .before in
-    let a = o .args in
-    let w = in-order (a .width) (a .x) (a .y) (m .result) (m .ensures) in
+    let o = c .before .before .before in
     let q = o .pre .0 in
-    record { widest = q .widest; disks = q .disks; numbered = o .pre .1; small = omega arith; ordered = w .0; last = omega (arith, m .ensures); room = q .room }
+    record { widest = q .widest; disks = q .disks; numbered = o .pre .1; small = omega arith; ordered = omega arith; last = omega (arith, q .one, q .disks); room = q .room }
 
 -- the list is as long as before
 room : (c : tie.After-surviving) → length (c .surviving .last .1 .1 .1 .1 .1 .1 .1 .0) ≡ 33
@@ -35,11 +29,8 @@ long : (u : tie.After-surviving) → length (take (u .surviving .result) (u .sur
 long u = length-take-le (u .surviving .result) (u .surviving .last .1 .1 .1 .1 .1 .1 .1 .0) (u .surviving .ensures .fits)
 
 -- the places in the list
-places : (u : tie.After-surviving) → let a = u .before .before .before .before .before .args in take (u .surviving .result) (u .surviving .last .1 .1 .1 .1 .1 .1 .1 .0) ≡ survivors (a .width) (a .x) (a .y) (setOf (a .width) (a .disks) (a .kind) (a .number))
-places u =
-    let m = u .before .before .least in
-    let a = u .before .before .before .before .before .args in
-    set-places (a .width) (a .x) (a .y) (m .result) (setOf (a .width) (a .disks) (a .kind) (a .number)) (m .ensures) (u .surviving .ensures)
+places : (u : tie.After-surviving) → let a = u .before .before .before .before .args in take (u .surviving .result) (u .surviving .last .1 .1 .1 .1 .1 .1 .1 .0) ≡ survivors (a .width) (a .x) 0 (setOf (a .width) (a .disks) (a .kind) (a .number))
+places u = let a = u .before .before .before .before .args in set-places (a .width) (a .x) (setOf (a .width) (a .disks) (a .kind) (a .number)) (u .surviving .ensures)
 
 slice-aggregate-toggle-all : tie.Need-slice-aggregate-toggle-all
 slice-aggregate-toggle-all c = sym (long (c .before .before .before .before))
@@ -47,28 +38,24 @@ slice-aggregate-toggle-all c = sym (long (c .before .before .before .before))
 toggle-all-requires : tie.Need-toggle-all-requires
 toggle-all-requires c κs =
     let u = c .before .before .before .before in
-    let m = u .before .before .least in
-    let o = u .before .before .before .before .before in
+    let o = u .before .before .before .before in
     let a = o .args in
     let xs = setOf (a .width) (a .disks) (a .kind) (a .number) in
     let n = a .width * (a .disks + 2) in
-    let b = ap (allBelow n) (sym (ordered-survivors (a .width) (a .x) (a .y) (m .result) (m .ensures) xs)) ∙ survivors-below (a .width) (a .disks) 1 (a .kind) (a .number) (m .result) (a .x + a .y - m .result) (u .surviving .result) (a .at .now) (u .surviving .last .1 .1 .1 .1 .1 .1 .1 .0) (a .marks .now) (o .pre .1) (room u) (o .pre .0 .marks ∙ omega arith) (u .surviving .ensures) in
-    (omega (arith, room u, u .surviving .ensures .fits, long u), λ i h. omega (arith, places-marked n (take (u .surviving .result) (u .surviving .last .1 .1 .1 .1 .1 .1 .1 .0)) (survivors (a .width) (a .x) (a .y) xs) (places u) b i h, o .pre .0 .marks))
+    let b = ap (allBelow n) (survivors-swap (a .width) (a .x) 0 xs) ∙ survivors-below (a .width) (a .disks) 1 (a .kind) (a .number) 0 (a .x) (u .surviving .result) (a .at .now) (u .surviving .last .1 .1 .1 .1 .1 .1 .1 .0) (a .marks .now) (o .pre .1) (room u) (o .pre .0 .marks ∙ omega arith) (u .surviving .ensures) in
+    (omega (arith, room u, u .surviving .ensures .fits, long u), λ i h. omega (arith, places-marked n (take (u .surviving .result) (u .surviving .last .1 .1 .1 .1 .1 .1 .1 .0)) (survivors (a .width) (a .x) 0 xs) (places u) b i h, o .pre .0 .marks))
 
 returns : tie.Need-returns
 returns c =
     let w = c .before .before .toggle-all in
     let u = c .before .before .before .before .before .before .before in
-    let a = u .before .before .before .before .before .args in
+    let a = u .before .before .before .before .args in
     w .ensures ∙ ap (λ (l : List ℕ). toggledAll l (a .marks .now)) (places u)
 
 pub toggle-set-spec : {M : Type 1} → statement M
 toggle-set-spec =
     tie.close
     (tie.spec
-    (λ c κs. search needs)
-    (λ c. search needs)
-    sub-surviving
     surviving-requires
     (λ c. search needs)
     slice-aggregate-toggle-all

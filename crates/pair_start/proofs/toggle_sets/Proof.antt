@@ -6,18 +6,15 @@ use native.Mathlib.Omega.{arith}
 use lib.ListN.{length}
 use borrow.Author.Needs.{needs}
 use Rattle.liberation.specs.Plans.{diagonalOf}
-use Rattle.liberation_pairs.specs.Pairs.{startSets}
-use Rattle.odd.specs.Toggled.{toggledAll}
-use Rattle.set_offsets.specs.Cells.{survivors}
 use Rattle.pair_start.proofs.ToggleLaws.{rowsRest, rows-turn, rows-last, still-toggling}
 use Rattle.pair_start.proofs.toggle_sets.Statement.{statement}
 use Rattle.pair_start.proofs.toggle_sets.Tie as tie
 
 abbrev Inv-loop : tie.InvT-loop
-Inv-loop count width disks x y row marks₀ at₀ left₀ on₀ marks at left on = (on < width) × (length marks ≡ length marks₀) × (length at ≡ length at₀) × (rowsRest width disks x y left on marks ≡ toggledAll (survivors width x y (startSets count width disks x y row)) marks₀)
+Inv-loop width disks x row marks₀ at₀ left₀ on₀ marks at left on = (on < width) × (length marks ≡ length marks₀) × (length at ≡ length at₀) × (rowsRest width disks x left on marks ≡ rowsRest width disks x width row marks₀)
 
 abbrev μ-loop : tie.MeasureT-loop
-μ-loop count width disks x y row marks₀ at₀ left₀ on₀ marks at left on = left
+μ-loop width disks x row marks₀ at₀ left₀ on₀ marks at left on = left
 
 loop-holds : tie.Need-loop-holds Inv-loop μ-loop
 loop-holds c = (c .before .before .pre .1, refl, refl, refl)
@@ -38,23 +35,19 @@ toggle-set-requires-2 c κs =
     let i = v .before .before .before in
     let l = i .before .loop in
     let o = i .before .before .before .before in
-    (still-toggling (v .toggle-set .last .1 .1 .1 .1 .1 .1 .0) (v .toggle-set .last .1 .1 .1 .1 .1 .1 .1 .0) (o .pre .0) (v .toggle-set .kept .1 .1 .1 .1 .1 .1 .0 ∙ l .inv .1) (v .toggle-set .kept .1 .1 .1 .1 .1 .1 .1 .0 ∙ l .inv .2), numbered i)
-
-add-on : tie.Need-add-on Inv-loop μ-loop
-add-on c =
-    let i = c .before .before .before .before .before .before .before .before .before .before .before .before .before .before in
-    omega (arith, numbered i, i .before .before .before .before .pre .0 .widest)
+    (still-toggling (v .toggle-set .last .1 .1 .1 .1 .1 .0) (v .toggle-set .last .1 .1 .1 .1 .1 .1 .0) (o .pre .0) (v .toggle-set .kept .1 .1 .1 .1 .1 .0 ∙ l .inv .1) (v .toggle-set .kept .1 .1 .1 .1 .1 .1 .0 ∙ l .inv .2), numbered i)
 
 loop-again : tie.Need-loop-again Inv-loop μ-loop
 loop-again c =
     let w = c .before .before .before .before in
     let v = w .before .before .before .before .before .before .before in
-    let l = v .before .before .before .before .loop in
-    let a = v .before .before .before .before .before .before .before .args in (
-      mod-lt (diagonalOf (a .width) (a .x) (l .on) + a .y) (omega arith),
-      w .toggle-set2 .kept .1 .1 .1 .1 .1 .1 .0 ∙ v .toggle-set .kept .1 .1 .1 .1 .1 .1 .0 ∙ l .inv .1,
-      w .toggle-set2 .kept .1 .1 .1 .1 .1 .1 .1 .0 ∙ v .toggle-set .kept .1 .1 .1 .1 .1 .1 .1 .0 ∙ l .inv .2,
-      rows-turn (a .width) (a .disks) (a .x) (a .y) (l .left) (l .on) (l .marks) (v .toggle-set .last .1 .1 .1 .1 .1 .1 .0) (w .toggle-set2 .last .1 .1 .1 .1 .1 .1 .0) (omega arith) (v .toggle-set .ensures) (w .toggle-set2 .ensures) ∙ l .inv .3,
+    let i = v .before .before .before in
+    let l = i .before .loop in
+    let a = i .before .before .before .before .args in (
+      numbered i,
+      w .toggle-set2 .kept .1 .1 .1 .1 .1 .0 ∙ v .toggle-set .kept .1 .1 .1 .1 .1 .0 ∙ l .inv .1,
+      w .toggle-set2 .kept .1 .1 .1 .1 .1 .1 .0 ∙ v .toggle-set .kept .1 .1 .1 .1 .1 .1 .0 ∙ l .inv .2,
+      rows-turn (a .width) (a .disks) (a .x) (l .left) (l .on) (l .marks) (v .toggle-set .last .1 .1 .1 .1 .1 .0) (w .toggle-set2 .last .1 .1 .1 .1 .1 .0) (omega arith) (numbered i) (v .toggle-set .ensures) (w .toggle-set2 .ensures) ∙ l .inv .3,
     )
 
 same-length : tie.Need-same-length Inv-loop μ-loop
@@ -67,7 +60,7 @@ returns : tie.Need-returns Inv-loop μ-loop
 returns c =
     let l = c .before .loop in
     let a = c .before .before .before .before .args in
-    sym (rows-last (a .width) (a .disks) (a .x) (a .y) (l .left) (l .on) (l .marks) (omega arith)) ∙ l .inv .3
+    sym (rows-last (a .width) (a .disks) (a .x) (l .left) (l .on) (l .marks) (omega arith)) ∙ l .inv .3
 
 pub toggle-sets-spec : {M : Type 1} → statement M
 toggle-sets-spec =
@@ -81,8 +74,6 @@ toggle-sets-spec =
     (λ c. search needs)
     (λ c. search needs)
     toggle-set-requires-2
-    add-on
-    (λ c. search needs)
     (λ c. search needs)
     (λ c. search needs)
     loop-again

@@ -12,8 +12,7 @@ use Rattle.liberation.specs.Sets.{place, setOf}
 use Rattle.offsets.specs.Offsets.{scaled, Pushed}
 use Rattle.set_offsets.specs.Cells.{survivors}
 use Rattle.xor_within.specs.Beside.{Apart}
-use Rattle.pair_start.proofs.ToggleLaws.{in-order, ordered-survivors}
-use Rattle.pair_sums.proofs.SumLists.{sum-apart, sum-done}
+use Rattle.pair_sums.proofs.SumLists.{in-order, ordered-survivors, sum-apart, sum-done}
 use Rattle.pair_sums.proofs.sum_set.Statement.{statement}
 use Rattle.pair_sums.proofs.sum_set.Tie as tie
 
