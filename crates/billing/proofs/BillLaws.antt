@@ -6,14 +6,15 @@ use native.Mathlib.Nat.{mul-le-mul-left}
 use native.Mathlib.Omega.{arith}
 use lib.Dec.{leb, ltb}
 use borrow.Author.Tests.{leb-true, leb-false, ltb-false}
-use Rattle.laws.specs.Choice.{pick, when, firstOf}
+use Rattle.laws.specs.Choice.{pick}
 use Rattle.laws.proofs.Flags.{or-false-l, or-false-r}
 use Rattle.laws.proofs.ChoiceLaws.{first-none, when-none, pick-refused, pick-done}
 use Rattle.refusals.specs.declared.Answer.{Answer}
 use Rattle.refusals.specs.Answers.{Answers}
 use Rattle.refusals.proofs.AnswerLaws.{answers-as}
 use Rattle.billing.specs.declared.Bill.{Bill}
-use Rattle.billing.specs.Bills.{least, inFirst, inSecond, inThird, nearest, centsOf, rateFault, bytesFault, billFault, Refused, Says, BillSays}
+use Rattle.bill_numbers.specs.Cents.{least, nearest, rateFault, bytesFault, billFault}
+use Rattle.billing.specs.Bills.{inFirst, inSecond, inThird, centsOf, Refused, Says, BillSays}
 
 -- the smaller of two numbers is at most each of them
 pub least-most : (a b : ℕ) → (least a b ≤ a) × (least a b ≤ b)
@@ -31,13 +32,6 @@ least-up b g h l = go (leb b g) (leb b h) refl refl
     go true false e q = omega (arith, leb-true b g e)
     go false true e q = omega (arith, leb-false b g e)
     go false false e q = l
-
--- the refusal from the tests
-pub fault-is : (b r s t : ℕ) (x y z w : Bool) → ltb 1000 r ≡ x → ltb 1000 s ≡ y → ltb 1000 t ≡ z → ltb (2 ^ 54) b ≡ w → firstOf (when (x || (y || z)) 16) (when w 17) ≡ billFault b r s t
-fault-is b r s t x y z w ex ey ez ew =
-    sym
-    (ap₂ (λ (i j : Bool). firstOf (when (i || (j || ltb 1000 t)) 16) (bytesFault b)) ex ey
-    ∙ ap₂ (λ (i j : Bool). firstOf (when (x || (y || i)) 16) (when j 17)) ez ew)
 
 -- no refusal: the numbers of an accepted bill, with the bytes up to 64 GiB and up to 1,024 GiB
 pub record Fair (b r s t low most : ℕ) : Type 0 where

@@ -1,5 +1,4 @@
--- The bands of a bill, their bounds, the promise, the nearest cents, the bill of a run, and what an accepted bill means.
+-- The bands of a bill, their bounds, the promise, the bill of a run, and what an accepted bill means.
 pub mod BillLaws
-pub mod CentsLaws
 pub mod RunLaws
 pub mod MeansLaws

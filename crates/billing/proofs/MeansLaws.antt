@@ -9,9 +9,10 @@ use Rattle.run_progress.specs.declared.Progress.{Progress}
 use Rattle.run_progress.specs.Says.{cellsSoFar, ProgressSays}
 use Rattle.runs.specs.Runs.{readFault}
 use Rattle.billing.specs.declared.Bill.{Bill}
-use Rattle.billing.specs.Bills.{inFirst, inSecond, inThird, charge, centsOf, Nearest, billFault, Says, BillSays, runBytes, runBillFault, RunBillSays}
+use Rattle.bill_numbers.specs.Cents.{Nearest, billFault}
+use Rattle.billing.specs.Bills.{inFirst, inSecond, inThird, charge, centsOf, Says, BillSays, runBytes, runBillFault, RunBillSays}
 use Rattle.billing.proofs.BillLaws.{bands-add}
-use Rattle.billing.proofs.CentsLaws.{nearest-right, nearest-only}
+use Rattle.bill_numbers.proofs.CentsLaws.{nearest-right, nearest-only}
 
 -- what the bands of a bill cost at the rates r, s and t, in cents times bytes of a GiB
 abbrev pub costs : Bill → ℕ → ℕ → ℕ → ℕ

@@ -13,7 +13,8 @@ use Rattle.run_progress.specs.Says.{cellsSoFar, ProgressSays}
 use Rattle.runs.specs.Runs.{readFault}
 use Rattle.runs.proofs.RunRefusals.{read-passed}
 use Rattle.billing.specs.declared.Bill.{Bill}
-use Rattle.billing.specs.Bills.{runBytes, runBillFault, billFault, Refused, Says, BillSays, RunBillSays}
+use Rattle.bill_numbers.specs.Cents.{billFault}
+use Rattle.billing.specs.Bills.{runBytes, runBillFault, Refused, Says, BillSays, RunBillSays}
 use Rattle.billing.proofs.BillLaws.{bill-refused}
 
 -- the record is refused

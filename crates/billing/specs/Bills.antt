@@ -1,22 +1,14 @@
 -- Bills of hosted rebuilds (document 02, asks 6 and 10), and the promises of the calls, for accepted and refused calls alike.
 use mathlib.Core.Path.{_≡_}
-use mathlib.Core.Bool.{_||_}
-use Prim.Native.Nat.{ℕ, _+_, _-_, _*_, _/_, _%_, _^_, _≤_}
-use lib.Dec.{eqb, leb, ltb}
-use Rattle.laws.specs.Choice.{pick, when, firstOf}
+use Prim.Native.Nat.{ℕ, _+_, _-_, _*_, _^_}
+use lib.Dec.{eqb}
+use Rattle.laws.specs.Choice.{pick, firstOf}
 use Rattle.refusals.specs.Answers.{Answers}
 use Rattle.runs.specs.declared.Run.{Run}
 use Rattle.run_progress.specs.Says.{cellsSoFar}
 use Rattle.runs.specs.Runs.{readFault}
+use Rattle.bill_numbers.specs.Cents.{least, nearest, billFault}
 use Rattle.billing.specs.declared.Bill.{Bill}
-
--- the smaller of two numbers
-abbrev pub least : ℕ → ℕ → ℕ
-least a b = pick (leb a b) a b
-
--- a GiB, 2^30 bytes
-abbrev pub gib : ℕ
-gib = 2 ^ 30
 
 -- "The first 64 GiB have one rate, the part above that up to 1,024 GiB a second, the rest a third": the bytes in each band
 abbrev pub inFirst : ℕ → ℕ
@@ -32,40 +24,9 @@ inThird b = b - least b (2 ^ 40)
 abbrev pub charge : ℕ → ℕ → ℕ → ℕ → ℕ
 charge b r s t = inFirst b * r + inSecond b * s + inThird b * t
 
--- the even one of q and q + 1
-abbrev pub evenOf : ℕ → ℕ
-evenOf q = pick (eqb (q % 2) 0) q (q + 1)
-
--- q whole cents and a rest of e, in bytes of a GiB: "sums go to the nearest cent, and an exact half goes to the even cent"
-abbrev pub rounded : ℕ → ℕ → ℕ
-rounded q e = pick (ltb (2 ^ 29) e) (q + 1) (pick (ltb e (2 ^ 29)) q (evenOf q))
-
--- the cents of a charge
-abbrev pub nearest : ℕ → ℕ
-nearest c = rounded (c / gib) (c % gib)
-
 -- "The three bands are still added before the rounding"
 abbrev pub centsOf : ℕ → ℕ → ℕ → ℕ → ℕ
 centsOf b r s t = nearest (charge b r s t)
-
--- how far two numbers are apart
-abbrev pub apart : ℕ → ℕ → ℕ
-apart a b = (a - b) + (b - a)
-
--- n cents for a charge of c: no number of cents is nearer, and where c is some cents and an exact half, n is even
-pub record Nearest (c n : ℕ) : Type 0 where
-  pub near : (m : ℕ) → apart c (n * gib) ≤ apart c (m * gib)
-  pub even : (m : ℕ) → 2 * c ≡ (2 * m + 1) * gib → n % 2 ≡ 0
-
--- refusal 16: "a rate over 1,000"; 17: "more than 2^54 bytes"
-abbrev pub rateFault : ℕ → ℕ → ℕ → ℕ
-rateFault r s t = when (ltb 1000 r || (ltb 1000 s || ltb 1000 t)) 16
-
-abbrev pub bytesFault : ℕ → ℕ
-bytesFault b = when (ltb (2 ^ 54) b) 17
-
-abbrev pub billFault : ℕ → ℕ → ℕ → ℕ → ℕ
-billFault b r s t = firstOf (rateFault r s t) (bytesFault b)
 
 -- a bill of b bytes that is refused by n, or not where n is 0
 pub record Says (n b r s t : ℕ) (x : Bill) : Type 0 where

@@ -1,6 +1,5 @@
 // Bills of hosted rebuilds (document 02, asks 6 and 10): bytes read in three bands, each with its rate in cents per GiB.
-ghost use mathlib.Core.Path.{_≡_};
-ghost use Rattle.billing.specs.Bills.{least, nearest, billFault, Refused, BillSays, RunBillSays};
+ghost use Rattle.billing.specs.Bills.{Refused, BillSays, RunBillSays};
 use refusals::Answer;
 use runs::Run;
 
@@ -27,57 +26,16 @@ fn refused_bill(refusal: u8) -> Bill
     }
 }
 
-// The smaller of two numbers.
-fn least_of(a: u64, b: u64) -> u64
-    ensures { λ r. ⌜ r ≡ least a b ⌝ }
-{
-    if a <= b { a } else { b }
-}
-
-// The refusal of a bill by 16 or 17, 0 for none.
-fn bill_fault(bytes: u64, first: u64, second: u64, third: u64) -> u8
-    ensures { λ r. ⌜ r ≡ billFault bytes first second third ⌝ }
-{
-    if 1000 < first {
-        return 16;
-    }
-    if 1000 < second {
-        return 16;
-    }
-    if 1000 < third {
-        return 16;
-    }
-    if 18014398509481984 < bytes {
-        return 17;
-    }
-    0
-}
-
-// The nearest number of whole cents to a charge, at an exact half the even one.
-fn nearest_cents(charge: u64) -> u64
-    ensures { λ r. ⌜ r ≡ nearest charge ⌝ }
-{
-    let cents = charge / 1073741824;
-    let rest = charge % 1073741824;
-    if 536870912 < rest {
-        return cents + 1;
-    }
-    if rest < 536870912 {
-        return cents;
-    }
-    if cents % 2 == 0 { cents } else { cents + 1 }
-}
-
 // The bill of `bytes` bytes read, with the rates of the three bands. Refusals: 16, 17.
 pub fn bill_bytes(bytes: u64, first: u64, second: u64, third: u64) -> Bill
     ensures { λ r. ⌜ BillSays bytes first second third r ⌝ }
 {
-    let fault = bill_fault(bytes, first, second, third);
+    let fault = bill_numbers::bill_fault(bytes, first, second, third);
     if fault != 0 {
         return refused_bill(fault);
     }
-    let low = least_of(bytes, 68719476736);
-    let most = least_of(bytes, 1099511627776);
+    let low = bill_numbers::least_of(bytes, 68719476736);
+    let most = bill_numbers::least_of(bytes, 1099511627776);
     let middle = most - low;
     let rest = bytes - most;
     let charge = low * first + middle * second + rest * third;
@@ -86,7 +44,7 @@ pub fn bill_bytes(bytes: u64, first: u64, second: u64, third: u64) -> Bill
         first: low,
         second: middle,
         third: rest,
-        cents: nearest_cents(charge),
+        cents: bill_numbers::nearest_cents(charge),
     }
 }
 

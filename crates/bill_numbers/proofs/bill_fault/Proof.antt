@@ -1,11 +1,20 @@
 -- `bill_fault`: 16 for any of the rates, then 17.
-use mathlib.Core.Path.{refl}
-use mathlib.Core.Bool.{true, false}
-use Prim.Native.Nat.{_^_}
+use mathlib.Core.Path.{_≡_, refl, sym, ap₂, _∙_}
+use mathlib.Core.Bool.{Bool, true, false, _||_}
+use Prim.Native.Nat.{ℕ, _^_}
+use lib.Dec.{ltb}
 use borrow.Author.Tests.{lt-ltb, le-ltb}
-use Rattle.billing.proofs.BillLaws.{fault-is}
-use Rattle.billing.proofs.bill_fault.Statement.{statement}
-use Rattle.billing.proofs.bill_fault.Tie as tie
+use Rattle.laws.specs.Choice.{when, firstOf}
+use Rattle.bill_numbers.specs.Cents.{bytesFault, billFault}
+use Rattle.bill_numbers.proofs.bill_fault.Statement.{statement}
+use Rattle.bill_numbers.proofs.bill_fault.Tie as tie
+
+-- the refusal from the tests
+fault-is : (b r s t : ℕ) (x y z w : Bool) → ltb 1000 r ≡ x → ltb 1000 s ≡ y → ltb 1000 t ≡ z → ltb (2 ^ 54) b ≡ w → firstOf (when (x || (y || z)) 16) (when w 17) ≡ billFault b r s t
+fault-is b r s t x y z w ex ey ez ew =
+    sym
+    (ap₂ (λ (i j : Bool). firstOf (when (i || (j || ltb 1000 t)) 16) (bytesFault b)) ex ey
+    ∙ ap₂ (λ (i j : Bool). firstOf (when (x || (y || i)) 16) (when j 17)) ez ew)
 
 returns : tie.Need-returns
 returns c = let a = c .before .args in fault-is (a .bytes) (a .first) (a .second) (a .third) true _ _ _ (lt-ltb 1000 (a .first) (c .if1 .taken)) refl refl refl

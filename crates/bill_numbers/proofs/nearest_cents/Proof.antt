@@ -6,10 +6,10 @@ use native.Mathlib.Omega.{arith}
 use borrow.Author.Tests.{eq-eqb, ne-eqb}
 use borrow.Author.Needs.{needs}
 use Rattle.laws.specs.Choice.{pick}
-use Rattle.billing.specs.Bills.{gib, evenOf, nearest}
-use Rattle.billing.proofs.CentsLaws.{rounded-up, rounded-down, rounded-half}
-use Rattle.billing.proofs.nearest_cents.Statement.{statement}
-use Rattle.billing.proofs.nearest_cents.Tie as tie
+use Rattle.bill_numbers.specs.Cents.{gib, evenOf, nearest}
+use Rattle.bill_numbers.proofs.CentsLaws.{rounded-up, rounded-down, rounded-half}
+use Rattle.bill_numbers.proofs.nearest_cents.Statement.{statement}
+use Rattle.bill_numbers.proofs.nearest_cents.Tie as tie
 
 add-result : tie.Need-add-result
 add-result c = search needs

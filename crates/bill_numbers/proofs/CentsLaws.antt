@@ -9,7 +9,7 @@ use lib.Dec.{eqb, ltb}
 use borrow.Author.Tests.{eqb-true, eqb-false, ltb-true, ltb-false, lt-ltb, le-ltb}
 use Rattle.laws.specs.Choice.{pick}
 use Rattle.laws.proofs.OrderLaws.{lt-or-le, eq-or-lt}
-use Rattle.billing.specs.Bills.{gib, evenOf, rounded, nearest, apart, Nearest}
+use Rattle.bill_numbers.specs.Cents.{gib, evenOf, rounded, nearest, apart, Nearest}
 
 -- the cents by the rest above the quotient
 module _ (q e : ℕ) where

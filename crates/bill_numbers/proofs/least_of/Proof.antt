@@ -3,8 +3,8 @@ use mathlib.Core.Path.{sym, ap}
 use mathlib.Core.Bool.{Bool}
 use borrow.Author.Tests.{le-leb, lt-leb}
 use Rattle.laws.specs.Choice.{pick}
-use Rattle.billing.proofs.least_of.Statement.{statement}
-use Rattle.billing.proofs.least_of.Tie as tie
+use Rattle.bill_numbers.proofs.least_of.Statement.{statement}
+use Rattle.bill_numbers.proofs.least_of.Tie as tie
 
 returns : tie.Need-returns
 returns c = let a = c .before .args in sym (ap (λ (t : Bool). pick t (a .a) (a .b)) (le-leb (a .a) (a .b) (c .if1 .taken)))

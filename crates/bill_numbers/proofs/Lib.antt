@@ -1,0 +1,2 @@
+-- The cents of a charge.
+pub mod CentsLaws

@@ -1,0 +1,2 @@
+-- The cents of a charge, and the refusals of a bill.
+pub mod Cents
