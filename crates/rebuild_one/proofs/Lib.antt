@@ -1,3 +1,2 @@
--- The laws behind the functions: the steps in order, the promise.
-pub mod FollowLaws
+-- The promise of the rebuild.
 pub mod OneRefusals

@@ -1,3 +1,2 @@
 -- What the rebuild of one lost disk promises.
-pub mod Plans
 pub mod Says

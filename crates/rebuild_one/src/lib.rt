@@ -1,40 +1,9 @@
-// The rebuild of one lost disk: our plan's steps, one after another, from a lent stripe into a lent column. Each cell goes to its own stretch of the column.
+// The rebuild of one lost disk from a lent stripe into a lent column: our plan is made and followed.
 use refusals::Answer;
 use refusals::Shape;
-use step_records::Steps;
 ghost use mathlib.Core.Path.{_≡_};
-ghost use Prim.Native.Nat.{_*_, _≤_};
-ghost use lib.ListN.{length};
-ghost use Rattle.liberation_stripes.specs.Stripes.{stripeLong, rebuilt};
-ghost use Rattle.rebuild_one.specs.Plans.{Ours};
+ghost use Rattle.liberation_stripes.specs.Stripes.{rebuilt};
 ghost use Rattle.rebuild_one.specs.Says.{lengthsFault, oneFault, OneSays};
-
-// The steps of our plan, in order.
-fn follow(
-    width: usize,
-    disks: usize,
-    size: usize,
-    disk: usize,
-    steps: Steps,
-    stripe: &[u8],
-    column: &mut [u8],
-)
-    requires { ⌜ Ours width disks disk steps × (size ≤ 4096) ⌝ }
-    requires { ⌜ (length (now stripe) ≡ stripeLong width disks size) × (length (now column) ≡ width * size) ⌝ }
-    ensures { λ _. ⌜ now (column .exit) ≡ rebuilt width disks size disk (now (stripe .entry)) ⌝ }
-{
-    let rows = steps.rows;
-    let kinds = steps.kinds;
-    let numbers = steps.numbers;
-    let mut i = 0;
-    while i < width {
-        let row = rows[i] as usize;
-        let kind = kinds[i] as usize;
-        let number = numbers[i] as usize;
-        rebuild_cell::rebuild_cell(width, disks, size, disk, row, kind, number, stripe, column);
-        i += 1;
-    }
-}
 
 // The refusal of a call on a stripe and a column of these many bytes, 0 for none.
 pub fn one_fault(
@@ -72,7 +41,7 @@ pub fn rebuild_column(
 {
     let plan = plan_steps::plan_steps(width, disks, disk);
     let steps = plan.steps;
-    follow(width, disks, size, disk, steps, stripe, column);
+    rebuild_steps::follow(width, disks, size, disk, steps, stripe, column);
 }
 
 // Rebuilds one lost disk into the column. Refusals: 1, 13, 2, 3, 5; a refused call leaves the column as it was.

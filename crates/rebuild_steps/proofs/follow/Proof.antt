@@ -9,9 +9,9 @@ use Rattle.liberation.specs.Plans.{planOf}
 use Rattle.liberation.proofs.Widths.{width-most}
 use Rattle.liberation.proofs.RecordLaws.{StepAt, step-at, plan-length, plan-passed}
 use Rattle.xor.proofs.SourceLaws.{bytes-all}
-use Rattle.rebuild_one.proofs.FollowLaws.{Stepping, stepping-start, stepping-turn, stepping-end}
-use Rattle.rebuild_one.proofs.follow.Statement.{statement}
-use Rattle.rebuild_one.proofs.follow.Tie as tie
+use Rattle.rebuild_steps.proofs.FollowLaws.{Stepping, stepping-start, stepping-turn, stepping-end}
+use Rattle.rebuild_steps.proofs.follow.Statement.{statement}
+use Rattle.rebuild_steps.proofs.follow.Tie as tie
 
 abbrev Inv-loop : tie.InvT-loop
 Inv-loop width disks size disk stripe column₀ rows kinds numbers i₀ column i = Stepping width disks size disk stripe column₀ column i

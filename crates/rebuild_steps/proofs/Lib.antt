@@ -1,0 +1,2 @@
+-- The steps in order.
+pub mod FollowLaws

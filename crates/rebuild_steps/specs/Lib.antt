@@ -1,0 +1,2 @@
+-- What following a plan promises.
+pub mod Plans

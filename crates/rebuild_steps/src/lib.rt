@@ -1,0 +1,34 @@
+// The steps of our plan, one after another, from a lent stripe into a lent column. Each cell goes to its own stretch of the column.
+use step_records::Steps;
+ghost use mathlib.Core.Path.{_≡_};
+ghost use Prim.Native.Nat.{_*_, _≤_};
+ghost use lib.ListN.{length};
+ghost use Rattle.liberation_stripes.specs.Stripes.{stripeLong, rebuilt};
+ghost use Rattle.rebuild_steps.specs.Plans.{Ours};
+
+// The steps of our plan, in order.
+pub fn follow(
+    width: usize,
+    disks: usize,
+    size: usize,
+    disk: usize,
+    steps: Steps,
+    stripe: &[u8],
+    column: &mut [u8],
+)
+    requires { ⌜ Ours width disks disk steps × (size ≤ 4096) ⌝ }
+    requires { ⌜ (length (now stripe) ≡ stripeLong width disks size) × (length (now column) ≡ width * size) ⌝ }
+    ensures { λ _. ⌜ now (column .exit) ≡ rebuilt width disks size disk (now (stripe .entry)) ⌝ }
+{
+    let rows = steps.rows;
+    let kinds = steps.kinds;
+    let numbers = steps.numbers;
+    let mut i = 0;
+    while i < width {
+        let row = rows[i] as usize;
+        let kind = kinds[i] as usize;
+        let number = numbers[i] as usize;
+        rebuild_cell::rebuild_cell(width, disks, size, disk, row, kind, number, stripe, column);
+        i += 1;
+    }
+}
