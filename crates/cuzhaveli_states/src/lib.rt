@@ -1,7 +1,7 @@
 // The call for C and Rust on a list of the states of arrays.
-// It goes over the lent records itself and hands each to the proved steps of `state_lists`.
-ghost use Rattle.state_lists.specs.Reports.{ReportSays};
-use state_lists::Board;
+// It goes over the lent records itself and hands each to the proved steps of `state_lists` and `state_reports`.
+ghost use Rattle.state_reports.specs.Reports.{ReportSays};
+use state_reports::Board;
 use states::ArrayState;
 
 // A report on array `which` of a lent list: its disk `disk` was lost, or is back. Every record is read, and one is written or none.
@@ -21,7 +21,7 @@ pub extern "C" fn cuzhaveli_report_disk(
         s = state_lists::scan_record(s, which, disk, back, list[i]);
         i += 1;
     }
-    let r = state_lists::scan_answer(s, n, which);
+    let r = state_reports::scan_answer(s, n, which);
     if r.answer.refusal == 0 {
         list[which] = s.found;
     }

@@ -13,7 +13,8 @@ use Rattle.laws.proofs.Flags.{or-false-l, or-false-r, flag}
 use Rattle.states.specs.declared.ArrayState.{ArrayState}
 use Rattle.state_lists.specs.declared.Totals.{Totals}
 use Rattle.states.specs.States.{changed}
-use Rattle.state_lists.specs.Reports.{listFault, listAfter, noArray, totalsOf, ReportSays}
+use Rattle.state_lists.specs.Scanning.{noArray}
+use Rattle.state_reports.specs.Reports.{listFault, listAfter, totalsOf, ReportSays}
 use Rattle.state_laws.specs.Claims.{arrayAt, lostAt, Report, Made, report-made, lastList, acceptedIn, totalsIn, freshTotals, lastTotals, lostSince, isNamed, Reports-right}
 use Rattle.state_laws.proofs.OneReport.{Taken, Accepted, accepted, stood, after-none, after-lost}
 

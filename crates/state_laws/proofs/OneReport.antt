@@ -18,12 +18,13 @@ use Rattle.liberation.proofs.FaultLaws.{disk-accepted}
 use Rattle.refusals.proofs.AnswerLaws.{answers-none}
 use Rattle.states.specs.declared.ArrayState.{ArrayState}
 use Rattle.state_lists.specs.declared.Totals.{Totals}
-use Rattle.state_lists.specs.declared.Board.{Board}
+use Rattle.state_reports.specs.declared.Board.{Board}
 use Rattle.states.specs.States.{isLost, lostAfter, changed, stateFault, againFault, diskReportFault}
-use Rattle.state_lists.specs.Reports.{listFault, numberFault, noArray, reportFault, listAfter, totalsOf, noTotals, ReportSays}
+use Rattle.state_lists.specs.Scanning.{noArray, noTotals}
+use Rattle.state_reports.specs.Reports.{listFault, numberFault, reportFault, listAfter, totalsOf, ReportSays}
 use Rattle.states.proofs.StateLaws.{Reportable, reportable, lost-accepted}
 use Rattle.states.proofs.LostLaws.{own-after, other-after, lost-after, after-lt, loss-one-more, return-one-fewer}
-use Rattle.state_lists.proofs.TotalLaws.{totals-all}
+use Rattle.state_reports.proofs.TotalLaws.{totals-all}
 use Rattle.state_laws.specs.Claims.{arrayAt, lostAt, Report-means, Report-goes}
 
 -- ---- records in their limits

@@ -9,9 +9,10 @@ use lib.ListN.{length, getD}
 use Rattle.laws.specs.Choice.{pick}
 use Rattle.states.specs.declared.ArrayState.{ArrayState}
 use Rattle.state_lists.specs.declared.Totals.{Totals}
-use Rattle.state_lists.specs.declared.Board.{Board}
+use Rattle.state_reports.specs.declared.Board.{Board}
 use Rattle.states.specs.States.{isLost}
-use Rattle.state_lists.specs.Reports.{listFault, noArray, totalsOf, ReportSays}
+use Rattle.state_lists.specs.Scanning.{noArray}
+use Rattle.state_reports.specs.Reports.{listFault, totalsOf, ReportSays}
 
 -- array i of a list
 abbrev pub arrayAt : List ArrayState → ℕ → ArrayState

@@ -1,4 +1,2 @@
--- The four totals, one record of a scan, and the scan of a list.
-pub mod TotalLaws
+-- One record of a scan.
 pub mod RecordLaws
-pub mod ScanLaws

@@ -1,3 +1,2 @@
--- Reports on a list of arrays, and the scan of it.
-pub mod Reports
+-- The scan of a list of arrays.
 pub mod Scanning

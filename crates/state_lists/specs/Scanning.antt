@@ -7,10 +7,16 @@ use lib.Dec.{eqb, leb, ltb}
 use Rattle.laws.specs.Choice.{pick, when, firstOf}
 use Rattle.states.specs.declared.ArrayState.{ArrayState}
 use Rattle.state_lists.specs.declared.Totals.{Totals}
-use Rattle.state_lists.specs.declared.Board.{Board}
 use Rattle.state_lists.specs.declared.Scan.{Scan}
 use Rattle.states.specs.States.{stateFault, stateReportFault, changed}
-use Rattle.state_lists.specs.Reports.{noArray, noTotals}
+
+-- what stands for a record beyond the list
+abbrev pub noArray : ArrayState
+noArray = record { width = 0; disks = 0; lost = 0 }
+
+-- no array counted
+abbrev pub noTotals : Totals
+noTotals = record { optimal = 0; degraded = 0; critical = 0; failed = 0 }
 
 -- how many of n records are scanned: none of a list that is too long
 unfoldable pub scanLength : ℕ → ℕ
@@ -52,14 +58,6 @@ scanRecord which d back s c =
       found = pick own m (s .found);
       totals = countedOn (s .totals) (ones (m .lost));
     }
-
--- the answer after a scan of n records: 20, the first refusal of a record, the report's own
-unfoldable pub scanFault : Scan → ℕ → ℕ → ℕ
-scanFault s n which = firstOf (when (leb n which) 20) (firstOf (s .fault) (s .own))
-
-unfoldable pub scanAnswer : Scan → ℕ → ℕ → Board
-unfolding scanFault
-scanAnswer s n which = record { answer = record { refusal = scanFault s n which; place = 0 }; totals = pick (eqb (scanFault s n which) 0) (s .totals) noTotals }
 
 -- the scan of a list, front first
 unfoldable pub scanFrom : ℕ → ℕ → Bool → Scan → List ArrayState → Scan

@@ -1,10 +1,8 @@
-// The scan of a list of arrays, record by record, for a report on one of them: the first refusal, the named record after the report, the totals. The call over a lent list stands with the exports.
+// The scan of a list of arrays, record by record, for a report on one of them: the first refusal, the named record after the report, the totals.
 ghost use mathlib.Core.Path.{_≡_};
 ghost use lib.Count.{ones};
 ghost use Rattle.laws.specs.Choice.{firstOf};
-ghost use Rattle.state_lists.specs.Reports.{noTotals};
-ghost use Rattle.state_lists.specs.Scanning.{Few, MayScan, countedOn, scanLength, scanStart, scanRecord, scanFault, scanAnswer};
-use refusals::Answer;
+ghost use Rattle.state_lists.specs.Scanning.{noTotals, Few, MayScan, countedOn, scanLength, scanStart, scanRecord};
 use states::ArrayState;
 
 // How many arrays of a list can bear two more losses, one more, none, and how many are past saving.
@@ -14,13 +12,6 @@ pub struct Totals {
     pub degraded: u32,
     pub critical: u32,
     pub failed: u32,
-}
-
-// What a report on an array of a list answers.
-#[repr(C)]
-pub struct Board {
-    pub answer: Answer,
-    pub totals: Totals,
 }
 
 // What the scan of a list has found in the records before `at`: the first refusal of a record; the refusal of the report on record `which`, and that record after it; the totals.
@@ -33,14 +24,14 @@ pub struct Scan {
 }
 
 // The first of two refusals, 0 for none.
-fn first_fault(first: u8, second: u8) -> u8
+pub fn first_fault(first: u8, second: u8) -> u8
     ensures { λ r. ⌜ r ≡ firstOf first second ⌝ }
 {
     if first != 0 { first } else { second }
 }
 
 // The totals of no array.
-fn no_totals() -> Totals
+pub fn no_totals() -> Totals
     ensures { λ r. ⌜ r ≡ noTotals ⌝ }
 {
     Totals {
@@ -121,33 +112,5 @@ pub fn scan_record(s: Scan, which: usize, disk: usize, back: bool, state: ArrayS
         own: s.own,
         found: found,
         totals: count_state(totals, state.lost),
-    }
-}
-
-// The refusal when the n records are scanned: 20, then the first of a record, then the report's own; 0 for none.
-fn scan_fault(s: Scan, n: usize, which: usize) -> u8
-    ensures { λ r. ⌜ r ≡ scanFault s n which ⌝ }
-{
-    if n <= which {
-        return 20;
-    }
-    first_fault(s.fault, s.own)
-}
-
-// The answer when the n records are scanned.
-pub fn scan_answer(s: Scan, n: usize, which: usize) -> Board
-    ensures { λ r. ⌜ r ≡ scanAnswer s n which ⌝ }
-{
-    let refusal = scan_fault(s, n, which);
-    if refusal != 0 {
-        return Board {
-            answer: refusals::answered(refusal),
-            totals: no_totals(),
-        };
-    }
-    let totals = s.totals;
-    Board {
-        answer: refusals::answered(0),
-        totals: totals,
     }
 }

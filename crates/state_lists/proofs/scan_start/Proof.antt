@@ -1,7 +1,7 @@
 -- `scan_start`: every field is zero.
 use mathlib.Core.Path.{ap}
 use Rattle.state_lists.specs.declared.Totals.{Totals}
-use Rattle.state_lists.specs.Reports.{noArray}
+use Rattle.state_lists.specs.Scanning.{noArray}
 use borrow.Author.Needs.{needs}
 use Rattle.state_lists.proofs.scan_start.Statement.{statement}
 use Rattle.state_lists.proofs.scan_start.Tie as tie

@@ -10,8 +10,10 @@ use Rattle.laws.specs.Choice.{pick, when, firstOf}
 use Rattle.refusals.specs.Answers.{Answers}
 use Rattle.states.specs.declared.ArrayState.{ArrayState}
 use Rattle.states.specs.States.{changed, stateFault, diskReportFault}
 use Rattle.state_lists.specs.declared.Totals.{Totals}
-use Rattle.state_lists.specs.declared.Board.{Board}
+use Rattle.state_lists.specs.declared.Scan.{Scan}
+use Rattle.state_lists.specs.Scanning.{noArray, noTotals}
+use Rattle.state_reports.specs.declared.Board.{Board}
 
 -- "wherever it is in the list, the earliest such record deciding"
 unfoldable pub listFault : List ArrayState → ℕ
@@ -21,10 +23,6 @@ listFault (c ∷ cs) = firstOf (stateFault c) (listFault cs)
 -- refusal 20: "cabinet number, from 0, beyond the list or list over 64"
 abbrev pub numberFault : ℕ → ℕ → ℕ
 numberFault n i = when (leb n i || ltb 64 n) 20
-
--- what stands for a record beyond the list
-abbrev pub noArray : ArrayState
-noArray = record { width = 0; disks = 0; lost = 0 }
 
 -- a report on array i of a list refuses by 20, 1, 13, 3 and 21: "20 comes first of all, 21 last"
 abbrev pub reportFault : List ArrayState → ℕ → ℕ → Bool → ℕ
@@ -46,11 +44,16 @@ howMany f (c ∷ cs) = when (f (ones (c .lost))) 1 + howMany f cs
 abbrev pub totalsOf : List ArrayState → Totals
 totalsOf xs = record { optimal = howMany (λ n. eqb n 0) xs; degraded = howMany (λ n. eqb n 1) xs; critical = howMany (λ n. eqb n 2) xs; failed = howMany (λ n. leb 3 n) xs }
 
-abbrev pub noTotals : Totals
-noTotals = record { optimal = 0; degraded = 0; critical = 0; failed = 0 }
-
 -- a report on array i of the list xs, which is ys after it: the totals "are those that a fresh count over the list then gives"
 pub record ReportSays (xs : List ArrayState) (i d : ℕ) (back : Bool) (ys : List ArrayState) (r : Board) : Type 0 where
   pub answer : Answers (reportFault xs i d back) (r .answer)
   pub list : ys ≡ pick (reportOk xs i d back) (listAfter xs i d back) xs
   pub totals : r .totals ≡ pick (reportOk xs i d back) (totalsOf ys) noTotals
+
+-- the answer after a scan of n records: 20, the first refusal of a record, the report's own
+unfoldable pub scanFault : Scan → ℕ → ℕ → ℕ
+scanFault s n which = firstOf (when (leb n which) 20) (firstOf (s .fault) (s .own))
+
+unfoldable pub scanAnswer : Scan → ℕ → ℕ → Board
+unfolding scanFault
+scanAnswer s n which = record { answer = record { refusal = scanFault s n which; place = 0 }; totals = pick (eqb (scanFault s n which) 0) (s .totals) noTotals }

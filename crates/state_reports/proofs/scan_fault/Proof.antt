@@ -4,9 +4,9 @@ use mathlib.Core.Bool.{Bool}
 use borrow.Author.Needs.{needs}
 use borrow.Author.Tests.{le-leb, lt-leb}
 use Rattle.laws.specs.Choice.{when, firstOf}
-use Rattle.state_lists.specs.Scanning.{scanFault}
-use Rattle.state_lists.proofs.scan_fault.Statement.{statement}
-use Rattle.state_lists.proofs.scan_fault.Tie as tie
+use Rattle.state_reports.specs.Reports.{scanFault}
+use Rattle.state_reports.proofs.scan_fault.Statement.{statement}
+use Rattle.state_reports.proofs.scan_fault.Tie as tie
 
 returns : tie.Need-returns
 unfolding scanFault

@@ -19,12 +19,12 @@ use Rattle.laws.specs.Choice.{pick, when, firstOf}
 use Rattle.laws.proofs.OrderLaws.{lt-or-le}
 use Rattle.laws.proofs.ChoiceLaws.{first-none, first-zero, first-assoc, when-none, pick-refused, pick-done}
 use Rattle.states.specs.declared.ArrayState.{ArrayState}
 use Rattle.state_lists.specs.declared.Totals.{Totals}
 use Rattle.state_lists.specs.declared.Scan.{Scan}
 use Rattle.states.specs.States.{stateFault, diskReportFault, stateReportFault, changed}
-use Rattle.state_lists.specs.Reports.{listFault, numberFault, noArray, reportFault, listAfter, howMany, totalsOf, noTotals, ReportSays}
-use Rattle.state_lists.specs.Scanning.{scanLength, scanStart, countedOn, MayScan, reported, scanRecord, scanFault, scanAnswer, scanFrom}
+use Rattle.state_lists.specs.Scanning.{noArray, noTotals, scanLength, scanStart, countedOn, MayScan, reported, scanRecord, scanFrom}
 use Rattle.state_lists.proofs.RecordLaws.{totals-are}
+use Rattle.state_reports.specs.Reports.{listFault, numberFault, reportFault, listAfter, howMany, totalsOf, ReportSays, scanFault, scanAnswer}
 
 -- ---- how many records are scanned
 pub scan-most : (m : ℕ) → scanLength m ≤ m

@@ -3,12 +3,12 @@ use mathlib.Core.Path.{sym, ap₂, _∙_}
 use Rattle.laws.proofs.ChoiceLaws.{pick-refused, pick-done}
 use Rattle.refusals.specs.declared.Answer.{Answer}
 use Rattle.refusals.proofs.AnswerLaws.{answers-as, answer-is}
 use Rattle.state_lists.specs.declared.Totals.{Totals}
-use Rattle.state_lists.specs.Reports.{noTotals}
-use Rattle.state_lists.specs.Scanning.{scanFault, scanAnswer}
+use Rattle.state_lists.specs.Scanning.{noTotals}
+use Rattle.state_reports.specs.Reports.{scanFault, scanAnswer}
 use borrow.Author.Needs.{needs}
-use Rattle.state_lists.proofs.scan_answer.Statement.{statement}
-use Rattle.state_lists.proofs.scan_answer.Tie as tie
+use Rattle.state_reports.proofs.scan_answer.Statement.{statement}
+use Rattle.state_reports.proofs.scan_answer.Tie as tie
 
 scan-fault-requires : tie.Need-scan-fault-requires
 scan-fault-requires c κs = search needs

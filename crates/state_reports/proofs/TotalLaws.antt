@@ -10,7 +10,7 @@ use lib.ListN.{length}
 use borrow.Author.Tests.{ne-eqb, le-leb}
 use Rattle.laws.specs.Choice.{when}
 use Rattle.states.specs.declared.ArrayState.{ArrayState}
-use Rattle.state_lists.specs.Reports.{howMany, totalsOf}
+use Rattle.state_reports.specs.Reports.{howMany, totalsOf}
 
 -- an array that has lost n disks is in one
 in-one : (n : ℕ) → when (eqb n 0) 1 + when (eqb n 1) 1 + when (eqb n 2) 1 + when (leb 3 n) 1 ≡ 1

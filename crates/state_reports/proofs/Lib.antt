@@ -1,0 +1,3 @@
+-- The four totals, and the scan of a list.
+pub mod TotalLaws
+pub mod ScanLaws
