@@ -40,7 +40,7 @@ ifeq ($(LIB),)
 $(shell [ ! -e build/from-lib ] || rm -f $(archives) build/from-lib) # archives that LIB= brought are not built ones
 build/libcuzhaveli.a: archive.sh crates.txt $(shell find crates -name '*.rt' -o -name '*.antt')
 	@command -v rt >/dev/null || { echo "make: the library is built by the Rattle kit, whose command rt is not on PATH; install the kit, or take a ready archive: make LIB=FILE" >&2; exit 1; }
-	@echo "make: proving and compiling: 3 to 5 minutes on two cores the first time, then only what changed; build/archive.log says how far"
+	@echo "make: proving and compiling: 4 to 6 minutes on two cores the first time, then only what changed; build/archive.log says how far"
 	@mkdir -p build
 	@./archive.sh build >build/archive.log 2>&1 || { tail -n 20 build/archive.log >&2; echo "make: $@ was not built; the lines above are the end of build/archive.log" >&2; exit 1; }
 	@echo "make: wrote $@"
