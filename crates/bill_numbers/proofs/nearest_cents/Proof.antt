@@ -11,17 +11,11 @@ use Rattle.bill_numbers.proofs.CentsLaws.{rounded-up, rounded-down, rou
 use Rattle.bill_numbers.proofs.nearest_cents.Statement.{statement}
 use Rattle.bill_numbers.proofs.nearest_cents.Tie as tie
 
-add-result : tie.Need-add-result
-add-result c = search needs
-
 returns : tie.Need-returns
 returns c = let n = c .before .args .charge in sym (rounded-up (n / gib) (n % gib) (omega arith))
 
 returns-2 : tie.Need-returns-2
 returns-2 c = let n = c .before .before .args .charge in sym (rounded-down (n / gib) (n % gib) (omega arith))
-
-add-result-2 : tie.Need-add-result-2
-add-result-2 c = search needs
 
 -- neither more than half nor less
 half : (c : tie.Else2) → let n = c .before .before .args .charge in nearest n ≡ evenOf (n / gib)
@@ -34,4 +28,4 @@ returns-4 : tie.Need-returns-4
 returns-4 c = let n = c .before .before .before .args .charge in sym (half (c .before) ∙ ap (λ (t : Bool). pick t (n / gib) (n / gib + 1)) (ne-eqb (n / gib % 2) 0 (c .if3 .left)))
 
 pub nearest-cents-spec : {M : Type 1} → statement M
-nearest-cents-spec = tie.close (tie.spec add-result returns returns-2 add-result-2 returns-3 returns-4)
+nearest-cents-spec = tie.close (tie.spec (λ c. search needs) returns returns-2 (λ c. search needs) returns-3 returns-4)

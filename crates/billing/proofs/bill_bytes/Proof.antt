@@ -7,24 +7,12 @@ use Rattle.billing.proofs.BillLaws.{Fair, fault-none, bill-refused, bil
 use Rattle.billing.proofs.bill_bytes.Statement.{statement}
 use Rattle.billing.proofs.bill_bytes.Tie as tie
 
-bill-fault-requires : tie.Need-bill-fault-requires
-bill-fault-requires c κs = search needs
-
-refused-bill-requires : tie.Need-refused-bill-requires
-refused-bill-requires c κs = search needs
-
 returns : tie.Need-returns
 returns c =
     let i = c .before in
     let f = i .before .bill-fault in
     let a = i .before .before .args in
     bill-refused (billFault (a .bytes) (a .first) (a .second) (a .third)) (a .bytes) (a .first) (a .second) (a .third) (f .result) (c .refused-bill .result) (f .ensures) (i .if1 .taken) (c .refused-bill .ensures)
-
-least-of-requires : tie.Need-least-of-requires
-least-of-requires c κs = search needs
-
-least-of-requires-2 : tie.Need-least-of-requires-2
-least-of-requires-2 c κs = search needs
 
 -- past the refusals
 passed : (c : tie.Else1) → let a = c .before .before .args in billFault (a .bytes) (a .first) (a .second) (a .third) ≡ 0
@@ -58,12 +46,6 @@ mul-charge-3 c = omega (arith, small c)
 add-charge-2 : tie.Need-add-charge-2
 add-charge-2 c = omega (arith, small c)
 
-answered-requires : tie.Need-answered-requires
-answered-requires c κs = search needs
-
-nearest-cents-requires : tie.Need-nearest-cents-requires
-nearest-cents-requires c κs = search needs
-
 returns-2 : tie.Need-returns-2
 returns-2 c =
     let d = c .before in
@@ -90,11 +72,11 @@ pub bill-bytes-spec : {M : Type 1} → statement M
 bill-bytes-spec =
     tie.close
     (tie.spec
-    bill-fault-requires
-    refused-bill-requires
+    (λ c κs. search needs)
+    (λ c κs. search needs)
     returns
-    least-of-requires
-    least-of-requires-2
+    (λ c κs. search needs)
+    (λ c κs. search needs)
     sub-middle
     sub-rest
     mul-charge
@@ -102,6 +84,6 @@ bill-bytes-spec =
     add-charge
     mul-charge-3
     add-charge-2
-    answered-requires
-    nearest-cents-requires
+    (λ c κs. search needs)
+    (λ c κs. search needs)
     returns-2)

@@ -5,12 +5,6 @@ use Rattle.billing.proofs.RunLaws.{bytes-fit, run-refused, run-billed}
 use Rattle.billing.proofs.bill_run.Statement.{statement}
 use Rattle.billing.proofs.bill_run.Tie as tie
 
-run-progress-requires : tie.Need-run-progress-requires
-run-progress-requires c κs = search needs
-
-refused-bill-requires : tie.Need-refused-bill-requires
-refused-bill-requires c κs = search needs
-
 returns : tie.Need-returns
 returns c =
     let i = c .before in
@@ -24,9 +18,6 @@ mul-bill-bytes c =
     let g = i .before .before .before .run-progress in
     omega (arith, bytes-fit (i .before .before .before .before .args .run) (g .result) (g .ensures) (i .if1 .left))
 
-bill-bytes-requires : tie.Need-bill-bytes-requires
-bill-bytes-requires c κs = search needs
-
 returns-2 : tie.Need-returns-2
 returns-2 c =
     let i = c .before .before .before in
@@ -35,4 +26,4 @@ returns-2 c =
     run-billed (a .run) (g .result) (g .ensures) (i .if1 .left) (a .first) (a .second) (a .third) (c .bill-bytes .result) (c .bill-bytes .ensures)
 
 pub bill-run-spec : {M : Type 1} → statement M
-bill-run-spec = tie.close (tie.spec run-progress-requires refused-bill-requires returns mul-bill-bytes bill-bytes-requires returns-2)
+bill-run-spec = tie.close (tie.spec (λ c κs. search needs) (λ c κs. search needs) returns mul-bill-bytes (λ c κs. search needs) returns-2)

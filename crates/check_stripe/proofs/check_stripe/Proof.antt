@@ -23,12 +23,6 @@ sized c = let a = c .before .before .before .args in fault-none (a .shape .width
 bytes : (c : tie.After-shared-slice-known) → allBytes (c .before .args .stripe .now) ≡ true
 bytes c = bytes-all (c .before .args .stripe .now) (c .shared-slice-known .given)
 
-stripe-fault-requires : tie.Need-stripe-fault-requires
-stripe-fault-requires c κs = search needs
-
-answered-requires : tie.Need-answered-requires
-answered-requires c κs = search needs
-
 returns : tie.Need-returns
 returns c =
     let t = c .before in
@@ -39,9 +33,6 @@ returns c =
 is-clean-requires : tie.Need-is-clean-requires
 is-clean-requires c κs = sized c
 
-answered-requires-2 : tie.Need-answered-requires-2
-answered-requires-2 c κs = search needs
-
 returns-2 : tie.Need-returns-2
 returns-2 c =
     let k = c .before in
@@ -50,4 +41,4 @@ returns-2 c =
     check-done (a .shape .width) (a .shape .disks) (a .shape .«cell_size») (a .stripe .now) (c .answered2 .result) (k .is-clean .result) (passed e) (c .answered2 .ensures) (k .is-clean .ensures) (bytes (e .before .before))
 
 pub check-stripe-spec : {M : Type 1} → statement M
-check-stripe-spec = tie.close (tie.spec stripe-fault-requires answered-requires returns is-clean-requires answered-requires-2 returns-2)
+check-stripe-spec = tie.close (tie.spec (λ c κs. search needs) (λ c κs. search needs) returns is-clean-requires (λ c κs. search needs) returns-2)

@@ -5,17 +5,11 @@ use Rattle.check_stripe.proofs.CheckLaws.{clean-rows, clean-both}
 use Rattle.check_stripe.proofs.is_clean.Statement.{statement}
 use Rattle.check_stripe.proofs.is_clean.Tie as tie
 
-rows-are-clean-requires : tie.Need-rows-are-clean-requires
-rows-are-clean-requires c κs = search needs
-
 returns : tie.Need-returns
 returns c =
     let k = c .before in
     let a = k .before .before .args in
     clean-rows (a .width) (a .disks) (a .size) (a .stripe .now) (k .rows-are-clean .result) (k .rows-are-clean .ensures) (not-true (k .rows-are-clean .result) (c .if1 .taken))
-
-diagonals-are-clean-requires : tie.Need-diagonals-are-clean-requires
-diagonals-are-clean-requires c κs = search needs
 
 returns-2 : tie.Need-returns-2
 returns-2 c =
@@ -25,4 +19,4 @@ returns-2 c =
     clean-both (a .width) (a .disks) (a .size) (a .stripe .now) (k .rows-are-clean .result) (c .diagonals-are-clean .result) (k .rows-are-clean .ensures) (not-false (k .rows-are-clean .result) (e .if1 .left)) (c .diagonals-are-clean .ensures)
 
 pub is-clean-spec : {M : Type 1} → statement M
-is-clean-spec = tie.close (tie.spec rows-are-clean-requires returns diagonals-are-clean-requires returns-2)
+is-clean-spec = tie.close (tie.spec (λ c κs. search needs) returns (λ c κs. search needs) returns-2)

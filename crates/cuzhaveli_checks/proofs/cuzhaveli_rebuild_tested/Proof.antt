@@ -6,11 +6,8 @@ use Rattle.cuzhaveli_checks.proofs.cuzhaveli_rebuild_tested.Tie as tie
 rebuild-tested-requires : tie.Need-rebuild-tested-requires
 rebuild-tested-requires c κs = tt
 
-same-length : tie.Need-same-length
-same-length c = search needs
-
 returns : tie.Need-returns
 returns c = c .before .before .rebuild-tested .ensures
 
 pub cuzhaveli-rebuild-tested-spec : {M : Type 1} → statement M
-cuzhaveli-rebuild-tested-spec = tie.close (tie.spec rebuild-tested-requires same-length returns)
+cuzhaveli-rebuild-tested-spec = tie.close (tie.spec rebuild-tested-requires (λ c. search needs) returns)

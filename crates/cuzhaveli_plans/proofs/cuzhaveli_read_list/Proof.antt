@@ -6,11 +6,8 @@ use Rattle.cuzhaveli_plans.proofs.cuzhaveli_read_list.Tie as tie
 read-list-requires : tie.Need-read-list-requires
 read-list-requires c κs = tt
 
-same-length : tie.Need-same-length
-same-length c = search needs
-
 returns : tie.Need-returns
 returns c = c .before .before .read-list .ensures
 
 pub cuzhaveli-read-list-spec : {M : Type 1} → statement M
-cuzhaveli-read-list-spec = tie.close (tie.spec read-list-requires same-length returns)
+cuzhaveli-read-list-spec = tie.close (tie.spec read-list-requires (λ c. search needs) returns)

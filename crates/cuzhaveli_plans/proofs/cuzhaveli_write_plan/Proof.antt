@@ -6,11 +6,8 @@ use Rattle.cuzhaveli_plans.proofs.cuzhaveli_write_plan.Tie as tie
 write-plan-requires : tie.Need-write-plan-requires
 write-plan-requires c κs = tt
 
-same-length : tie.Need-same-length
-same-length c = search needs
-
 returns : tie.Need-returns
 returns c = c .before .before .write-plan .ensures
 
 pub cuzhaveli-write-plan-spec : {M : Type 1} → statement M
-cuzhaveli-write-plan-spec = tie.close (tie.spec write-plan-requires same-length returns)
+cuzhaveli-write-plan-spec = tie.close (tie.spec write-plan-requires (λ c. search needs) returns)

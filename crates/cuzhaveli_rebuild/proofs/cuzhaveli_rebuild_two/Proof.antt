@@ -6,11 +6,8 @@ use Rattle.cuzhaveli_rebuild.proofs.cuzhaveli_rebuild_two.Tie as tie
 rebuild-two-requires : tie.Need-rebuild-two-requires
 rebuild-two-requires c κs = tt
 
-same-length : tie.Need-same-length
-same-length c = search needs
-
 returns : tie.Need-returns
 returns c = c .before .before .rebuild-two .ensures
 
 pub cuzhaveli-rebuild-two-spec : {M : Type 1} → statement M
-cuzhaveli-rebuild-two-spec = tie.close (tie.spec rebuild-two-requires same-length returns)
+cuzhaveli-rebuild-two-spec = tie.close (tie.spec rebuild-two-requires (λ c. search needs) returns)

@@ -18,9 +18,6 @@ use Rattle.judge.proofs.form_fault.Tie as tie
 none : (c : tie.Else1) → let a = c .before .before .args in planFault (a .width) (a .disks) (a .lost) ≡ 0
 none c = sym (c .before .plan-fault .ensures) ∙ c .if1 .left
 
-plan-fault-requires : tie.Need-plan-fault-requires
-plan-fault-requires c κs = search needs
-
 returns : tie.Need-returns
 returns c =
     let q = c .before in
@@ -41,4 +38,4 @@ returns-3 c =
     sym (ap₂ (λ (n : ℕ) (b : Bool). firstOf n (when (not b) 5)) (none (c .before)) (eq-eqb (a .long) (3 * a .width) (c .if2 .left)))
 
 pub form-fault-spec : {M : Type 1} → statement M
-form-fault-spec = tie.close (tie.spec plan-fault-requires returns mul-if2 returns-2 returns-3)
+form-fault-spec = tie.close (tie.spec (λ c κs. search needs) returns mul-if2 returns-2 returns-3)

@@ -28,12 +28,6 @@ within c =
     let w = plan-of (a .width) (a .disks) (a .lost) (q .0) in
     (record { some = omega (arith, width-least (a .width) (w .0)); widest = width-most (a .width) (w .0); disks = w .3; disk = w .1 }, long-of (3 * a .width) (a .plan .now) (q .1))
 
-form-fault-requires : tie.Need-form-fault-requires
-form-fault-requires c κs = search needs
-
-answered-requires : tie.Need-answered-requires
-answered-requires c κs = search needs
-
 returns : tie.Need-returns
 returns c =
     let t = c .before in
@@ -47,9 +41,6 @@ few c = let a = c .before .before .before .args in let w = within c .0 in cells-
 
 enough : (c : tie.After-no-marks) → let a = c .before .before .before .before .args in a .width * (a .disks + 2) ≤ length (c .no-marks .result)
 enough c = omega (arith, few (c .before), ap length (c .no-marks .ensures), length-marks 1023 0 [])
-
-no-marks-requires : tie.Need-no-marks-requires
-no-marks-requires c κs = search needs
 
 add-marks : tie.Need-add-marks
 add-marks c = let w = within (c .before) .0 in omega (arith, w .widest, w .disks)
@@ -81,10 +72,10 @@ pub judge-plan-spec : {M : Type 1} → statement M
 judge-plan-spec =
     tie.close
     (tie.spec
-    form-fault-requires
-    answered-requires
+    (λ c κs. search needs)
+    (λ c κs. search needs)
     returns
-    no-marks-requires
+    (λ c κs. search needs)
     add-marks
     mul-marks
     array-borrow-prefix-marks

@@ -25,51 +25,12 @@ no-rows = refl
 loop-holds : tie.Need-loop-holds Inv-loop μ-loop
 loop-holds c = let a = c .before .before .args in halfway-start (a .width) (a .disks) (a .lost) (a .plan .now) _ (a .marks .now) no-rows (c .before .before .pre .1 .1)
 
-mul-wide : tie.Need-mul-wide Inv-loop μ-loop
-mul-wide c = search needs
-
-shared-slice-read-wide : tie.Need-shared-slice-read-wide Inv-loop μ-loop
-shared-slice-read-wide c = search needs
-
-wide-requires : tie.Need-wide-requires Inv-loop μ-loop
-wide-requires c κs = search needs
-
-mul-wide-2 : tie.Need-mul-wide-2 Inv-loop μ-loop
-mul-wide-2 c = search needs
-
-add-wide : tie.Need-add-wide Inv-loop μ-loop
-add-wide c = search needs
-
-shared-slice-read-wide-2 : tie.Need-shared-slice-read-wide-2 Inv-loop μ-loop
-shared-slice-read-wide-2 c = search needs
-
-wide-requires-2 : tie.Need-wide-requires-2 Inv-loop μ-loop
-wide-requires-2 c κs = search needs
-
-mul-wide-3 : tie.Need-mul-wide-3 Inv-loop μ-loop
-mul-wide-3 c = search needs
-
-add-wide-2 : tie.Need-add-wide-2 Inv-loop μ-loop
-add-wide-2 c = search needs
-
-shared-slice-read-wide-3 : tie.Need-shared-slice-read-wide-3 Inv-loop μ-loop
-shared-slice-read-wide-3 c = search needs
-
-wide-requires-3 : tie.Need-wide-requires-3 Inv-loop μ-loop
-wide-requires-3 c κs = search needs
-
-step-fault-requires : tie.Need-step-fault-requires Inv-loop μ-loop
-step-fault-requires c κs = search needs
-
 -- the step that was read
 abbrev read : (c : tie.After-step-fault Inv-loop μ-loop) → Step
 read c = step (c .before .before .before .before .before .wide .result) (c .before .before .before .wide2 .result) (c .before .wide3 .result)
 
 bytes : (c : tie.After-step-fault Inv-loop μ-loop) → BytesOf (c .before .before .before .before .before .before .before .before .before .before .before .args .plan .now) (c .before .before .before .before .before .before .before .before .loop .i) (read c)
 bytes c = record { row = c .before .before .before .before .before .wide .ensures; kind = c .before .before .before .wide2 .ensures; number = c .before .wide3 .ensures }
-
-cast-place : tie.Need-cast-place Inv-loop μ-loop
-cast-place c = search needs
 
 same-length : tie.Need-same-length Inv-loop μ-loop
 same-length c =
@@ -114,17 +75,8 @@ turned c =
 add-reads : tie.Need-add-reads Inv-loop μ-loop
 add-reads c = omega (arith, turned c .few, turned c .within, c .before .before .before .before .before .before .before .before .before .before .before .before .before .before .before .before .pre .0 .widest)
 
-add-i : tie.Need-add-i Inv-loop μ-loop
-add-i c = search needs
-
-loop-less : tie.Need-loop-less Inv-loop μ-loop
-loop-less c = search needs
-
 loop-again : tie.Need-loop-again Inv-loop μ-loop
 loop-again c = turned c
-
-answered-requires : tie.Need-answered-requires Inv-loop μ-loop
-answered-requires c κs = search needs
 
 same-length-2 : tie.Need-same-length-2 Inv-loop μ-loop
 same-length-2 c =
@@ -148,27 +100,27 @@ judge-steps-spec =
     Inv-loop
     μ-loop
     loop-holds
-    mul-wide
-    shared-slice-read-wide
-    wide-requires
-    mul-wide-2
-    add-wide
-    shared-slice-read-wide-2
-    wide-requires-2
-    mul-wide-3
-    add-wide-2
-    shared-slice-read-wide-3
-    wide-requires-3
-    step-fault-requires
-    cast-place
+    (λ c. search needs)
+    (λ c. search needs)
+    (λ c κs. search needs)
+    (λ c. search needs)
+    (λ c. search needs)
+    (λ c. search needs)
+    (λ c κs. search needs)
+    (λ c. search needs)
+    (λ c. search needs)
+    (λ c. search needs)
+    (λ c κs. search needs)
+    (λ c κs. search needs)
+    (λ c. search needs)
     same-length
     returns
     array-write-done
     mark-set-requires
     add-reads
-    add-i
-    loop-less
+    (λ c. search needs)
+    (λ c. search needs)
     loop-again
-    answered-requires
+    (λ c κs. search needs)
     same-length-2
     returns-2)

@@ -25,14 +25,8 @@ mul-wanted c = let a = c .args in omega (arith, place-small (a .width) (a .row) 
 add-wanted : tie.Need-add-wanted Inv-loop μ-loop
 add-wanted c = let a = c .args in omega (arith, place-small (a .width) (a .row) (a .lost) (c .pre .0 .widest) (c .pre .1 .0) (omega (arith, c .pre .0)))
 
-set-size-requires : tie.Need-set-size-requires Inv-loop μ-loop
-set-size-requires c κs = search needs
-
 loop-holds : tie.Need-loop-holds Inv-loop μ-loop
 loop-holds c = (c .set-size .ensures, refl)
-
-set-cell-requires : tie.Need-set-cell-requires Inv-loop μ-loop
-set-cell-requires c κs = search needs
 
 returns : tie.Need-returns Inv-loop μ-loop
 returns c =
@@ -42,12 +36,6 @@ returns c =
     let xs = setOf (a .width) (a .disks) (a .kind) (a .number) in
     seek-here (place (a .width) (a .row) (a .lost)) (l .at) (c .before .set-cell .result) xs (omega (arith, l .inv .0)) (c .before .set-cell .ensures) (c .if1 .taken) (l .inv .1)
     ∙ sym (in-lost (a .width) (a .lost) (a .row) xs (q .1 .0))
-
-add-at : tie.Need-add-at Inv-loop μ-loop
-add-at c = search needs
-
-loop-less : tie.Need-loop-less Inv-loop μ-loop
-loop-less c = search needs
 
 loop-again : tie.Need-loop-again Inv-loop μ-loop
 loop-again c =
@@ -72,11 +60,11 @@ holds-row-spec =
     μ-loop
     mul-wanted
     add-wanted
-    set-size-requires
+    (λ c κs. search needs)
     loop-holds
-    set-cell-requires
+    (λ c κs. search needs)
     returns
-    add-at
-    loop-less
+    (λ c. search needs)
+    (λ c. search needs)
     loop-again
     returns-2)

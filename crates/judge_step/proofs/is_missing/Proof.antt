@@ -8,14 +8,8 @@ use Rattle.judge_step.proofs.StepRefusals.{there-elsewhere, there-itsel
 use Rattle.judge_step.proofs.is_missing.Statement.{statement}
 use Rattle.judge_step.proofs.is_missing.Tie as tie
 
-div-if1 : tie.Need-div-if1
-div-if1 c = search needs
-
 returns : tie.Need-returns
 returns c = λ ds e. let a = c .before .args in sym (there-elsewhere (a .width) (a .lost) (a .row) (a .cell) ds (c .if1 .taken))
-
-rem-other : tie.Need-rem-other
-rem-other c = search needs
 
 returns-2 : tie.Need-returns-2
 returns-2 c = λ ds e. let a = c .before .before .args in sym (there-itself (a .width) (a .lost) (a .row) (a .cell) ds (c .before .if1 .left) (c .if2 .taken))
@@ -34,4 +28,4 @@ returns-3 c = λ ds e.
 
 pub is-missing-spec : {M : Type 1} → statement M
 is-missing-spec =
-    tie.close (tie.spec div-if1 returns rem-other returns-2 array-read-result returns-3)
+    tie.close (tie.spec (λ c. search needs) returns (λ c. search needs) returns-2 array-read-result returns-3)

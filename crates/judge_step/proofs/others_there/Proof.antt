@@ -19,29 +19,14 @@ Inv-loop width disks lost row kind number done size at₀ at =
 abbrev μ-loop : tie.MeasureT-loop
 μ-loop width disks lost row kind number done size at₀ at = size - at
 
-set-size-requires : tie.Need-set-size-requires Inv-loop μ-loop
-set-size-requires c κs = search needs
-
 loop-holds : tie.Need-loop-holds Inv-loop μ-loop
 loop-holds c = (c .set-size .ensures, λ ds e. refl)
-
-set-cell-requires : tie.Need-set-cell-requires Inv-loop μ-loop
-set-cell-requires c κs = search needs
-
-is-missing-requires : tie.Need-is-missing-requires Inv-loop μ-loop
-is-missing-requires c κs = search needs
 
 returns : tie.Need-returns Inv-loop μ-loop
 returns c = λ ds e.
     let a = c .before .before .before .before .before .before .args in
     let l = c .before .before .before .before .loop in
     there-stop (a .width) (a .lost) (a .row) (l .at) (c .before .before .set-cell .result) ds (setOf (a .width) (a .disks) (a .kind) (a .number)) (c .before .is-missing .result) (omega (arith, l .inv .0)) (c .before .before .set-cell .ensures) (c .if1 .taken) (c .before .is-missing .ensures ds e) (l .inv .1 ds e)
-
-add-at : tie.Need-add-at Inv-loop μ-loop
-add-at c = search needs
-
-loop-less : tie.Need-loop-less Inv-loop μ-loop
-loop-less c = search needs
 
 loop-again : tie.Need-loop-again Inv-loop μ-loop
 loop-again c =
@@ -63,12 +48,12 @@ others-there-spec =
     (tie.spec
     Inv-loop
     μ-loop
-    set-size-requires
+    (λ c κs. search needs)
     loop-holds
-    set-cell-requires
-    is-missing-requires
+    (λ c κs. search needs)
+    (λ c κs. search needs)
     returns
-    add-at
-    loop-less
+    (λ c. search needs)
+    (λ c. search needs)
     loop-again
     returns-2)

@@ -36,9 +36,6 @@ returns-3 c = λ ds e.
 in-form : (c : tie.Else3) → let a = c .before .before .before .args in outOfForm (a .width) (step (a .row) (a .kind) (a .number)) ≡ false
 in-form c = let a = c .before .before .before .args in all-in-form (a .width) (step (a .row) (a .kind) (a .number)) (omega (arith, c .before .before .if1 .left)) (omega (arith, c .before .if2 .left)) (omega (arith, c .if3 .left))
 
-holds-row-requires : tie.Need-holds-row-requires
-holds-row-requires c κs = search needs
-
 -- the test of refusal 7
 held : (c : tie.After-holds-row) (b : Bool) → let a = c .before .before .before .before .args in c .holds-row .result ≡ b → b ≡ isIn (a .row) (lostIn (a .width) (a .lost) (setOf (a .width) (a .disks) (a .kind) (a .number)))
 held c b e = sym e ∙ c .holds-row .ensures
@@ -54,14 +51,8 @@ past c ds x y e r t =
     let a = c .before .before .before .before .before .args in
     sym (fault-is (a .width) (a .disks) (a .lost) ds (step (a .row) (a .kind) (a .number)) false true x y (in-form (c .before .before)) (held (c .before) true (not-false (c .before .holds-row .result) (c .if4 .left))) (sym r ∙ byte-one 31 (a .row) (a .t7) ds e (omega (arith, c .before .before .before .before .if1 .left, c .before .before .before .before .before .pre .widest))) t)
 
-array-read-if5 : tie.Need-array-read-if5
-array-read-if5 c = search needs
-
 returns-5 : tie.Need-returns-5
 returns-5 c = λ ds e. past (c .before) ds true _ e (eq-eqb _ _ (c .if5 .taken)) refl
-
-others-there-requires : tie.Need-others-there-requires
-others-there-requires c κs = search needs
 
 returns-6 : tie.Need-returns-6
 returns-6 c = λ ds e. past (c .before .before .before) ds false true e (ne-eqb _ _ (c .before .before .if5 .left)) (sym (c .if6 .taken) ∙ c .before .others-there .ensures ds e)
@@ -76,10 +67,10 @@ step-fault-spec =
     returns
     returns-2
     returns-3
-    holds-row-requires
+    (λ c κs. search needs)
     returns-4
-    array-read-if5
+    (λ c. search needs)
     returns-5
-    others-there-requires
+    (λ c κs. search needs)
     returns-6
     returns-7)

@@ -9,9 +9,6 @@ use Rattle.number_tests.proofs.disk_fault.Tie as tie
 returns : tie.Need-returns
 returns c = sym (disk-accepted (c .before .args .disks) (c .before .args .disk) (omega arith))
 
-sub-if2 : tie.Need-sub-if2
-sub-if2 c = search needs
-
 returns-2 : tie.Need-returns-2
 returns-2 c = sym (disk-accepted (c .before .before .args .disks) (c .before .before .args .disk) (omega arith))
 
@@ -19,4 +16,4 @@ returns-3 : tie.Need-returns-3
 returns-3 c = sym (disk-refused (c .before .before .args .disks) (c .before .before .args .disk) (omega arith))
 
 pub disk-fault-spec : {M : Type 1} → statement M
-disk-fault-spec = tie.close (tie.spec returns sub-if2 returns-2 returns-3)
+disk-fault-spec = tie.close (tie.spec returns (λ c. search needs) returns-2 returns-3)

@@ -14,12 +14,6 @@ add-sets-requires c κs =
     let o = v .before .before .before .before .before in
     (still-lost (v .add-set .last .1 .1 .1 .1 .1 .1 .1 .1 .1 .0) (v .add-set .last .1 .1 .1 .1 .1 .1 .1 .1 .1 .1 .0) (o .pre .0) (v .add-set .kept .1 .1 .1 .1 .1 .1 .1 .1 .1 .0) (v .add-set .kept .1 .1 .1 .1 .1 .1 .1 .1 .1 .1 .0), o .pre .1)
 
-same-length : tie.Need-same-length
-same-length c = search needs
-
-same-length-2 : tie.Need-same-length-2
-same-length-2 c = search needs
-
 returns : tie.Need-returns
 returns c =
     let w = c .before .before .before .before in
@@ -29,4 +23,4 @@ returns c =
 
 pub add-last-spec : {M : Type 1} → statement M
 add-last-spec =
-    tie.close (tie.spec add-set-requires add-sets-requires same-length same-length-2 returns)
+    tie.close (tie.spec add-set-requires add-sets-requires (λ c. search needs) (λ c. search needs) returns)

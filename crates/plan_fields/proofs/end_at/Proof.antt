@@ -4,9 +4,6 @@ use Rattle.plan_fields.proofs.TestLaws.{end-lf, end-none, end-cr-lf, en
 use Rattle.plan_fields.proofs.end_at.Statement.{statement}
 use Rattle.plan_fields.proofs.end_at.Tie as tie
 
-byte-at-requires : tie.Need-byte-at-requires
-byte-at-requires c κs = search needs
-
 returns : tie.Need-returns
 returns c =
     let k = c .before in
@@ -18,12 +15,6 @@ returns-2 c =
     let k = c .before .before in
     let a = k .before .before .args in
     end-none (a .text .now) (a .at) (k .byte-at .result) (k .byte-at .ensures) (c .before .if1 .left) (c .if2 .taken)
-
-add-byte-at : tie.Need-add-byte-at
-add-byte-at c = search needs
-
-byte-at-requires-2 : tie.Need-byte-at-requires-2
-byte-at-requires-2 c κs = search needs
 
 returns-3 : tie.Need-returns-3
 returns-3 c =
@@ -43,10 +34,10 @@ pub end-at-spec : {M : Type 1} → statement M
 end-at-spec =
     tie.close
     (tie.spec
-    byte-at-requires
+    (λ c κs. search needs)
     returns
     returns-2
-    add-byte-at
-    byte-at-requires-2
+    (λ c. search needs)
+    (λ c κs. search needs)
     returns-3
     returns-4)

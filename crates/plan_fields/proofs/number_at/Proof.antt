@@ -7,36 +7,12 @@ use Rattle.plan_fields.proofs.TestLaws.{no-number, one-digit, two-digit
 use Rattle.plan_fields.proofs.number_at.Statement.{statement}
 use Rattle.plan_fields.proofs.number_at.Tie as tie
 
-byte-at-requires : tie.Need-byte-at-requires
-byte-at-requires c κs = search needs
-
-is-digit-requires : tie.Need-is-digit-requires
-is-digit-requires c κs = search needs
-
 returns : tie.Need-returns
 returns c =
     let k = c .before in
     let b = k .before in
     let a = b .before .before .args in
     no-number (a .text .now) (a .at) (b .byte-at .result) _ (b .byte-at .ensures) (sym (k .is-digit .ensures) ∙ not-true (k .is-digit .result) (c .if1 .taken)) refl refl refl
-
-add-byte-at : tie.Need-add-byte-at
-add-byte-at c = search needs
-
-byte-at-requires-2 : tie.Need-byte-at-requires-2
-byte-at-requires-2 c κs = search needs
-
-is-digit-requires-2 : tie.Need-is-digit-requires-2
-is-digit-requires-2 c κs = search needs
-
-digit-requires : tie.Need-digit-requires
-digit-requires c κs = search needs
-
-add-number-of : tie.Need-add-number-of
-add-number-of c = search needs
-
-number-of-requires : tie.Need-number-of-requires
-number-of-requires c κs = search needs
 
 returns-2 : tie.Need-returns-2
 returns-2 c =
@@ -49,33 +25,6 @@ returns-2 c =
     let a = f .before .before .args in
     one-digit (a .text .now) (a .at) (f .byte-at .result) (b .byte-at2 .result) (d .digit .result) (c .number-of .result) (f .byte-at .ensures) (b .byte-at2 .ensures)
     (sym (k .is-digit .ensures) ∙ not-false (k .is-digit .result) (b .before .if1 .left)) (sym (l .is-digit2 .ensures) ∙ not-true (l .is-digit2 .result) (t .if2 .taken)) (d .digit .ensures) (c .number-of .ensures)
-
-digit-requires-2 : tie.Need-digit-requires-2
-digit-requires-2 c κs = search needs
-
-mul-two : tie.Need-mul-two
-mul-two c = search needs
-
-digit-requires-3 : tie.Need-digit-requires-3
-digit-requires-3 c κs = search needs
-
-add-two : tie.Need-add-two
-add-two c = search needs
-
-add-byte-at-2 : tie.Need-add-byte-at-2
-add-byte-at-2 c = search needs
-
-byte-at-requires-3 : tie.Need-byte-at-requires-3
-byte-at-requires-3 c κs = search needs
-
-is-digit-requires-3 : tie.Need-is-digit-requires-3
-is-digit-requires-3 c κs = search needs
-
-add-number-of-2 : tie.Need-add-number-of-2
-add-number-of-2 c = search needs
-
-number-of-requires-2 : tie.Need-number-of-requires-2
-number-of-requires-2 c κs = search needs
 
 returns-3 : tie.Need-returns-3
 returns-3 c =
@@ -93,21 +42,6 @@ returns-3 c =
     (sym (l .is-digit2 .ensures) ∙ not-false (l .is-digit2 .result) (d .before .if2 .left))
     (sym (m .is-digit3 .ensures) ∙ not-true (m .is-digit3 .result) (c .before .if3 .taken))
     (ap₂ (λ (x y : ℕ). 10 * x + y) (d .digit2 .ensures) (e .digit3 .ensures)) (c .number-of2 .ensures)
-
-mul-number-of : tie.Need-mul-number-of
-mul-number-of c = search needs
-
-digit-requires-4 : tie.Need-digit-requires-4
-digit-requires-4 c κs = search needs
-
-add-number-of-3 : tie.Need-add-number-of-3
-add-number-of-3 c = search needs
-
-add-number-of-4 : tie.Need-add-number-of-4
-add-number-of-4 c = search needs
-
-number-of-requires-3 : tie.Need-number-of-requires-3
-number-of-requires-3 c κs = search needs
 
 returns-4 : tie.Need-returns-4
 returns-4 c =
@@ -131,29 +65,29 @@ pub number-at-spec : {M : Type 1} → statement M
 number-at-spec =
     tie.close
     (tie.spec
-    byte-at-requires
-    is-digit-requires
+    (λ c κs. search needs)
+    (λ c κs. search needs)
     returns
-    add-byte-at
-    byte-at-requires-2
-    is-digit-requires-2
-    digit-requires
-    add-number-of
-    number-of-requires
+    (λ c. search needs)
+    (λ c κs. search needs)
+    (λ c κs. search needs)
+    (λ c κs. search needs)
+    (λ c. search needs)
+    (λ c κs. search needs)
     returns-2
-    digit-requires-2
-    mul-two
-    digit-requires-3
-    add-two
-    add-byte-at-2
-    byte-at-requires-3
-    is-digit-requires-3
-    add-number-of-2
-    number-of-requires-2
+    (λ c κs. search needs)
+    (λ c. search needs)
+    (λ c κs. search needs)
+    (λ c. search needs)
+    (λ c. search needs)
+    (λ c κs. search needs)
+    (λ c κs. search needs)
+    (λ c. search needs)
+    (λ c κs. search needs)
     returns-3
-    mul-number-of
-    digit-requires-4
-    add-number-of-3
-    add-number-of-4
-    number-of-requires-3
+    (λ c. search needs)
+    (λ c κs. search needs)
+    (λ c. search needs)
+    (λ c. search needs)
+    (λ c κs. search needs)
     returns-4)

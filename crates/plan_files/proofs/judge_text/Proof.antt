@@ -28,12 +28,6 @@ long c = search needs
 fits : (c : tie.After-parse) → 3 * c .before .before .before .before .args .width ≤ length (c .parse .result .plan)
 fits c = omega (arith, small (c .before), long c)
 
-plan-fault-requires : tie.Need-plan-fault-requires
-plan-fault-requires c κs = search needs
-
-answered-requires : tie.Need-answered-requires
-answered-requires c κs = search needs
-
 returns : tie.Need-returns
 returns c =
     let t = c .before in
@@ -44,9 +38,6 @@ returns c =
 
 parse-requires : tie.Need-parse-requires
 parse-requires c κs = small c
-
-answered-requires-2 : tie.Need-answered-requires-2
-answered-requires-2 c κs = search needs
 
 returns-2 : tie.Need-returns-2
 returns-2 c =
@@ -66,9 +57,6 @@ array-share-prefix-plan c = fits (c .before .before .before)
 slice-aggregate-judge-plan : tie.Need-slice-aggregate-judge-plan
 slice-aggregate-judge-plan c = sym (length-take-le _ _ (fits (c .before .before .before .before)))
 
-judge-plan-requires : tie.Need-judge-plan-requires
-judge-plan-requires c κs = search needs
-
 returns-3 : tie.Need-returns-3
 returns-3 c =
     let e = c .before .before .before in
@@ -84,14 +72,14 @@ pub judge-text-spec : {M : Type 1} → statement M
 judge-text-spec =
     tie.close
     (tie.spec
-    plan-fault-requires
-    answered-requires
+    (λ c κs. search needs)
+    (λ c κs. search needs)
     returns
     parse-requires
-    answered-requires-2
+    (λ c κs. search needs)
     returns-2
     mul-plan
     array-share-prefix-plan
     slice-aggregate-judge-plan
-    judge-plan-requires
+    (λ c κs. search needs)
     returns-3)

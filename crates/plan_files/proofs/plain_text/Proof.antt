@@ -33,12 +33,6 @@ long c = search needs
 fits : (c : tie.After-parse) → 3 * c .before .before .before .before .before .args .width ≤ length (c .parse .result .plan)
 fits c = omega (arith, small (c .before), long c)
 
-room-fault-requires : tie.Need-room-fault-requires
-room-fault-requires c κs = search needs
-
-unwritten-requires : tie.Need-unwritten-requires
-unwritten-requires c κs = search needs
-
 returns : tie.Need-returns
 returns c =
     let t = c .before in
@@ -49,9 +43,6 @@ returns c =
 
 parse-requires : tie.Need-parse-requires
 parse-requires c κs = small c
-
-unwritten-requires-2 : tie.Need-unwritten-requires-2
-unwritten-requires-2 c κs = search needs
 
 returns-2 : tie.Need-returns-2
 returns-2 c =
@@ -77,9 +68,6 @@ write-steps-requires c κs =
     let a = r .before .before .before .before .before .args in
     (parts (r .before) .0, length-take-le (3 * a .width) (r .parse .result .plan) (fits r), long-of 263 (a .out .now) (parts (r .before) .1))
 
-same-length : tie.Need-same-length
-same-length c = search needs
-
 returns-3 : tie.Need-returns-3
 returns-3 c =
     let w = c .before .before in
@@ -95,15 +83,15 @@ pub plain-text-spec : {M : Type 1} → statement M
 plain-text-spec =
     tie.close
     (tie.spec
-    room-fault-requires
-    unwritten-requires
+    (λ c κs. search needs)
+    (λ c κs. search needs)
     returns
     parse-requires
-    unwritten-requires-2
+    (λ c κs. search needs)
     returns-2
     mul-plan
     array-share-prefix-plan
     slice-aggregate-write-steps
     write-steps-requires
-    same-length
+    (λ c. search needs)
     returns-3)

@@ -8,17 +8,11 @@ use Rattle.laws.proofs.ChoiceLaws.{first-kept, first-next}
 use Rattle.plan_files.proofs.room_fault.Statement.{statement}
 use Rattle.plan_files.proofs.room_fault.Tie as tie
 
-plan-fault-requires : tie.Need-plan-fault-requires
-plan-fault-requires c κs = search needs
-
 returns : tie.Need-returns
 returns c = let q = c .before in first-kept _ _ (when (not (eqb (q .before .args .room) 263)) 5) (q .plan-fault .ensures) (c .if1 .taken)
-
-length-fault-requires : tie.Need-length-fault-requires
-length-fault-requires c κs = search needs
 
 returns-2 : tie.Need-returns-2
 returns-2 c = let q = c .before .before in first-next _ _ (when (not (eqb (q .before .args .room) 263)) 5) (sym (q .plan-fault .ensures) ∙ c .before .if1 .left) (c .length-fault .ensures)
 
 pub room-fault-spec : {M : Type 1} → statement M
-room-fault-spec = tie.close (tie.spec plan-fault-requires returns length-fault-requires returns-2)
+room-fault-spec = tie.close (tie.spec (λ c κs. search needs) returns (λ c κs. search needs) returns-2)

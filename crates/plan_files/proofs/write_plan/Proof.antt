@@ -19,12 +19,6 @@ room c = sym (c .before .room-fault .ensures) ∙ c .if1 .left
 parts : (c : tie.Else1) → let a = c .before .before .before .before .args in (planFault (a .width) (a .disks) (a .lost) ≡ 0) × (longFault 263 (a .out .now) ≡ 0)
 parts c = let a = c .before .before .before .before .args in first-none (planFault (a .width) (a .disks) (a .lost)) (longFault 263 (a .out .now)) (room c)
 
-room-fault-requires : tie.Need-room-fault-requires
-room-fault-requires c κs = search needs
-
-unwritten-requires : tie.Need-unwritten-requires
-unwritten-requires c κs = search needs
-
 returns : tie.Need-returns
 returns c =
     let t = c .before in
@@ -37,12 +31,6 @@ mul-length-fault : tie.Need-mul-length-fault
 mul-length-fault c =
     let a = c .before .before .before .before .args in
     omega (arith, plan-small (a .width) (a .disks) (a .lost) (parts c .0))
-
-length-fault-requires : tie.Need-length-fault-requires
-length-fault-requires c κs = search needs
-
-unwritten-requires-2 : tie.Need-unwritten-requires-2
-unwritten-requires-2 c κs = search needs
 
 returns-2 : tie.Need-returns-2
 returns-2 c =
@@ -60,9 +48,6 @@ write-steps-requires c κs =
     let a = l .before .before .before .before .before .args in
     (parts (l .before) .0, long-of (3 * a .width) (a .plan .now) (sym (l .length-fault .ensures) ∙ e .if2 .left), long-of 263 (a .out .now) (parts (l .before) .1))
 
-same-length : tie.Need-same-length
-same-length c = search needs
-
 returns-3 : tie.Need-returns-3
 returns-3 c =
     let w = c .before .before in
@@ -76,13 +61,13 @@ pub write-plan-spec : {M : Type 1} → statement M
 write-plan-spec =
     tie.close
     (tie.spec
-    room-fault-requires
-    unwritten-requires
+    (λ c κs. search needs)
+    (λ c κs. search needs)
     returns
     mul-length-fault
-    length-fault-requires
-    unwritten-requires-2
+    (λ c κs. search needs)
+    (λ c κs. search needs)
     returns-2
     write-steps-requires
-    same-length
+    (λ c. search needs)
     returns-3)

@@ -15,9 +15,6 @@ judged c =
     let a = q .args in
     judges-steps 0 (a .width) (a .disks) (a .lost) (stepsIn (a .width) (a .plan .now)) (a .plan .now) (c .judge-plan .result) refl (q .pre .0) (q .pre .1) refl (c .judge-plan .ensures)
 
-judge-plan-requires : tie.Need-judge-plan-requires
-judge-plan-requires c κs = search needs
-
 returns : tie.Need-returns
 returns c =
     let j = c .before .before .before in
@@ -32,9 +29,6 @@ put-plain-requires c κs =
     let a = q .args in
     (q .pre .1, writable-steps (a .width) (a .disks) (a .lost) (stepsIn (a .width) (a .plan .now)) (q .pre .0) (steps-accepted (a .width) (a .disks) (a .lost) (a .plan .now) (j .judge-plan .result) (judged j) (e .if1 .left)), omega (arith, q .pre .2, plan-small (a .width) (a .disks) (a .lost) (q .pre .0)))
 
-same-length : tie.Need-same-length
-same-length c = search needs
-
 returns-2 : tie.Need-returns-2
 returns-2 c =
     let w = c .before .before in
@@ -45,4 +39,4 @@ returns-2 c =
 
 pub write-steps-spec : {M : Type 1} → statement M
 write-steps-spec =
-    tie.close (tie.spec judge-plan-requires returns put-plain-requires same-length returns-2)
+    tie.close (tie.spec (λ c κs. search needs) returns put-plain-requires (λ c. search needs) returns-2)

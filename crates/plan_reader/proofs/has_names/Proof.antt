@@ -12,16 +12,10 @@ returns c = names-short (c .before .before .args .text .now) (c .if1 .taken)
 slice-aggregate-same : tie.Need-slice-aggregate-same
 slice-aggregate-same c = sym (length-take-le 14 (c .before .before .before .args .text .now) (c .before .if1 .left))
 
-slice-aggregate-same-2 : tie.Need-slice-aggregate-same-2
-slice-aggregate-same-2 c = search needs
-
-same-requires : tie.Need-same-requires
-same-requires c κs = search needs
-
 returns-2 : tie.Need-returns-2
 returns-2 c = names-same (c .before .before .before .before .before .args .text .now) (c .same .result) (c .same .ensures .0) (c .same .ensures .1)
 
 pub has-names-spec : {M : Type 1} → statement M
 has-names-spec =
     tie.close
-    (tie.spec returns slice-aggregate-same slice-aggregate-same-2 same-requires returns-2)
+    (tie.spec returns slice-aggregate-same (λ c. search needs) (λ c κs. search needs) returns-2)

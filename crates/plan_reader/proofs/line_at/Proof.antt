@@ -8,9 +8,6 @@ use Rattle.plan_reader.proofs.LineLaws.{number-ends, line-is}
 use Rattle.plan_reader.proofs.line_at.Statement.{statement}
 use Rattle.plan_reader.proofs.line_at.Tie as tie
 
-number-at-requires : tie.Need-number-at-requires
-number-at-requires c κs = search needs
-
 add-number-at : tie.Need-add-number-at
 add-number-at c = omega (arith, number-ends (c .number-at .ensures))
 
@@ -22,18 +19,6 @@ end-at-requires c κs = omega (arith, number-ends (c .before .number-at .ensures
 
 is-set-requires : tie.Need-is-set-requires
 is-set-requires c κs = omega (arith, number-ends (c .before .before .number-at .ensures))
-
-all-there-requires : tie.Need-all-there-requires
-all-there-requires c κs = search needs
-
-add-byte-at : tie.Need-add-byte-at
-add-byte-at c = search needs
-
-byte-at-requires : tie.Need-byte-at-requires
-byte-at-requires c κs = search needs
-
-kind-of-requires : tie.Need-kind-of-requires
-kind-of-requires c κs = search needs
 
 add-t10 : tie.Need-add-t10
 add-t10 c =
@@ -59,14 +44,14 @@ pub line-at-spec : {M : Type 1} → statement M
 line-at-spec =
     tie.close
     (tie.spec
-    number-at-requires
+    (λ c κs. search needs)
     add-number-at
     number-at-requires-2
     end-at-requires
     is-set-requires
-    all-there-requires
-    add-byte-at
-    byte-at-requires
-    kind-of-requires
+    (λ c κs. search needs)
+    (λ c. search needs)
+    (λ c κs. search needs)
+    (λ c κs. search needs)
     add-t10
     returns)

@@ -31,9 +31,6 @@ loop-holds c = let a = c .before .args in halfway-start (a .width) (a .text .now
 line-at-requires : tie.Need-line-at-requires Inv-loop μ-loop
 line-at-requires c κs = omega (arith, halfway-place (c .before .loop .inv))
 
-unread-requires : tie.Need-unread-requires Inv-loop μ-loop
-unread-requires c κs = search needs
-
 returns : tie.Need-returns Inv-loop μ-loop
 returns c =
     let n = c .before .before .before in
@@ -43,41 +40,11 @@ returns c =
 cast-plan : tie.Need-cast-plan Inv-loop μ-loop
 cast-plan c = omega (arith, small (c .before) .row)
 
-mul-plan : tie.Need-mul-plan Inv-loop μ-loop
-mul-plan c = search needs
-
-array-write-plan : tie.Need-array-write-plan Inv-loop μ-loop
-array-write-plan c = search needs
-
 cast-plan-2 : tie.Need-cast-plan-2 Inv-loop μ-loop
 cast-plan-2 c = omega (arith, small (c .before .before) .kind)
 
-mul-plan-2 : tie.Need-mul-plan-2 Inv-loop μ-loop
-mul-plan-2 c = search needs
-
-add-plan : tie.Need-add-plan Inv-loop μ-loop
-add-plan c = search needs
-
-array-write-plan-2 : tie.Need-array-write-plan-2 Inv-loop μ-loop
-array-write-plan-2 c = search needs
-
 cast-plan-3 : tie.Need-cast-plan-3 Inv-loop μ-loop
 cast-plan-3 c = omega (arith, small (c .before .before .before) .number)
-
-mul-plan-3 : tie.Need-mul-plan-3 Inv-loop μ-loop
-mul-plan-3 c = search needs
-
-add-plan-2 : tie.Need-add-plan-2 Inv-loop μ-loop
-add-plan-2 c = search needs
-
-array-write-plan-3 : tie.Need-array-write-plan-3 Inv-loop μ-loop
-array-write-plan-3 c = search needs
-
-add-i : tie.Need-add-i Inv-loop μ-loop
-add-i c = search needs
-
-loop-less : tie.Need-loop-less Inv-loop μ-loop
-loop-less c = search needs
 
 loop-again : tie.Need-loop-again Inv-loop μ-loop
 loop-again c =
@@ -85,9 +52,6 @@ loop-again c =
     let n = e .before .before in
     let l = n .before in
     halfway-turn (l .before .loop .inv) (l .loop-test .taken) (omega arith) (n .line-at .ensures) (good e)
-
-unread-requires-2 : tie.Need-unread-requires-2 Inv-loop μ-loop
-unread-requires-2 c κs = search needs
 
 returns-2 : tie.Need-returns-2 Inv-loop μ-loop
 returns-2 c =
@@ -105,22 +69,22 @@ lines-at-spec =
     μ-loop
     loop-holds
     line-at-requires
-    unread-requires
+    (λ c κs. search needs)
     returns
     cast-plan
-    mul-plan
-    array-write-plan
+    (λ c. search needs)
+    (λ c. search needs)
     cast-plan-2
-    mul-plan-2
-    add-plan
-    array-write-plan-2
+    (λ c. search needs)
+    (λ c. search needs)
+    (λ c. search needs)
     cast-plan-3
-    mul-plan-3
-    add-plan-2
-    array-write-plan-3
-    add-i
-    loop-less
+    (λ c. search needs)
+    (λ c. search needs)
+    (λ c. search needs)
+    (λ c. search needs)
+    (λ c. search needs)
     loop-again
-    unread-requires-2
+    (λ c κs. search needs)
     returns-2
     returns-3)

@@ -11,23 +11,11 @@ use Rattle.plan_reader.proofs.LineLaws.{no-names, no-end, all-read}
 use Rattle.plan_reader.proofs.parse.Statement.{statement}
 use Rattle.plan_reader.proofs.parse.Tie as tie
 
-has-names-requires : tie.Need-has-names-requires
-has-names-requires c κs = search needs
-
-unread-requires : tie.Need-unread-requires
-unread-requires c κs = search needs
-
 returns : tie.Need-returns
 returns c =
     let n = c .before .before in
     let a = n .before .before .args in
     no-names (a .width) (a .text .now) (c .unread .result) (sym (n .has-names .ensures) ∙ not-true (n .has-names .result) (c .before .if1 .taken)) (c .unread .ensures .0) (c .unread .ensures .1)
-
-end-at-requires : tie.Need-end-at-requires
-end-at-requires c κs = search needs
-
-unread-requires-2 : tie.Need-unread-requires-2
-unread-requires-2 c κs = search needs
 
 returns-2 : tie.Need-returns-2
 returns-2 c =
@@ -57,11 +45,11 @@ pub parse-spec : {M : Type 1} → statement M
 parse-spec =
     tie.close
     (tie.spec
-    has-names-requires
-    unread-requires
+    (λ c κs. search needs)
+    (λ c κs. search needs)
     returns
-    end-at-requires
-    unread-requires-2
+    (λ c κs. search needs)
+    (λ c κs. search needs)
     returns-2
     add-lines-at
     lines-at-requires

@@ -12,12 +12,6 @@ use Rattle.plan_steps.proofs.all_bits.Tie as tie
 exact : (c : tie.Start) → 1 * 2 ^ c .args .width % 4294967296 ≡ 2 ^ c .args .width
 exact c = shl-exact 1 (c .args .width) 32 (lit< tt) (omega arith) ∙ one-mul _
 
-cast-result : tie.Need-cast-result
-cast-result c = search needs
-
-shl-result : tie.Need-shl-result
-shl-result c = search needs
-
 sub-result : tie.Need-sub-result
 sub-result c = omega (arith, exact c, pow-pos (c .args .width))
 
@@ -25,4 +19,4 @@ returns : tie.Need-returns
 returns c = ap (λ (x : ℕ). x - 1) (exact c)
 
 pub all-bits-spec : {M : Type 1} → statement M
-all-bits-spec = tie.close (tie.spec cast-result shl-result sub-result returns)
+all-bits-spec = tie.close (tie.spec (λ c. search needs) (λ c. search needs) sub-result returns)

@@ -13,9 +13,6 @@ all-routes-requires c κs = (width-most (c .before .args .width) (c .before .pre
 data-steps-requires : tie.Need-data-steps-requires
 data-steps-requires c κs = let t = c .before .before in (width-most (t .before .args .width) (t .before .pre .0), omega arith)
 
-accepted-plan-requires : tie.Need-accepted-plan-requires
-accepted-plan-requires c κs = search needs
-
 returns : tie.Need-returns
 returns c =
     let d = c .before in
@@ -26,9 +23,6 @@ returns c =
 
 all-steps-requires : tie.Need-all-steps-requires
 all-steps-requires c κs = width-most (c .before .before .args .width) (c .before .before .pre .0)
-
-accepted-plan-requires-2 : tie.Need-accepted-plan-requires-2
-accepted-plan-requires-2 c κs = search needs
 
 returns-2 : tie.Need-returns-2
 returns-2 c =
@@ -42,9 +36,6 @@ all-steps-requires-2 c κs = width-most (c .before .before .args .width) (c .bef
 
 all-bits-requires : tie.Need-all-bits-requires
 all-bits-requires c κs = let q = c .before .before .before in omega (arith, width-most (q .args .width) (q .pre .0))
-
-accepted-plan-requires-3 : tie.Need-accepted-plan-requires-3
-accepted-plan-requires-3 c κs = search needs
 
 returns-3 : tie.Need-returns-3
 returns-3 c =
@@ -61,12 +52,12 @@ our-plan-spec =
     (tie.spec
     all-routes-requires
     data-steps-requires
-    accepted-plan-requires
+    (λ c κs. search needs)
     returns
     all-steps-requires
-    accepted-plan-requires-2
+    (λ c κs. search needs)
     returns-2
     all-steps-requires-2
     all-bits-requires
-    accepted-plan-requires-3
+    (λ c κs. search needs)
     returns-3)

@@ -11,12 +11,6 @@ use Rattle.plan_steps.proofs.plan_steps.Tie as tie
 none : (c : tie.Else1) → let a = c .before .before .args in planFault (a .width) (a .disks) (a .lost) ≡ 0
 none c = sym (c .before .plan-fault .ensures) ∙ c .if1 .left
 
-plan-fault-requires : tie.Need-plan-fault-requires
-plan-fault-requires c κs = search needs
-
-refused-plan-requires : tie.Need-refused-plan-requires
-refused-plan-requires c κs = search needs
-
 returns : tie.Need-returns
 returns c = let t = c .before in let q = t .before in let a = q .before .args in refusal-says (a .width) (a .disks) (a .lost) (q .plan-fault .result) (c .refused-plan .result) (q .plan-fault .ensures) (t .if1 .taken) (c .refused-plan .ensures)
 
@@ -27,4 +21,4 @@ returns-2 : tie.Need-returns-2
 returns-2 c = let a = c .before .before .before .args in planned-says (a .width) (a .disks) (a .lost) (c .our-plan .result) (none (c .before)) (c .our-plan .ensures)
 
 pub plan-steps-spec : {M : Type 1} → statement M
-plan-steps-spec = tie.close (tie.spec plan-fault-requires refused-plan-requires returns our-plan-requires returns-2)
+plan-steps-spec = tie.close (tie.spec (λ c κs. search needs) (λ c κs. search needs) returns our-plan-requires returns-2)

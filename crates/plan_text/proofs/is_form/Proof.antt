@@ -20,20 +20,8 @@ returns-2 c =
     let k = c .before .before .before in
     sym (no-form-second (k .args .text .now) (omega (arith, k .pre .1, c .if2 .taken)))
 
-slice-aggregate-put-input : tie.Need-slice-aggregate-put-input
-slice-aggregate-put-input c = search needs
-
-put-input-requires : tie.Need-put-input-requires
-put-input-requires c κs = search needs
-
-array-share-prefix-expected : tie.Need-array-share-prefix-expected
-array-share-prefix-expected c = search needs
-
 slice-aggregate-same : tie.Need-slice-aggregate-same
 slice-aggregate-same c = let k = c .before .before .put-input in sym (length-take-le (k .result) (k .last .0) (omega (arith, k .ensures .fits, wrote-long (k .ensures))))
-
-same-requires : tie.Need-same-requires
-same-requires c κs = search needs
 
 returns-3 : tie.Need-returns-3
 returns-3 c =
@@ -48,9 +36,9 @@ is-form-spec =
     (tie.spec
     returns
     returns-2
-    slice-aggregate-put-input
-    put-input-requires
-    array-share-prefix-expected
+    (λ c. search needs)
+    (λ c κs. search needs)
+    (λ c. search needs)
     slice-aggregate-same
-    same-requires
+    (λ c κs. search needs)
     returns-3)

@@ -15,26 +15,8 @@ use Rattle.plan_text.proofs.plan_text.Statement.{statement}
 formed : (c : tie.Else1) → isForm (c .before .before .before .before .before .args .input .now) ≡ true
 formed c = sym (c .before .is-form .ensures) ∙ not-false (c .before .is-form .result) (c .if1 .left)
 
-first-value-requires : tie.Need-first-value-requires
-first-value-requires c κs = search needs
-
-second-value-requires : tie.Need-second-value-requires
-second-value-requires c κs = search needs
-
-is-form-requires : tie.Need-is-form-requires
-is-form-requires c κs = search needs
-
-refusal-text-requires : tie.Need-refusal-text-requires
-refusal-text-requires c κs = search needs
-
 returns : tie.Need-returns
 returns c = says-no-form (c .before .before .before .before .before .before .args .input .now) (sym (c .before .before .is-form .ensures) ∙ not-true (c .before .before .is-form .result) (c .before .if1 .taken)) (c .refusal-text .ensures)
-
-plan-disk-requires : tie.Need-plan-disk-requires
-plan-disk-requires c κs = search needs
-
-cast-refusal-text : tie.Need-cast-refusal-text
-cast-refusal-text c = search needs
 
 refusal-text-requires-2 : tie.Need-refusal-text-requires-2
 refusal-text-requires-2 c κs =
@@ -77,13 +59,13 @@ pub plan-text-spec : {M : Type 1} → statement M
 plan-text-spec =
     tie.close
     (tie.spec
-    first-value-requires
-    second-value-requires
-    is-form-requires
-    refusal-text-requires
+    (λ c κs. search needs)
+    (λ c κs. search needs)
+    (λ c κs. search needs)
+    (λ c κs. search needs)
     returns
-    plan-disk-requires
-    cast-refusal-text
+    (λ c κs. search needs)
+    (λ c. search needs)
     refusal-text-requires-2
     returns-2
     steps-text-requires

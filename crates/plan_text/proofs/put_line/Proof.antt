@@ -7,9 +7,6 @@ use Rattle.plan_text.proofs.TextLaws.{line-fields}
 use Rattle.plan_text.proofs.put_line.Tie as tie
 use Rattle.plan_text.proofs.put_line.Statement.{statement}
 
-put-field-requires : tie.Need-put-field-requires
-put-field-requires c κs = search needs
-
 put-step-requires : tie.Need-put-step-requires
 put-step-requires c κs = let a = c .before .before .before in omega (arith, a .put-field .ensures .ends, field-most (a .before .before .before .args .index) 44)
 
@@ -19,9 +16,6 @@ put-field-requires-2 c κs =
     let a = b .before .before .before .before in
     let x = a .before .before .before .args in
     omega (arith, a .put-field .ensures .ends, b .put-step .ensures .ends, field-most (x .index) 44, step-most (x .row) (x .kind) (x .number) 44)
-
-same-length : tie.Need-same-length
-same-length c = search needs
 
 returns : tie.Need-returns
 returns c =
@@ -35,8 +29,8 @@ pub put-line-spec : {M : Type 1} → statement M
 put-line-spec =
     tie.close
     (tie.spec
-    put-field-requires
+    (λ c κs. search needs)
     put-step-requires
     put-field-requires-2
-    same-length
+    (λ c. search needs)
     returns)

@@ -22,20 +22,11 @@ cells c =
 all-marks : (c : tie.After-no-marks) → length (c .no-marks .result) ≡ 1023
 all-marks c = ap (λ (x : List ℕ). length x) (c .no-marks .ensures) ∙ length-marks 1023 0 []
 
-slice-aggregate-put : tie.Need-slice-aggregate-put
-slice-aggregate-put c = search needs
-
-put-requires : tie.Need-put-requires
-put-requires c κs = search needs
-
 add-n : tie.Need-add-n
 add-n c = omega (arith, cells (c .before .before .before .before .before .before))
 
 mul-n : tie.Need-mul-n
 mul-n c = omega (arith, cells (c .before .before .before .before .before .before))
-
-no-marks-requires : tie.Need-no-marks-requires
-no-marks-requires c κs = search needs
 
 array-borrow-prefix-marks : tie.Need-array-borrow-prefix-marks
 array-borrow-prefix-marks c = omega (arith, cells (c .before .before .before .before .before .before .before .before), all-marks (c .before))
@@ -55,9 +46,6 @@ put-steps-requires c κs =
       omega (arith, cells q .0, w .ends, wrote-long w, q .pre .3),
     )
 
-same-length : tie.Need-same-length
-same-length c = search needs
-
 returns : tie.Need-returns
 unfolding planText
 returns c = wrote-more (c .before .before .before .before .before .before .before .before .before .put .ensures) (c .before .before .before .put-steps .ensures)
@@ -66,13 +54,13 @@ pub put-plan-spec : {M : Type 1} → statement M
 put-plan-spec =
     tie.close
     (tie.spec
-    slice-aggregate-put
-    put-requires
+    (λ c. search needs)
+    (λ c κs. search needs)
     add-n
     mul-n
-    no-marks-requires
+    (λ c κs. search needs)
     array-borrow-prefix-marks
     slice-aggregate-put-steps
     put-steps-requires
-    same-length
+    (λ c. search needs)
     returns)

@@ -45,14 +45,8 @@ loop-holds c =
 array-read-kind : tie.Need-array-read-kind Inv-loop μ-loop
 array-read-kind c = omega (arith, small c)
 
-cast-kind : tie.Need-cast-kind Inv-loop μ-loop
-cast-kind c = search needs
-
 array-read-number : tie.Need-array-read-number Inv-loop μ-loop
 array-read-number c = omega (arith, small c)
-
-cast-number : tie.Need-cast-number Inv-loop μ-loop
-cast-number c = search needs
 
 mark-set-requires : tie.Need-mark-set-requires Inv-loop μ-loop
 mark-set-requires c κs = (record { widest = small (c .before); disks = omega arith; numbered = omega (arith, this (c .before) .number, this (c .before) .number-below) }, marked (c .before .before) .0)
@@ -62,9 +56,6 @@ array-read-put-line c = omega (arith, small (c .before .before .before .before .
 
 cast-put-line : tie.Need-cast-put-line Inv-loop μ-loop
 cast-put-line c = let t = c .before .before .before .before .before in omega (arith, this t .row, this t .row-below, small t)
-
-cast-put-line-2 : tie.Need-cast-put-line-2 Inv-loop μ-loop
-cast-put-line-2 c = search needs
 
 put-line-requires : tie.Need-put-line-requires Inv-loop μ-loop
 put-line-requires c κs =
@@ -78,12 +69,6 @@ put-line-requires c κs =
       omega (arith, small t, marked-few (q .args .width) (q .args .width) (q .args .disk) (getD (q .args .steps .kinds) (l .i) 0) (getD (q .args .steps .numbers) (l .i) 0) (m .ensures)),
       omega (arith, l .inv .wrote .ends, l .inv .few, wrote-long (l .inv .wrote), q .pre .4),
     )
-
-add-i : tie.Need-add-i Inv-loop μ-loop
-add-i c = search needs
-
-loop-less : tie.Need-loop-less Inv-loop μ-loop
-loop-less c = search needs
 
 loop-again : tie.Need-loop-again Inv-loop μ-loop
 loop-again c =
@@ -115,16 +100,16 @@ put-steps-spec =
     μ-loop
     loop-holds
     array-read-kind
-    cast-kind
+    (λ c. search needs)
     array-read-number
-    cast-number
+    (λ c. search needs)
     mark-set-requires
     array-read-put-line
     cast-put-line
-    cast-put-line-2
+    (λ c. search needs)
     put-line-requires
-    add-i
-    loop-less
+    (λ c. search needs)
+    (λ c. search needs)
     loop-again
     same-length
     same-length-2

@@ -30,9 +30,6 @@ add-n c = omega (arith, cells c)
 mul-n : tie.Need-mul-n
 mul-n c = omega (arith, cells c)
 
-no-marks-requires : tie.Need-no-marks-requires
-no-marks-requires c κs = search needs
-
 array-borrow-prefix-marks : tie.Need-array-borrow-prefix-marks
 array-borrow-prefix-marks c = omega (arith, cells (c .before), all-marks c)
 
@@ -59,7 +56,7 @@ finished-spec =
     (tie.spec
     add-n
     mul-n
-    no-marks-requires
+    (λ c κs. search needs)
     array-borrow-prefix-marks
     slice-aggregate-mark-steps
     mark-steps-requires

@@ -52,14 +52,8 @@ loop-holds c = (reading-start _ _ _ _ _ (c .before .before .before .pre .4), ref
 array-read-kind : tie.Need-array-read-kind Inv-loop μ-loop
 array-read-kind c = omega (arith, small c)
 
-cast-kind : tie.Need-cast-kind Inv-loop μ-loop
-cast-kind c = search needs
-
 array-read-number : tie.Need-array-read-number Inv-loop μ-loop
 array-read-number c = omega (arith, small c)
-
-cast-number : tie.Need-cast-number Inv-loop μ-loop
-cast-number c = search needs
 
 mark-set-requires : tie.Need-mark-set-requires Inv-loop μ-loop
 mark-set-requires c κs =
@@ -79,17 +73,8 @@ add-reads c =
     let m : (a .disks + 2) * (c .before .before .before .before .before .loop .i + 1) ≤ 33 * 31 = mul-le-mul h i in
     omega (arith, k .few)
 
-add-i : tie.Need-add-i Inv-loop μ-loop
-add-i c = search needs
-
-loop-less : tie.Need-loop-less Inv-loop μ-loop
-loop-less c = search needs
-
 loop-again : tie.Need-loop-again Inv-loop μ-loop
 loop-again c = (turned c, c .before .before .mark-set .kept .1 .1 .1 .1 .1 .0 ∙ c .before .before .before .before .before .loop .inv .1)
-
-same-length : tie.Need-same-length Inv-loop μ-loop
-same-length c = search needs
 
 returns : tie.Need-returns Inv-loop μ-loop
 returns c =
@@ -105,13 +90,13 @@ mark-steps-spec =
     μ-loop
     loop-holds
     array-read-kind
-    cast-kind
+    (λ c. search needs)
     array-read-number
-    cast-number
+    (λ c. search needs)
     mark-set-requires
     add-reads
-    add-i
-    loop-less
+    (λ c. search needs)
+    (λ c. search needs)
     loop-again
-    same-length
+    (λ c. search needs)
     returns)

@@ -11,17 +11,8 @@ use Rattle.planner.proofs.plan_disk.Tie as tie
 none : (c : tie.Else1) → let a = c .before .before .args in planFault (a .width) (a .disks) (a .lost) ≡ 0
 none c = sym (c .before .plan-fault .ensures) ∙ c .if1 .left
 
-plan-fault-requires : tie.Need-plan-fault-requires
-plan-fault-requires c κs = search needs
-
-no-steps-requires : tie.Need-no-steps-requires
-no-steps-requires c κs = search needs
-
 returns : tie.Need-returns
 returns c = let n = c .before in let t = n .before in let q = t .before in let a = q .before .args in plan-refused (a .width) (a .disks) (a .lost) (q .plan-fault .result) _ (q .plan-fault .ensures) (t .if1 .taken) (c .answered .ensures) (n .no-steps .ensures) refl refl
-
-answered-requires : tie.Need-answered-requires
-answered-requires c κs = search needs
 
 our-plan-requires : tie.Need-our-plan-requires
 our-plan-requires c κs = let a = c .before .before .args in let w = plan-of (a .width) (a .disks) (a .lost) (none c) in (w .0, w .3, w .1)
@@ -29,8 +20,5 @@ our-plan-requires c κs = let a = c .before .before .args in let w = plan-of (a 
 finished-requires : tie.Need-finished-requires
 finished-requires c κs = (none (c .before), c .our-plan .ensures)
 
-returns-2 : tie.Need-returns-2
-returns-2 c = search needs
-
 pub plan-disk-spec : {M : Type 1} → statement M
-plan-disk-spec = tie.close (tie.spec plan-fault-requires no-steps-requires answered-requires returns our-plan-requires finished-requires returns-2)
+plan-disk-spec = tie.close (tie.spec (λ c κs. search needs) (λ c κs. search needs) (λ c κs. search needs) returns our-plan-requires finished-requires (λ c. search needs))

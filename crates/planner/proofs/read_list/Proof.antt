@@ -20,12 +20,6 @@ none c = sym (c .before .plan-fault .ensures) ∙ c .if1 .left
 wide : (c : tie.Else1) → let a = c .before .before .before .args in (isWidth (a .width) ≡ true) × (a .lost ≤ a .disks + 1) × (2 ≤ a .disks) × (a .disks ≤ a .width)
 wide c = let a = c .before .before .before .args in plan-of (a .width) (a .disks) (a .lost) (none c)
 
-plan-fault-requires : tie.Need-plan-fault-requires
-plan-fault-requires c κs = search needs
-
-answered-requires : tie.Need-answered-requires
-answered-requires c κs = search needs
-
 returns : tie.Need-returns
 returns c =
     let t = c .before in
@@ -40,17 +34,11 @@ add-if2 c = omega (arith, width-most (c .before .before .before .args .width) (w
 mul-if2 : tie.Need-mul-if2
 mul-if2 c = let a = c .before .before .before .args in omega (arith, cells-most (a .width) (a .disks) (width-most (a .width) (wide c .0)) (wide c .3))
 
-answered-requires-2 : tie.Need-answered-requires-2
-answered-requires-2 c κs = search needs
-
 returns-2 : tie.Need-returns-2
 returns-2 c =
     let t = c .before in
     let a = t .before .before .before .before .args in
     list-refused (a .width) (a .disks) (a .lost) 5 (a .list .now) (c .answered2 .result) (list-long (a .width) (a .disks) (a .lost) (a .list .now) (none (t .before)) (t .if2 .taken)) (λ e. omega arith) (c .answered2 .ensures)
-
-clear-requires : tie.Need-clear-requires
-clear-requires c κs = search needs
 
 our-plan-requires : tie.Need-our-plan-requires
 our-plan-requires c κs = let w = wide (c .before .before .before .before .before) in (w .0, w .3, w .1)
@@ -63,12 +51,6 @@ mark-steps-requires c κs =
     let w = wide (e .before) in
     (w .0, w .3, w .1, o .our-plan .ensures .steps, k .clear .ensures ∙ ap (λ (n : ℕ). replicate n 0) (e .if2 .left) ∙ no-cells _ 0)
 
-answered-requires-3 : tie.Need-answered-requires-3
-answered-requires-3 c κs = search needs
-
-same-length : tie.Need-same-length
-same-length c = search needs
-
 returns-3 : tie.Need-returns-3
 returns-3 c =
     let m = c .before .before .before in
@@ -80,16 +62,16 @@ pub read-list-spec : {M : Type 1} → statement M
 read-list-spec =
     tie.close
     (tie.spec
-    plan-fault-requires
-    answered-requires
+    (λ c κs. search needs)
+    (λ c κs. search needs)
     returns
     add-if2
     mul-if2
-    answered-requires-2
+    (λ c κs. search needs)
     returns-2
-    clear-requires
+    (λ c κs. search needs)
     our-plan-requires
     mark-steps-requires
-    answered-requires-3
-    same-length
+    (λ c κs. search needs)
+    (λ c. search needs)
     returns-3)

@@ -9,9 +9,6 @@ use Rattle.stripes.proofs.StripeRefusals.{numbers-most}
 use Rattle.rebuild_one.proofs.one_fault.Statement.{statement}
 use Rattle.rebuild_one.proofs.one_fault.Tie as tie
 
-numbers-fault-requires : tie.Need-numbers-fault-requires
-numbers-fault-requires c κs = search needs
-
 -- past refusals 1, 13, 2 and 3
 fine : (c : tie.Else1) → let a = c .before .before .args in numbersFault (a .width) (a .disks) (a .size) (a .disk) ≡ 0
 fine c = sym (c .before .numbers-fault .ensures) ∙ c .if1 .left
@@ -35,9 +32,6 @@ mul-length-fault c = omega (arith, most c)
 mul-length-fault-2 : tie.Need-mul-length-fault-2
 mul-length-fault-2 c = omega (arith, most c)
 
-length-fault-requires : tie.Need-length-fault-requires
-length-fault-requires c κs = search needs
-
 returns-2 : tie.Need-returns-2
 returns-2 c =
     let k = c .before in
@@ -48,9 +42,6 @@ returns-2 c =
 mul-length-fault-3 : tie.Need-mul-length-fault-3
 mul-length-fault-3 c = omega (arith, most (c .before .before))
 
-length-fault-requires-2 : tie.Need-length-fault-requires-2
-length-fault-requires-2 c κs = search needs
-
 returns-3 : tie.Need-returns-3
 returns-3 c =
     let i = c .before in
@@ -60,4 +51,4 @@ returns-3 c =
     first-next _ (numbersFault (a .width) (a .disks) (a .size) (a .disk)) _ (fine e) (first-next _ _ _ (sym (k .length-fault .ensures) ∙ i .if2 .left) (c .length-fault2 .ensures))
 
 pub one-fault-spec : {M : Type 1} → statement M
-one-fault-spec = tie.close (tie.spec numbers-fault-requires returns add-length-fault mul-length-fault mul-length-fault-2 length-fault-requires returns-2 mul-length-fault-3 length-fault-requires-2 returns-3)
+one-fault-spec = tie.close (tie.spec (λ c κs. search needs) returns add-length-fault mul-length-fault mul-length-fault-2 (λ c κs. search needs) returns-2 mul-length-fault-3 (λ c κs. search needs) returns-3)

@@ -16,9 +16,6 @@ use Rattle.rebuild_one.proofs.rebuild_column.Tie as tie
 fit : (c : tie.Start) → let a = c .args in Fit (a .width) (a .disks) (a .size) (a .disk) (length (a .stripe .now)) (length (a .column .now))
 fit c = let a = c .args in fault-none (a .width) (a .disks) (a .size) (a .disk) (length (a .stripe .now)) (length (a .column .now)) (c .pre)
 
-plan-steps-requires : tie.Need-plan-steps-requires
-plan-steps-requires c κs = search needs
-
 follow-requires : tie.Need-follow-requires
 follow-requires c κs =
     let d = c .before .before in
@@ -30,11 +27,5 @@ follow-requires c κs =
     let planned = sym (pick-done (planFault (a .width) (a .disks) (a .disk)) ours [] none) in
     ((record { width = q .width; disks = q .disks; disk = q .disk; held = subst (λ (ss : List Step). Holds ss (d .plan-steps .result .steps)) planned (d .plan-steps .ensures .steps) }, q .small), (q .stripe, q .column))
 
-same-length : tie.Need-same-length
-same-length c = search needs
-
-returns : tie.Need-returns
-returns c = search needs
-
 pub rebuild-column-spec : {M : Type 1} → statement M
-rebuild-column-spec = tie.close (tie.spec plan-steps-requires follow-requires same-length returns)
+rebuild-column-spec = tie.close (tie.spec (λ c κs. search needs) follow-requires (λ c. search needs) (λ c. search needs))

@@ -17,12 +17,6 @@ passed c = sym (c .before .one-fault .ensures) ∙ c .if1 .left
 bytes : (c : tie.After-shared-slice-known) → allBytes (c .before .args .stripe .now) ≡ true
 bytes c = bytes-all (c .before .args .stripe .now) (c .shared-slice-known .given)
 
-one-fault-requires : tie.Need-one-fault-requires
-one-fault-requires c κs = search needs
-
-answered-requires : tie.Need-answered-requires
-answered-requires c κs = search needs
-
 returns : tie.Need-returns
 returns c =
     let i = c .before in
@@ -33,12 +27,6 @@ returns c =
 rebuild-column-requires : tie.Need-rebuild-column-requires
 rebuild-column-requires c κs = passed (c .before)
 
-answered-requires-2 : tie.Need-answered-requires-2
-answered-requires-2 c κs = search needs
-
-same-length : tie.Need-same-length
-same-length c = search needs
-
 returns-2 : tie.Need-returns-2
 returns-2 c =
     let g = c .before .before .before in
@@ -47,4 +35,4 @@ returns-2 c =
     accepted (a .shape .width) (a .shape .disks) (a .shape .«cell_size») (a .lost) (a .stripe .now) (a .column .now) (g .rebuild-column .last .1 .1 .1 .1 .1 .0) (c .answered2 .result) (passed i) (g .rebuild-column .ensures) (c .answered2 .ensures) (bytes (i .before .before .before))
 
 pub rebuild-one-spec : {M : Type 1} → statement M
-rebuild-one-spec = tie.close (tie.spec one-fault-requires answered-requires returns rebuild-column-requires answered-requires-2 same-length returns-2)
+rebuild-one-spec = tie.close (tie.spec (λ c κs. search needs) (λ c κs. search needs) returns rebuild-column-requires (λ c κs. search needs) (λ c. search needs) returns-2)

@@ -44,20 +44,11 @@ loop-holds c = stepping-start _ _ _ _ _ _ (c .before .before .before .before .be
 array-read-row : tie.Need-array-read-row Inv-loop μ-loop
 array-read-row c = omega (arith, small c)
 
-cast-row : tie.Need-cast-row Inv-loop μ-loop
-cast-row c = search needs
-
 array-read-kind : tie.Need-array-read-kind Inv-loop μ-loop
 array-read-kind c = omega (arith, small c)
 
-cast-kind : tie.Need-cast-kind Inv-loop μ-loop
-cast-kind c = search needs
-
 array-read-number : tie.Need-array-read-number Inv-loop μ-loop
 array-read-number c = omega (arith, small c)
-
-cast-number : tie.Need-cast-number Inv-loop μ-loop
-cast-number c = search needs
 
 rebuild-cell-requires : tie.Need-rebuild-cell-requires Inv-loop μ-loop
 rebuild-cell-requires c κs =
@@ -77,12 +68,6 @@ rebuild-cell-requires c κs =
       stripe = z .pre .1 .0;
       column = t .before .loop .inv .long;
     }
-
-add-i : tie.Need-add-i Inv-loop μ-loop
-add-i c = search needs
-
-loop-less : tie.Need-loop-less Inv-loop μ-loop
-loop-less c = search needs
 
 loop-again : tie.Need-loop-again Inv-loop μ-loop
 loop-again c =
@@ -112,14 +97,14 @@ follow-spec =
     μ-loop
     loop-holds
     array-read-row
-    cast-row
+    (λ c. search needs)
     array-read-kind
-    cast-kind
+    (λ c. search needs)
     array-read-number
-    cast-number
+    (λ c. search needs)
     rebuild-cell-requires
-    add-i
-    loop-less
+    (λ c. search needs)
+    (λ c. search needs)
     loop-again
     same-length
     returns)

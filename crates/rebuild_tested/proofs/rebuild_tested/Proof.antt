@@ -17,12 +17,6 @@ passed c = sym (c .before .tested-fault .ensures) ∙ c .if1 .left
 bytes : (c : tie.After-shared-slice-known) → allBytes (c .before .args .stripe .now) ≡ true
 bytes c = bytes-all (c .before .args .stripe .now) (c .shared-slice-known .given)
 
-tested-fault-requires : tie.Need-tested-fault-requires
-tested-fault-requires c κs = search needs
-
-answered-requires : tie.Need-answered-requires
-answered-requires c κs = search needs
-
 returns : tie.Need-returns
 returns c =
     let i = c .before in
@@ -36,12 +30,6 @@ tested-column-requires c κs =
     let a = i .before .before .before .before .args in
     tested (a .shape .width) (a .shape .disks) (a .shape .«cell_size») (a .lost) (a .stripe .now) (a .column .now) (passed i)
 
-answered-requires-2 : tie.Need-answered-requires-2
-answered-requires-2 c κs = search needs
-
-same-length : tie.Need-same-length
-same-length c = search needs
-
 returns-2 : tie.Need-returns-2
 returns-2 c =
     let g = c .before .before .before in
@@ -50,4 +38,4 @@ returns-2 c =
     accepted (a .shape .width) (a .shape .disks) (a .shape .«cell_size») (a .lost) (a .stripe .now) (a .column .now) (g .tested-column .last .1 .1 .1 .1 .1 .0) (c .answered2 .result) (passed i) (g .tested-column .ensures) (c .answered2 .ensures) (bytes (i .before .before .before))
 
 pub rebuild-tested-spec : {M : Type 1} → statement M
-rebuild-tested-spec = tie.close (tie.spec tested-fault-requires answered-requires returns tested-column-requires answered-requires-2 same-length returns-2)
+rebuild-tested-spec = tie.close (tie.spec (λ c κs. search needs) (λ c κs. search needs) returns tested-column-requires (λ c κs. search needs) (λ c. search needs) returns-2)

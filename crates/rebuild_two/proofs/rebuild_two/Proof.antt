@@ -17,12 +17,6 @@ passed c = sym (c .before .two-fault .ensures) ∙ c .if1 .left
 bytes : (c : tie.After-slice-known) → allBytes (c .before .args .stripe .now) ≡ true
 bytes c = bytes-all (c .before .args .stripe .now) (c .slice-known .given)
 
-two-fault-requires : tie.Need-two-fault-requires
-two-fault-requires c κs = search needs
-
-answered-requires : tie.Need-answered-requires
-answered-requires c κs = search needs
-
 returns : tie.Need-returns
 returns c =
     let i = c .before in
@@ -37,12 +31,6 @@ solve-pair-requires c κs =
     let q = fault-none (a .shape .width) (a .shape .disks) (a .shape .«cell_size») (a .first) (a .second) (a .stripe .now) (passed i) in
     (q .sized, (q .width, q .first, q .second, q .apart))
 
-answered-requires-2 : tie.Need-answered-requires-2
-answered-requires-2 c κs = search needs
-
-same-length : tie.Need-same-length
-same-length c = search needs
-
 returns-2 : tie.Need-returns-2
 returns-2 c =
     let w = c .before .before .before in
@@ -54,10 +42,10 @@ pub rebuild-two-spec : {M : Type 1} → statement M
 rebuild-two-spec =
     tie.close
     (tie.spec
-    two-fault-requires
-    answered-requires
+    (λ c κs. search needs)
+    (λ c κs. search needs)
     returns
     solve-pair-requires
-    answered-requires-2
-    same-length
+    (λ c κs. search needs)
+    (λ c. search needs)
     returns-2)

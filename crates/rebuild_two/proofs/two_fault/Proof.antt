@@ -14,9 +14,6 @@ use Rattle.stripes.proofs.StripeRefusals.{numbers-most}
 use Rattle.rebuild_two.proofs.two_fault.Statement.{statement}
 use Rattle.rebuild_two.proofs.two_fault.Tie as tie
 
-numbers-fault-requires : tie.Need-numbers-fault-requires
-numbers-fault-requires c κs = search needs
-
 -- past the first refusals
 fine : (c : tie.Else1) → let a = c .before .before .args in numbersFault (a .width) (a .disks) (a .size) (a .first) ≡ 0
 fine c = sym (c .before .numbers-fault .ensures) ∙ c .if1 .left
@@ -30,9 +27,6 @@ returns c =
     let f = c .before .numbers-fault in
     let a = c .before .before .args in
     first-kept (f .result) (numbersFault (a .width) (a .disks) (a .size) (a .first)) _ (f .ensures) (c .if1 .taken)
-
-disk-fault-requires : tie.Need-disk-fault-requires
-disk-fault-requires c κs = search needs
 
 returns-2 : tie.Need-returns-2
 returns-2 c =
@@ -64,9 +58,6 @@ mul-length-fault c = omega (arith, most (c .before .before .before))
 mul-length-fault-2 : tie.Need-mul-length-fault-2
 mul-length-fault-2 c = omega (arith, most (c .before .before .before))
 
-length-fault-requires : tie.Need-length-fault-requires
-length-fault-requires c κs = search needs
-
 returns-4 : tie.Need-returns-4
 returns-4 c =
     let t = c .before in
@@ -78,13 +69,13 @@ pub two-fault-spec : {M : Type 1} → statement M
 two-fault-spec =
     tie.close
     (tie.spec
-    numbers-fault-requires
+    (λ c κs. search needs)
     returns
-    disk-fault-requires
+    (λ c κs. search needs)
     returns-2
     returns-3
     add-length-fault
     mul-length-fault
     mul-length-fault-2
-    length-fault-requires
+    (λ c κs. search needs)
     returns-4)

@@ -6,17 +6,11 @@ use Rattle.liberation.specs.Sets.{disksFault}
 use Rattle.refusals.proofs.array_fault.Statement.{statement}
 use Rattle.refusals.proofs.array_fault.Tie as tie
 
-width-fault-requires : tie.Need-width-fault-requires
-width-fault-requires c κs = search needs
-
 returns : tie.Need-returns
 returns c = let q = c .before in let a = q .before .args in first-kept _ _ (disksFault (a .width) (a .disks)) (q .width-fault .ensures) (c .if1 .taken)
-
-disks-fault-requires : tie.Need-disks-fault-requires
-disks-fault-requires c κs = search needs
 
 returns-2 : tie.Need-returns-2
 returns-2 c = let q = c .before .before in let a = q .before .args in first-next _ _ (disksFault (a .width) (a .disks)) (sym (q .width-fault .ensures) ∙ c .before .if1 .left) (c .disks-fault .ensures)
 
 pub array-fault-spec : {M : Type 1} → statement M
-array-fault-spec = tie.close (tie.spec width-fault-requires returns disks-fault-requires returns-2)
+array-fault-spec = tie.close (tie.spec (λ c κs. search needs) returns (λ c κs. search needs) returns-2)

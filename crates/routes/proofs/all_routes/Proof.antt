@@ -13,12 +13,6 @@ Inv-loop width disk half routes₀ word₀ row₀ routes word row = (half ≡ (w
 abbrev μ-loop : tie.MeasureT-loop
 μ-loop width disk half routes₀ word₀ row₀ routes word row = width - row
 
-sub-half : tie.Need-sub-half Inv-loop μ-loop
-sub-half c = search needs
-
-first-routes-requires : tie.Need-first-routes-requires Inv-loop μ-loop
-first-routes-requires c κs = search needs
-
 loop-holds : tie.Need-loop-holds Inv-loop μ-loop
 loop-holds c = let a = c .before .before .args in (refl, under-start (a .width) (a .disk) _ _ (c .before .first-routes .ensures))
 
@@ -27,15 +21,6 @@ cast-if1 c = omega (arith, ones-few _ _ _ _ _ (c .before .loop .inv .1))
 
 returns : tie.Need-returns Inv-loop μ-loop
 returns c = let a = c .before .before .before .before .before .args in let l = c .before .before .loop in under-stop (a .width) (a .disk) (l .row) ((a .width - 1) / 2) (l .routes) (l .word) refl (c .if1 .taken) (l .inv .1)
-
-turn-requires : tie.Need-turn-requires Inv-loop μ-loop
-turn-requires c κs = search needs
-
-add-row : tie.Need-add-row Inv-loop μ-loop
-add-row c = search needs
-
-loop-less : tie.Need-loop-less Inv-loop μ-loop
-loop-less c = search needs
 
 loop-again : tie.Need-loop-again Inv-loop μ-loop
 loop-again c =
@@ -53,13 +38,13 @@ all-routes-spec =
     (tie.spec
     Inv-loop
     μ-loop
-    sub-half
-    first-routes-requires
+    (λ c. search needs)
+    (λ c κs. search needs)
     loop-holds
     cast-if1
     returns
-    turn-requires
-    add-row
-    loop-less
+    (λ c κs. search needs)
+    (λ c. search needs)
+    (λ c. search needs)
     loop-again
     returns-2)

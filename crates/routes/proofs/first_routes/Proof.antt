@@ -7,23 +7,11 @@ use borrow.Author.Needs.{needs}
 use Rattle.routes.proofs.first_routes.Statement.{statement}
 use Rattle.routes.proofs.first_routes.Tie as tie
 
-array-write-routes : tie.Need-array-write-routes
-array-write-routes c = search needs
-
-with-bit-requires : tie.Need-with-bit-requires
-with-bit-requires c κs = search needs
-
 returns : tie.Need-returns
 returns c = let a = c .before .before .args in first-are (a .width) (a .disk) (c .before .with-bit .result) (c .before .before .pre .0) (c .before .before .pre .1) (c .if1 .taken) (c .before .with-bit .ensures)
 
-add-second : tie.Need-add-second
-add-second c = search needs
-
 mul-second : tie.Need-mul-second
 mul-second c = let a = c .before .before .args in let h : (a .width + 1) / 2 ≤ 16 = omega arith in let d : a .disk ≤ 31 = omega arith in omega (arith, mul-le-mul d h)
-
-rem-second : tie.Need-rem-second
-rem-second c = search needs
 
 array-write-routes-2 : tie.Need-array-write-routes-2
 array-write-routes-2 c = let a = c .before .before .args in omega (arith, mod-lt (a .disk * ((a .width + 1) / 2)) {m = a .width} (omega arith))
@@ -38,12 +26,12 @@ pub first-routes-spec : {M : Type 1} → statement M
 first-routes-spec =
     tie.close
     (tie.spec
-    array-write-routes
-    with-bit-requires
+    (λ c. search needs)
+    (λ c κs. search needs)
     returns
-    add-second
+    (λ c. search needs)
     mul-second
-    rem-second
+    (λ c. search needs)
     array-write-routes-2
     with-bit-requires-2
     returns-2)

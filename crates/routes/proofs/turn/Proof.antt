@@ -4,12 +4,6 @@ use borrow.Author.Needs.{needs}
 use Rattle.routes.proofs.turn.Statement.{statement}
 use Rattle.routes.proofs.turn.Tie as tie
 
-element-copy-out-if1 : tie.Need-element-copy-out-if1
-element-copy-out-if1 c = search needs
-
-decide-requires : tie.Need-decide-requires
-decide-requires c κs = search needs
-
 returns : tie.Need-returns
 returns c = let t = c .before .before in let s = t .before .before in let a = s .args in turn-decides (a .width) (a .disk) (a .row) (a .routes .now) _ (c .decide .result) (s .pre .2) (t .if1 .taken) (c .decide .ensures)
 
@@ -17,4 +11,4 @@ returns-2 : tie.Need-returns-2
 returns-2 c = let s = c .before .before in let a = s .args in turn-skips (a .width) (a .disk) (a .row) (a .routes .now) (a .word) (s .pre .2) (s .pre .3) (s .pre .4) (c .if1 .left)
 
 pub turn-spec : {M : Type 1} → statement M
-turn-spec = tie.close (tie.spec element-copy-out-if1 decide-requires returns returns-2)
+turn-spec = tie.close (tie.spec (λ c. search needs) (λ c κs. search needs) returns returns-2)

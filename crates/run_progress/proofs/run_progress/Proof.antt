@@ -13,35 +13,17 @@ use Rattle.run_progress.proofs.run_progress.Tie as tie
 passed : (c : tie.Else1) → readFault (c .before .before .args .run) ≡ 0
 passed c = sym (c .before .read-fault .ensures) ∙ c .if1 .left
 
-read-fault-requires : tie.Need-read-fault-requires
-read-fault-requires c κs = search needs
-
-answered-requires : tie.Need-answered-requires
-answered-requires c κs = search needs
-
 returns : tie.Need-returns
 returns c =
     let t = c .before in
     let f = t .before .read-fault in
     progress-refused (t .before .before .args .run) (f .result) (c .answered .result) (f .ensures) (t .if1 .taken) (c .answered .ensures)
 
-plan-disk-requires : tie.Need-plan-disk-requires
-plan-disk-requires c κs = search needs
-
 -- no more stripes are skipped than are past
 sub-rebuilt : tie.Need-sub-rebuilt
 sub-rebuilt c =
     let e = c .before .before .before in
     read-passed (e .before .before .args .run) (passed e) .1
-
-answered-requires-2 : tie.Need-answered-requires-2
-answered-requires-2 c κs = search needs
-
-cast-t9 : tie.Need-cast-t9
-cast-t9 c = search needs
-
-cast-t10 : tie.Need-cast-t10
-cast-t10 c = search needs
 
 -- the record's fields are 32-bit numbers
 small : (c : tie.After-struct-known3) → c .before .before .before .before .before .before .before .before .args .run .next < 2 ^ 32
@@ -64,4 +46,4 @@ returns-2 c =
     progress-done x (n .answered2 .result) _ ((x .next - x .skipped) * r .reads) z (n .answered2 .ensures) (small c) refl (ap (λ (n : ℕ). (x .next - x .skipped) * n) (reads-are x r (read-passed x z .0) (i .plan-disk .ensures)))
 
 pub run-progress-spec : {M : Type 1} → statement M
-run-progress-spec = tie.close (tie.spec read-fault-requires answered-requires returns plan-disk-requires sub-rebuilt answered-requires-2 cast-t9 cast-t10 mul-t11 returns-2)
+run-progress-spec = tie.close (tie.spec (λ c κs. search needs) (λ c κs. search needs) returns (λ c κs. search needs) sub-rebuilt (λ c κs. search needs) (λ c. search needs) (λ c. search needs) mul-t11 returns-2)

@@ -14,9 +14,6 @@ use Rattle.run_steps.proofs.step_fault.Tie as tie
 fine : (c : tie.Else1) → let a = c .before .before .before .args in lengthsFault (a .run .shape .width) (a .run .shape .disks) (a .run .shape .«cell_size») (a .run .lost) (a .stripe) (a .column) ≡ 0
 fine c = sym (c .before .one-fault .ensures) ∙ c .if1 .left
 
-one-fault-requires : tie.Need-one-fault-requires
-one-fault-requires c κs = search needs
-
 returns : tie.Need-returns
 returns c =
     let f = c .before .one-fault in
@@ -29,9 +26,6 @@ returns-2 c =
     let a = e .before .before .before .args in
     first-next 10 _ (firstOf (skippedFault (a .run)) (nextFault (a .run) (a .which))) (fine e) (first-kept 10 (skippedFault (a .run)) (nextFault (a .run) (a .which)) (sym (skipped-many (a .run) (c .if2 .taken))) (λ q. omega arith))
 
-next-fault-requires : tie.Need-next-fault-requires
-next-fault-requires c κs = search needs
-
 returns-3 : tie.Need-returns-3
 returns-3 c =
     let i = c .before in
@@ -40,4 +34,4 @@ returns-3 c =
     first-next (c .next-fault .result) _ (firstOf (skippedFault (a .run)) (nextFault (a .run) (a .which))) (fine e) (first-next (c .next-fault .result) (skippedFault (a .run)) (nextFault (a .run) (a .which)) (skipped-few (a .run) (i .if2 .left)) (c .next-fault .ensures))
 
 pub step-fault-spec : {M : Type 1} → statement M
-step-fault-spec = tie.close (tie.spec one-fault-requires returns returns-2 next-fault-requires returns-3)
+step-fault-spec = tie.close (tie.spec (λ c κs. search needs) returns returns-2 (λ c κs. search needs) returns-3)

@@ -12,12 +12,6 @@ use Rattle.run_steps.proofs.step_run.Tie as tie
 passed : (c : tie.Else1) → let a = c .before .before .before .before .args in stepFault (a .run) (a .which) (a .stripe .now) (a .column .now) ≡ 0
 passed c = sym (c .before .step-fault .ensures) ∙ c .if1 .left
 
-step-fault-requires : tie.Need-step-fault-requires
-step-fault-requires c κs = search needs
-
-answered-requires : tie.Need-answered-requires
-answered-requires c κs = search needs
-
 returns : tie.Need-returns
 returns c =
     let i = c .before in
@@ -31,18 +25,12 @@ rebuild-column-requires c κs =
     let a = i .before .before .before .before .args in
     step-passed (a .run) (a .which) (a .stripe .now) (a .column .now) (passed i) .0
 
-answered-requires-2 : tie.Need-answered-requires-2
-answered-requires-2 c κs = search needs
-
 moved-on-requires : tie.Need-moved-on-requires
 moved-on-requires c κs =
     let i = c .before .before .before .before .before .before in
     let a = i .before .before .before .before .args in
     let q = step-passed (a .run) (a .which) (a .stripe .now) (a .column .now) (passed i) in
     record { next = q .1 .1 .1; skipped = omega (arith, q .1 .0) }
-
-same-length : tie.Need-same-length
-same-length c = search needs
 
 returns-2 : tie.Need-returns-2
 returns-2 c =
@@ -54,4 +42,4 @@ returns-2 c =
     (bytes-all (a .stripe .now) (i .before .before .before .shared-slice-known .given))
 
 pub step-run-spec : {M : Type 1} → statement M
-step-run-spec = tie.close (tie.spec step-fault-requires answered-requires returns rebuild-column-requires answered-requires-2 moved-on-requires same-length returns-2)
+step-run-spec = tie.close (tie.spec (λ c κs. search needs) (λ c κs. search needs) returns rebuild-column-requires (λ c κs. search needs) moved-on-requires (λ c. search needs) returns-2)

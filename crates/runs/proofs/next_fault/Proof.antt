@@ -12,9 +12,6 @@ returns c =
     let a = c .before .before .args in
     next-is (a .run) (a .which) true _ (le-leb (a .run .stripes) (a .run .next) (c .if1 .taken)) refl
 
-cast-if2 : tie.Need-cast-if2
-cast-if2 c = search needs
-
 returns-2 : tie.Need-returns-2
 returns-2 c =
     let w = c .before .before in
@@ -28,4 +25,4 @@ returns-3 c =
     next-is (a .run) (a .which) false true (lt-leb (a .run .stripes) (a .run .next) (w .if1 .left)) (eq-eqb (a .which) (a .run .next) (c .if2 .left))
 
 pub next-fault-spec : {M : Type 1} → statement M
-next-fault-spec = tie.close (tie.spec returns cast-if2 returns-2 returns-3)
+next-fault-spec = tie.close (tie.spec returns (λ c. search needs) returns-2 returns-3)

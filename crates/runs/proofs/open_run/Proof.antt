@@ -5,21 +5,12 @@ use Rattle.runs.proofs.RunRefusals.{open-refused, open-done}
 use Rattle.runs.proofs.open_run.Statement.{statement}
 use Rattle.runs.proofs.open_run.Tie as tie
 
-numbers-fault-requires : tie.Need-numbers-fault-requires
-numbers-fault-requires c κs = search needs
-
-answered-requires : tie.Need-answered-requires
-answered-requires c κs = search needs
-
 returns : tie.Need-returns
 returns c =
     let i = c .before in
     let f = i .before .numbers-fault in
     let a = i .before .before .args in
     open-refused (a .shape .width) (a .shape .disks) (a .shape .«cell_size») (a .lost) (a .stripes) (f .result) (c .answered .result) (f .ensures) (i .if1 .taken) (c .answered .ensures)
-
-answered-requires-2 : tie.Need-answered-requires-2
-answered-requires-2 c κs = search needs
 
 returns-2 : tie.Need-returns-2
 returns-2 c =
@@ -28,4 +19,4 @@ returns-2 c =
     open-done (a .shape .width) (a .shape .disks) (a .shape .«cell_size») (a .lost) (a .stripes) (c .answered2 .result) (sym (i .before .numbers-fault .ensures) ∙ i .if1 .left) (c .answered2 .ensures)
 
 pub open-run-spec : {M : Type 1} → statement M
-open-run-spec = tie.close (tie.spec numbers-fault-requires answered-requires returns answered-requires-2 returns-2)
+open-run-spec = tie.close (tie.spec (λ c κs. search needs) (λ c κs. search needs) returns (λ c κs. search needs) returns-2)

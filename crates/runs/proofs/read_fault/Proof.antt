@@ -11,9 +11,6 @@ use Rattle.runs.proofs.read_fault.Tie as tie
 fine : (c : tie.Else1) → runFault (c .before .before .before .args .run) ≡ 0
 fine c = sym (c .before .numbers-fault .ensures) ∙ c .if1 .left
 
-numbers-fault-requires : tie.Need-numbers-fault-requires
-numbers-fault-requires c κs = search needs
-
 returns : tie.Need-returns
 returns c =
     let f = c .before .numbers-fault in
@@ -33,4 +30,4 @@ returns-3 c =
     first-next 0 (runFault x) (skippedFault x) (fine e) (sym (skipped-few x (c .if2 .left)))
 
 pub read-fault-spec : {M : Type 1} → statement M
-read-fault-spec = tie.close (tie.spec numbers-fault-requires returns returns-2 returns-3)
+read-fault-spec = tie.close (tie.spec (λ c κs. search needs) returns returns-2 returns-3)

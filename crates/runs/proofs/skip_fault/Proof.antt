@@ -6,17 +6,11 @@ use Rattle.runs.specs.Runs.{readFault, nextFault}
 use Rattle.runs.proofs.skip_fault.Statement.{statement}
 use Rattle.runs.proofs.skip_fault.Tie as tie
 
-read-fault-requires : tie.Need-read-fault-requires
-read-fault-requires c κs = search needs
-
 returns : tie.Need-returns
 returns c =
     let f = c .before .read-fault in
     let a = c .before .before .args in
     first-kept (f .result) (readFault (a .run)) (nextFault (a .run) (a .which)) (f .ensures) (c .if1 .taken)
-
-next-fault-requires : tie.Need-next-fault-requires
-next-fault-requires c κs = search needs
 
 returns-2 : tie.Need-returns-2
 returns-2 c =
@@ -26,4 +20,4 @@ returns-2 c =
     first-next (c .next-fault .result) (readFault (a .run)) (nextFault (a .run) (a .which)) (sym (f .ensures) ∙ i .if1 .left) (c .next-fault .ensures)
 
 pub skip-fault-spec : {M : Type 1} → statement M
-skip-fault-spec = tie.close (tie.spec read-fault-requires returns next-fault-requires returns-2)
+skip-fault-spec = tie.close (tie.spec (λ c κs. search needs) returns (λ c κs. search needs) returns-2)

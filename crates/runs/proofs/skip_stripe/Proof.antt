@@ -11,21 +11,12 @@ use Rattle.runs.proofs.skip_stripe.Tie as tie
 passed : (c : tie.Else1) → let a = c .before .before .args in skipFault (a .run) (a .which) ≡ 0
 passed c = sym (c .before .skip-fault .ensures) ∙ c .if1 .left
 
-skip-fault-requires : tie.Need-skip-fault-requires
-skip-fault-requires c κs = search needs
-
-answered-requires : tie.Need-answered-requires
-answered-requires c κs = search needs
-
 returns : tie.Need-returns
 returns c =
     let i = c .before in
     let f = i .before .skip-fault in
     let a = i .before .before .args in
     skip-refused (a .run) (a .which) (f .result) (c .answered .result) (f .ensures) (i .if1 .taken) (c .answered .ensures)
-
-answered-requires-2 : tie.Need-answered-requires-2
-answered-requires-2 c κs = search needs
 
 moved-on-requires : tie.Need-moved-on-requires
 moved-on-requires c κs =
@@ -41,4 +32,4 @@ returns-2 c =
     skip-done (a .run) (c .moved-on .result) (a .which) (c .before .answered2 .result) (passed i) (c .moved-on .ensures) (c .before .answered2 .ensures)
 
 pub skip-stripe-spec : {M : Type 1} → statement M
-skip-stripe-spec = tie.close (tie.spec skip-fault-requires answered-requires returns answered-requires-2 moved-on-requires returns-2)
+skip-stripe-spec = tie.close (tie.spec (λ c κs. search needs) (λ c κs. search needs) returns (λ c κs. search needs) moved-on-requires returns-2)

@@ -16,12 +16,6 @@ none c = sym (c .before .space-fault .ensures) ∙ c .if1 .left
 bound : (c : tie.Else1) → let a = c .before .before .before .args in Bounds (a .shape .width) (a .shape .disks) (a .shape .«cell_size») (a .lengths .now)
 bound c = let a = c .before .before .before .args in small (a .shape .width) (a .shape .disks) (a .shape .«cell_size») (a .lengths .now) (none c)
 
-space-fault-requires : tie.Need-space-fault-requires
-space-fault-requires c κs = search needs
-
-refused-space-requires : tie.Need-refused-space-requires
-refused-space-requires c κs = search needs
-
 returns : tie.Need-returns
 returns c =
     let q = c .before .before in
@@ -42,9 +36,6 @@ mul-need c =
     let a = c .before .before .before .before .args in
     omega (arith, bound (c .before) .need, ap (λ (n : ℕ). n * (a .shape .width * a .shape .«cell_size»)) (c .sum-stripes .ensures))
 
-answered-requires : tie.Need-answered-requires
-answered-requires c κs = search needs
-
 returns-2 : tie.Need-returns-2
 returns-2 c =
     let q = c .before in
@@ -55,12 +46,12 @@ pub package-space-spec : {M : Type 1} → statement M
 package-space-spec =
     tie.close
     (tie.spec
-    space-fault-requires
-    refused-space-requires
+    (λ c κs. search needs)
+    (λ c κs. search needs)
     returns
     mul-gives
     mul-holds
     sum-stripes-requires
     mul-need
-    answered-requires
+    (λ c κs. search needs)
     returns-2)

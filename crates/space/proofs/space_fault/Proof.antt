@@ -17,9 +17,6 @@ use Rattle.space.proofs.space_fault.Tie as tie
 passed : (c : tie.Else1) → let a = c .before .before .before .args in shapeFault (a .width) (a .disks) (a .size) ≡ 0
 passed c = sym (c .before .shape-fault .ensures) ∙ c .if1 .left
 
-shape-fault-requires : tie.Need-shape-fault-requires
-shape-fault-requires c κs = search needs
-
 returns : tie.Need-returns
 returns c =
     let q = c .before in
@@ -31,9 +28,6 @@ returns-2 c =
     let e = c .before in
     let a = e .before .before .before .args in
     fault-is (a .width) (a .disks) (a .size) (a .lengths .now) true _ (passed e) (lt-ltb 4096 (length (a .lengths .now)) (c .if2 .taken)) refl
-
-too-long-requires : tie.Need-too-long-requires
-too-long-requires c κs = search needs
 
 returns-3 : tie.Need-returns-3
 returns-3 c =
@@ -50,4 +44,4 @@ returns-4 c =
     fault-is (a .width) (a .disks) (a .size) (a .lengths .now) false false (passed e) (le-ltb 4096 (length (a .lengths .now)) (q .before .if2 .left)) (sym (q .too-long .ensures) ∙ c .if3 .left)
 
 pub space-fault-spec : {M : Type 1} → statement M
-space-fault-spec = tie.close (tie.spec shape-fault-requires returns returns-2 too-long-requires returns-3 returns-4)
+space-fault-spec = tie.close (tie.spec (λ c κs. search needs) returns returns-2 (λ c κs. search needs) returns-3 returns-4)

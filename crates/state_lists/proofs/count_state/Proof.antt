@@ -5,18 +5,6 @@ use Rattle.state_lists.proofs.RecordLaws.{count-none, count-one, count-
 use Rattle.state_lists.proofs.count_state.Statement.{statement}
 use Rattle.state_lists.proofs.count_state.Tie as tie
 
-add-more : tie.Need-add-more
-add-more c = search needs
-
-add-more-2 : tie.Need-add-more-2
-add-more-2 c = search needs
-
-add-more-3 : tie.Need-add-more-3
-add-more-3 c = search needs
-
-add-more-4 : tie.Need-add-more-4
-add-more-4 c = search needs
-
 returns : tie.Need-returns
 returns c = let t = c .before in let a = t .before .args in count-none (a .totals) (ones (a .lost)) (t .if1 .taken)
 
@@ -36,4 +24,4 @@ returns-4 c = let t = c .before in let a = t .before .before .before .args in co
 pub count-state-spec : {M : Type 1} → statement M
 count-state-spec =
     tie.close
-    (tie.spec add-more add-more-2 add-more-3 add-more-4 returns returns-2 returns-3 returns-4)
+    (tie.spec (λ c. search needs) (λ c. search needs) (λ c. search needs) (λ c. search needs) returns returns-2 returns-3 returns-4)

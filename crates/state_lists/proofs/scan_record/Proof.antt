@@ -11,33 +11,12 @@ use Rattle.state_lists.proofs.scan_record.Tie as tie
 fault : (c : tie.After-first-fault) → let a = c .before .before .before .args in c .first-fault .result ≡ firstOf (a .s .fault) (stateFault (a .state))
 fault c = c .first-fault .ensures ∙ ap (firstOf (c .before .before .before .args .s .fault)) (c .before .state-fault .ensures)
 
-state-fault-requires : tie.Need-state-fault-requires
-state-fault-requires c κs = search needs
-
-first-fault-requires : tie.Need-first-fault-requires
-first-fault-requires c κs = search needs
-
-report-state-requires : tie.Need-report-state-requires
-report-state-requires c κs = search needs
-
-add-t14 : tie.Need-add-t14
-add-t14 c = search needs
-
-count-state-requires : tie.Need-count-state-requires
-count-state-requires c κs = search needs
-
 returns : tie.Need-returns
 returns c =
     let q = c .before .before in
     let n = q .before .before in
     let a = n .before .before .before .args in
     scan-own (a .which) (a .disk) (a .back) (a .s) (a .state) (n .first-fault .result) (q .report-state .result) (c .count-state .result) (q .before .if1 .taken) (fault n) (q .report-state .ensures) (c .count-state .ensures)
-
-add-t16 : tie.Need-add-t16
-add-t16 c = search needs
-
-count-state-requires-2 : tie.Need-count-state-requires-2
-count-state-requires-2 c κs = search needs
 
 returns-2 : tie.Need-returns-2
 returns-2 c =
@@ -50,12 +29,12 @@ pub scan-record-spec : {M : Type 1} → statement M
 scan-record-spec =
     tie.close
     (tie.spec
-    state-fault-requires
-    first-fault-requires
-    report-state-requires
-    add-t14
-    count-state-requires
+    (λ c κs. search needs)
+    (λ c κs. search needs)
+    (λ c κs. search needs)
+    (λ c. search needs)
+    (λ c κs. search needs)
     returns
-    add-t16
-    count-state-requires-2
+    (λ c. search needs)
+    (λ c κs. search needs)
     returns-2)

@@ -6,11 +6,8 @@ use borrow.Author.Needs.{needs}
 use Rattle.state_lists.proofs.scan_start.Statement.{statement}
 use Rattle.state_lists.proofs.scan_start.Tie as tie
 
-no-totals-requires : tie.Need-no-totals-requires
-no-totals-requires c κs = search needs
-
 returns : tie.Need-returns
 returns c = ap (λ (t : Totals). record { at = 0; fault = 0; own = 0; found = noArray; totals = t }) (c .no-totals .ensures)
 
 pub scan-start-spec : {M : Type 1} → statement M
-scan-start-spec = tie.close (tie.spec no-totals-requires returns)
+scan-start-spec = tie.close (tie.spec (λ c κs. search needs) returns)

@@ -10,15 +10,6 @@ use borrow.Author.Needs.{needs}
 use Rattle.state_reports.proofs.scan_answer.Statement.{statement}
 use Rattle.state_reports.proofs.scan_answer.Tie as tie
 
-scan-fault-requires : tie.Need-scan-fault-requires
-scan-fault-requires c κs = search needs
-
-answered-requires : tie.Need-answered-requires
-answered-requires c κs = search needs
-
-no-totals-requires : tie.Need-no-totals-requires
-no-totals-requires c κs = search needs
-
 returns : tie.Need-returns
 unfolding scanAnswer
 returns c =
@@ -29,9 +20,6 @@ returns c =
     ap₂ (λ (x : Answer) (t : Totals). record { answer = x; totals = t })
     (answer-is (scanFault (a .s) (a .n) (a .which)) b (answers-as _ _ b e (c .before .answered .ensures)))
     (c .no-totals .ensures ∙ pick-refused (q .scan-fault .result) (scanFault (a .s) (a .n) (a .which)) (a .s .totals) noTotals e (c .before .before .if1 .taken))
-
-answered-requires-2 : tie.Need-answered-requires-2
-answered-requires-2 c κs = search needs
 
 returns-2 : tie.Need-returns-2
 unfolding scanAnswer
@@ -47,9 +35,9 @@ pub scan-answer-spec : {M : Type 1} → statement M
 scan-answer-spec =
     tie.close
     (tie.spec
-    scan-fault-requires
-    answered-requires
-    no-totals-requires
+    (λ c κs. search needs)
+    (λ c κs. search needs)
+    (λ c κs. search needs)
     returns
-    answered-requires-2
+    (λ c κs. search needs)
     returns-2)

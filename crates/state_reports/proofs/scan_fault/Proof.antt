@@ -12,9 +12,6 @@ returns : tie.Need-returns
 unfolding scanFault
 returns c = simp (le-leb _ _ (c .if1 .taken))
 
-first-fault-requires : tie.Need-first-fault-requires
-first-fault-requires c κs = search needs
-
 returns-2 : tie.Need-returns-2
 unfolding scanFault
 returns-2 c =
@@ -23,4 +20,4 @@ returns-2 c =
     c .first-fault .ensures ∙ sym (ap (λ (b : Bool). firstOf (when b 20) (firstOf (a .s .fault) (a .s .own))) (lt-leb (a .n) (a .which) (e .if1 .left)))
 
 pub scan-fault-spec : {M : Type 1} → statement M
-scan-fault-spec = tie.close (tie.spec returns first-fault-requires returns-2)
+scan-fault-spec = tie.close (tie.spec returns (λ c κs. search needs) returns-2)

@@ -4,9 +4,6 @@ use borrow.Author.Needs.{needs}
 use Rattle.states.proofs.again_fault.Statement.{statement}
 use Rattle.states.proofs.again_fault.Tie as tie
 
-is-lost-requires : tie.Need-is-lost-requires
-is-lost-requires c κs = search needs
-
 returns : tie.Need-returns
 returns c = let q = c .before .before in let a = q .before .args in again-is (a .lost) (a .disk) 0 (a .back) (q .is-lost .result) (q .is-lost .ensures) (simp (c .before .if1 .taken, c .if2 .taken))
 
@@ -20,4 +17,4 @@ returns-4 : tie.Need-returns-4
 returns-4 c = let q = c .before .before in let a = q .before .args in again-is (a .lost) (a .disk) 0 (a .back) (q .is-lost .result) (q .is-lost .ensures) (simp (c .before .if1 .left, c .if3 .left))
 
 pub again-fault-spec : {M : Type 1} → statement M
-again-fault-spec = tie.close (tie.spec is-lost-requires returns returns-2 returns-3 returns-4)
+again-fault-spec = tie.close (tie.spec (λ c κs. search needs) returns returns-2 returns-3 returns-4)

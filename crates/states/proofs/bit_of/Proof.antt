@@ -8,11 +8,8 @@ use borrow.Author.Needs.{needs}
 use Rattle.states.proofs.bit_of.Statement.{statement}
 use Rattle.states.proofs.bit_of.Tie as tie
 
-shl-result : tie.Need-shl-result
-shl-result c = search needs
-
 returns : tie.Need-returns
 returns c = shl-exact 1 (c .args .disk) 64 (lit< tt) (omega arith) ∙ one-mul _
 
 pub bit-of-spec : {M : Type 1} → statement M
-bit-of-spec = tie.close (tie.spec shl-result returns)
+bit-of-spec = tie.close (tie.spec (λ c. search needs) returns)

@@ -3,9 +3,6 @@ use borrow.Author.Needs.{needs}
 use Rattle.states.proofs.lost_after.Statement.{statement}
 use Rattle.states.proofs.lost_after.Tie as tie
 
-bit-of-requires : tie.Need-bit-of-requires
-bit-of-requires c κs = search needs
-
 returns : tie.Need-returns
 returns c = simp (c .if1 .taken, c .before .bit-of .ensures)
 
@@ -13,4 +10,4 @@ returns-2 : tie.Need-returns-2
 returns-2 c = simp (c .if1 .left, c .before .bit-of .ensures)
 
 pub lost-after-spec : {M : Type 1} → statement M
-lost-after-spec = tie.close (tie.spec bit-of-requires returns returns-2)
+lost-after-spec = tie.close (tie.spec (λ c κs. search needs) returns returns-2)

@@ -4,12 +4,6 @@ use borrow.Author.Needs.{needs}
 use Rattle.states.proofs.lost_fault.Statement.{statement}
 use Rattle.states.proofs.lost_fault.Tie as tie
 
-add-bit-of : tie.Need-add-bit-of
-add-bit-of c = search needs
-
-bit-of-requires : tie.Need-bit-of-requires
-bit-of-requires c κs = search needs
-
 returns : tie.Need-returns
 returns c = let a = c .before .before .args in lost-refused (a .disks) (a .lost) (c .before .bit-of .result) (c .before .bit-of .ensures) (c .if1 .taken)
 
@@ -17,4 +11,4 @@ returns-2 : tie.Need-returns-2
 returns-2 c = let a = c .before .before .args in lost-accepted (a .disks) (a .lost) (c .before .bit-of .result) (c .before .bit-of .ensures) (c .if1 .left)
 
 pub lost-fault-spec : {M : Type 1} → statement M
-lost-fault-spec = tie.close (tie.spec add-bit-of bit-of-requires returns returns-2)
+lost-fault-spec = tie.close (tie.spec (λ c. search needs) (λ c κs. search needs) returns returns-2)

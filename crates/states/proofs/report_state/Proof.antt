@@ -14,12 +14,6 @@ use Rattle.states.proofs.report_state.Tie as tie
 none : (c : tie.Else1) → let a = c .before .before .args in stateReportFault (a .state) (a .disk) (a .back) ≡ 0
 none c = sym (c .before .state-report-fault .ensures) ∙ c .if1 .left
 
-state-report-fault-requires : tie.Need-state-report-fault-requires
-state-report-fault-requires c κs = search needs
-
-answered-requires : tie.Need-answered-requires
-answered-requires c κs = search needs
-
 returns : tie.Need-returns
 returns c =
     let q = c .before .before in
@@ -29,9 +23,6 @@ returns c =
       answer = answers-as _ _ (c .answered .result) e (c .answered .ensures);
       state = pick-refused (q .state-report-fault .result) (stateReportFault (a .state) (a .disk) (a .back)) (changed (a .state) (a .disk) (a .back)) (a .state) e (c .before .if1 .taken);
     }
-
-answered-requires-2 : tie.Need-answered-requires-2
-answered-requires-2 c κs = search needs
 
 lost-after-requires : tie.Need-lost-after-requires
 lost-after-requires c κs = let a = c .before .before .before .args in let q = reportable (a .state) (a .disk) (a .back) (none (c .before)) in omega (arith, q .most, q .disk)
@@ -49,9 +40,9 @@ pub report-state-spec : {M : Type 1} → statement M
 report-state-spec =
     tie.close
     (tie.spec
-    state-report-fault-requires
-    answered-requires
+    (λ c κs. search needs)
+    (λ c κs. search needs)
     returns
-    answered-requires-2
+    (λ c κs. search needs)
     lost-after-requires
     returns-2)

@@ -7,9 +7,6 @@ use borrow.Author.Needs.{needs}
 use Rattle.states.proofs.state_fault.Statement.{statement}
 use Rattle.states.proofs.state_fault.Tie as tie
 
-array-fault-requires : tie.Need-array-fault-requires
-array-fault-requires c κs = search needs
-
 returns : tie.Need-returns
 returns c = let q = c .before in let a = q .before .args .state in first-kept _ _ (lostFault (a .disks) (a .lost)) (q .array-fault .ensures) (c .if1 .taken)
 
@@ -20,4 +17,4 @@ returns-2 : tie.Need-returns-2
 returns-2 c = let q = c .before .before in let a = q .before .args .state in first-next _ _ (lostFault (a .disks) (a .lost)) (sym (q .array-fault .ensures) ∙ c .before .if1 .left) (c .lost-fault .ensures)
 
 pub state-fault-spec : {M : Type 1} → statement M
-state-fault-spec = tie.close (tie.spec array-fault-requires returns lost-fault-requires returns-2)
+state-fault-spec = tie.close (tie.spec (λ c κs. search needs) returns lost-fault-requires returns-2)

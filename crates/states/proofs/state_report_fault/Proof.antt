@@ -13,14 +13,8 @@ use Rattle.states.proofs.state_report_fault.Tie as tie
 none : (c : tie.Else1) → stateFault (c .before .before .args .state) ≡ 0
 none c = sym (c .before .state-fault .ensures) ∙ c .if1 .left
 
-state-fault-requires : tie.Need-state-fault-requires
-state-fault-requires c κs = search needs
-
 returns : tie.Need-returns
 returns c = let q = c .before in let a = q .before .args in first-kept _ _ (diskReportFault (a .state) (a .disk) (a .back)) (q .state-fault .ensures) (c .if1 .taken)
-
-disk-fault-requires : tie.Need-disk-fault-requires
-disk-fault-requires c κs = search needs
 
 returns-2 : tie.Need-returns-2
 returns-2 c = let q = c .before in let a = q .before .before .before .args in first-next _ _ (diskReportFault (a .state) (a .disk) (a .back)) (none (q .before)) (first-kept _ _ (againFault (a .state .lost) (a .disk) (a .back)) (q .disk-fault .ensures) (c .if2 .taken))
@@ -43,9 +37,9 @@ pub state-report-fault-spec : {M : Type 1} → statement M
 state-report-fault-spec =
     tie.close
     (tie.spec
-    state-fault-requires
+    (λ c κs. search needs)
     returns
-    disk-fault-requires
+    (λ c κs. search needs)
     returns-2
     again-fault-requires
     returns-3)

@@ -21,21 +21,6 @@ loop-holds c =
     let z : a .width ≡ a .width - 0 = omega arith in
     (omega arith, collect-skip _ _ _ (replicate 31 0) (replicate 31 0) (replicate 31 0) 0 (ap (λ (n : ℕ). allOf n (a .kind) 0) z) (collect-start (allOf (a .width) (a .kind) 0)))
 
-cast-rows : tie.Need-cast-rows Inv-loop μ-loop
-cast-rows c = search needs
-
-array-write-rows : tie.Need-array-write-rows Inv-loop μ-loop
-array-write-rows c = search needs
-
-array-write-kinds : tie.Need-array-write-kinds Inv-loop μ-loop
-array-write-kinds c = search needs
-
-add-row : tie.Need-add-row Inv-loop μ-loop
-add-row c = search needs
-
-loop-less : tie.Need-loop-less Inv-loop μ-loop
-loop-less c = search needs
-
 loop-again : tie.Need-loop-again Inv-loop μ-loop
 loop-again c =
     let a = c .before .before .args in
@@ -56,10 +41,10 @@ all-steps-spec =
     Inv-loop
     μ-loop
     loop-holds
-    cast-rows
-    array-write-rows
-    array-write-kinds
-    add-row
-    loop-less
+    (λ c. search needs)
+    (λ c. search needs)
+    (λ c. search needs)
+    (λ c. search needs)
+    (λ c. search needs)
     loop-again
     returns)

@@ -41,26 +41,11 @@ loop-holds c =
     let q = c .before .before .before .before in
     (omega arith, record { steps = rowSteps 0 (take (q .args .width) (q .args .t3)); held = q .pre .2; joined = refl })
 
-array-read-if1 : tie.Need-array-read-if1 Inv-loop μ-loop
-array-read-if1 c = search needs
-
-cast-rows : tie.Need-cast-rows Inv-loop μ-loop
-cast-rows c = search needs
-
 array-write-rows : tie.Need-array-write-rows Inv-loop μ-loop
 array-write-rows c = room c
 
 array-write-kinds : tie.Need-array-write-kinds Inv-loop μ-loop
 array-write-kinds c = room c
-
-add-numbers : tie.Need-add-numbers Inv-loop μ-loop
-add-numbers c = search needs
-
-sub-numbers : tie.Need-sub-numbers Inv-loop μ-loop
-sub-numbers c = search needs
-
-rem-numbers : tie.Need-rem-numbers Inv-loop μ-loop
-rem-numbers c = search needs
 
 cast-numbers : tie.Need-cast-numbers Inv-loop μ-loop
 cast-numbers c =
@@ -72,12 +57,6 @@ array-write-numbers c = room c
 
 add-count : tie.Need-add-count Inv-loop μ-loop
 add-count c = omega (arith, room c)
-
-add-row : tie.Need-add-row Inv-loop μ-loop
-add-row c = search needs
-
-loop-less : tie.Need-loop-less Inv-loop μ-loop
-loop-less c = search needs
 
 loop-again : tie.Need-loop-again Inv-loop μ-loop
 loop-again c =
@@ -113,17 +92,17 @@ diagonal-steps-spec =
     Inv-loop
     μ-loop
     loop-holds
-    array-read-if1
-    cast-rows
+    (λ c. search needs)
+    (λ c. search needs)
     array-write-rows
     array-write-kinds
-    add-numbers
-    sub-numbers
-    rem-numbers
+    (λ c. search needs)
+    (λ c. search needs)
+    (λ c. search needs)
     cast-numbers
     array-write-numbers
     add-count
-    add-row
-    loop-less
+    (λ c. search needs)
+    (λ c. search needs)
     loop-again
     returns)

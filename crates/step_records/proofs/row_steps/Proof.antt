@@ -36,23 +36,11 @@ room c =
 loop-holds : tie.Need-loop-holds Inv-loop μ-loop
 loop-holds c = (omega arith, collect-start _)
 
-array-read-if1 : tie.Need-array-read-if1 Inv-loop μ-loop
-array-read-if1 c = search needs
-
-cast-rows : tie.Need-cast-rows Inv-loop μ-loop
-cast-rows c = search needs
-
 array-write-rows : tie.Need-array-write-rows Inv-loop μ-loop
 array-write-rows c = room c
 
 add-count : tie.Need-add-count Inv-loop μ-loop
 add-count c = omega (arith, room c)
-
-add-row : tie.Need-add-row Inv-loop μ-loop
-add-row c = search needs
-
-loop-less : tie.Need-loop-less Inv-loop μ-loop
-loop-less c = search needs
 
 loop-again : tie.Need-loop-again Inv-loop μ-loop
 loop-again c =
@@ -86,11 +74,11 @@ row-steps-spec =
     Inv-loop
     μ-loop
     loop-holds
-    array-read-if1
-    cast-rows
+    (λ c. search needs)
+    (λ c. search needs)
     array-write-rows
     add-count
-    add-row
-    loop-less
+    (λ c. search needs)
+    (λ c. search needs)
     loop-again
     returns)

@@ -9,9 +9,6 @@ use Rattle.liberation.proofs.FaultLaws.{shape-most}
 use Rattle.stripes.proofs.stripe_fault.Statement.{statement}
 use Rattle.stripes.proofs.stripe_fault.Tie as tie
 
-shape-fault-requires : tie.Need-shape-fault-requires
-shape-fault-requires c κs = search needs
-
 -- past refusals 1, 13 and 2
 fine : (c : tie.Else1) → let a = c .before .before .args in shapeFault (a .width) (a .disks) (a .size) ≡ 0
 fine c = sym (c .before .shape-fault .ensures) ∙ c .if1 .left
@@ -32,11 +29,8 @@ mul-length-fault c = omega (arith, most c)
 mul-length-fault-2 : tie.Need-mul-length-fault-2
 mul-length-fault-2 c = omega (arith, most c)
 
-length-fault-requires : tie.Need-length-fault-requires
-length-fault-requires c κs = search needs
-
 returns-2 : tie.Need-returns-2
 returns-2 c = let e = c .before in first-next (c .length-fault .result) _ _ (fine e) (c .length-fault .ensures)
 
 pub stripe-fault-spec : {M : Type 1} → statement M
-stripe-fault-spec = tie.close (tie.spec shape-fault-requires returns add-length-fault mul-length-fault mul-length-fault-2 length-fault-requires returns-2)
+stripe-fault-spec = tie.close (tie.spec (λ c κs. search needs) returns add-length-fault mul-length-fault mul-length-fault-2 (λ c κs. search needs) returns-2)

@@ -6,9 +6,6 @@ use Rattle.text.proofs.FieldLaws.{step-fields, field-most}
 use Rattle.text.proofs.put_step.Tie as tie
 use Rattle.text.proofs.put_step.Statement.{statement}
 
-put-field-requires : tie.Need-put-field-requires
-put-field-requires c κs = search needs
-
 put-kind-requires : tie.Need-put-kind-requires
 put-kind-requires c κs = let a = c .before .before .before in omega (arith, a .put-field .ensures .ends, field-most (a .before .before .before .args .row) 44)
 
@@ -17,9 +14,6 @@ put-field-requires-2 c κs =
     let b = c .before .before .before in
     let a = b .before .before .before .before in
     omega (arith, a .put-field .ensures .ends, b .put-kind .ensures .ends, field-most (a .before .before .before .args .row) 44)
-
-same-length : tie.Need-same-length
-same-length c = search needs
 
 returns : tie.Need-returns
 returns c =
@@ -33,8 +27,8 @@ pub put-step-spec : {M : Type 1} → statement M
 put-step-spec =
     tie.close
     (tie.spec
-    put-field-requires
+    (λ c κs. search needs)
     put-kind-requires
     put-field-requires-2
-    same-length
+    (λ c. search needs)
     returns)

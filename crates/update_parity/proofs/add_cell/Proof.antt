@@ -8,9 +8,6 @@ use Rattle.update_parity.proofs.FromCell.{two-beside, two-added}
 use Rattle.update_parity.proofs.add_cell.Statement.{statement}
 use Rattle.update_parity.proofs.add_cell.Tie as tie
 
-mul-offset : tie.Need-mul-offset
-mul-offset c = search needs
-
 mul-t7 : tie.Need-mul-t7
 mul-t7 c = let o = c .before in omega (arith, o .pre .1, cell-fits (o .args .to) (o .args .size) (o .args .from) (o .pre .0))
 
@@ -29,4 +26,4 @@ returns c =
     g .gather-within .ensures ∙ two-added (a .size) (a .from) (a .to) (a .stripe .now) (o .pre .0) (o .pre .1) (bytes-all (a .stripe .now) (k .slice-known .given))
 
 pub add-cell-spec : {M : Type 1} → statement M
-add-cell-spec = tie.close (tie.spec mul-offset mul-t7 (λ c. search needs) gather-within-requires (λ c. search needs) returns)
+add-cell-spec = tie.close (tie.spec (λ c. search needs) mul-t7 (λ c. search needs) gather-within-requires (λ c. search needs) returns)

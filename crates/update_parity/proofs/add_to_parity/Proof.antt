@@ -26,9 +26,6 @@ add-add-cell c = omega (arith, small (c .before), c .before .pre .row, c .before
 add-cell-requires : tie.Need-add-cell-requires
 add-cell-requires c κs = let o = c .before .before in let a = o .args in row-fits (a .width) (a .disks) (a .size) (a .row) (a .disk) (a .stripe .now) (o .pre)
 
-diagonal-of-requires : tie.Need-diagonal-of-requires
-diagonal-of-requires c κs = search needs
-
 -- the diagonal is one of them
 below : (c : tie.After-diagonal-of) → c .diagonal-of .result < c .before .before .before .before .before .before .args .width
 below c =
@@ -103,7 +100,7 @@ add-to-parity-spec =
     mul-add-cell
     add-add-cell
     add-cell-requires
-    diagonal-of-requires
+    (λ c κs. search needs)
     (λ c. search needs)
     mul-q
     add-q-2
