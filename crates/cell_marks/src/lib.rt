@@ -5,7 +5,7 @@ ghost use Prim.Native.Nat.{_+_, _*_, _<_};
 ghost use lib.ListN.{length};
 ghost use Rattle.liberation.specs.Sets.{setOf, survivingIn};
 ghost use Rattle.liberation.specs.Plans.{marksFrom};
-ghost use Rattle.sets.specs.Limits.{Within};
+ghost use Rattle.liberation.specs.Limits.{InArray};
 ghost use Rattle.cell_marks.specs.Marks.{Marked};
 
 // Marks for every cell of the widest array, none marked.
@@ -37,7 +37,7 @@ pub fn mark_set(
     number: usize,
     marks: &mut [u8],
 ) -> u32
-    requires { ⌜ Within width disks number ⌝ }
+    requires { ⌜ InArray width disks × (number < width) ⌝ }
     requires { ⌜ length (now marks) ≡ width * (disks + 2) ⌝ }
     ensures { λ r. ⌜ Marked (now (marks .entry)) (now (marks .exit)) (survivingIn width lost (setOf width disks kind number)) r ⌝ }
 {

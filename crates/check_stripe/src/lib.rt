@@ -4,7 +4,7 @@ ghost use Prim.Native.Nat.{_<_};
 ghost use lib.ListN.{length};
 ghost use Rattle.laws.specs.Sums.{allTo};
 ghost use Rattle.liberation_stripes.specs.Stripes.{setClean, clean};
-ghost use Rattle.stripes.specs.Cells.{Sized};
+ghost use Rattle.liberation_stripes.specs.Limits.{Sized};
 ghost use Rattle.check_stripe.specs.Says.{CheckSays};
 use refusals::Answer;
 use refusals::Shape;
@@ -18,7 +18,7 @@ pub struct Checked {
 
 // Do the cells of every row set XOR to zero? One run of bytes over the columns of the data disks and P.
 fn rows_are_clean(width: usize, disks: usize, size: usize, stripe: &[u8]) -> bool
-    requires { ⌜ Sized width disks size (now stripe) × (0 < width) ⌝ }
+    requires { ⌜ Sized width disks size (now stripe) ⌝ }
     ensures { λ r. ⌜ r ≡ allTo width (λ i. setClean width disks size (now (stripe .entry)) 0 i) ⌝ }
 {
     let mut at = offsets::no_offsets();
@@ -61,7 +61,7 @@ fn diagonals_are_clean(width: usize, disks: usize, size: usize, stripe: &[u8]) -
 
 // Do all sets XOR to zero? The diagonal sets are looked at where the row sets do.
 fn is_clean(width: usize, disks: usize, size: usize, stripe: &[u8]) -> bool
-    requires { ⌜ Sized width disks size (now stripe) × (0 < width) ⌝ }
+    requires { ⌜ Sized width disks size (now stripe) ⌝ }
     ensures { λ r. ⌜ r ≡ clean width disks size (now (stripe .entry)) ⌝ }
 {
     if !rows_are_clean(width, disks, size, stripe) {

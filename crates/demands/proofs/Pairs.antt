@@ -29,14 +29,14 @@ pub restores : (p k s a b : ℕ) (t t′ : List ℕ) (r : Answer) → TwoSays p 
 restores p k s a b t t′ r d z =
     let e : twoFault p k s a b t ≡ 0 = sym (d .answer .refusal) ∙ z in
     let c = fault-none p k s a b t e in
-    let m : k ≤ p = c .sized .disks in
-    let ha : a < k + 2 = omega (arith, c .first) in
-    let hb : b < k + 2 = omega (arith, c .second) in
-    let ok : isStripe p k s t ≡ true = is-stripe p k s t (c .sized .long) (d .bytes) in
+    let m : k ≤ p = c .0 .array .disks in
+    let ha : a < k + 2 = omega (arith, c .1) in
+    let hb : b < k + 2 = omega (arith, c .2) in
+    let ok : isStripe p k s t ≡ true = is-stripe p k s t (c .0 .long) (d .bytes) in
     let done : t′ ≡ pairSolved p k s a b t = d .stripe ∙ ap (λ (n : ℕ). pick (eqb n 0) (pairSolved p k s a b t) t) e in
     record {
-      stripe = ap (isStripe p k s) done ∙ pair-stripe p k s a b (c .width) m ha hb (c .apart) t ok;
-      is-clean = ap (clean p k s) done ∙ pair-clean p k s a b (c .width) m ha hb (c .apart) t ok;
-      kept = λ x i j. ap (λ (l : List ℕ). cellAt s l x) done ∙ pair-off p k s a b (c .width) m ha hb (c .apart) t ok x i j;
-      only = λ u v d h. done ∙ pair-back p k s a b (c .width) m ha hb (c .apart) t u ok v d h;
+      stripe = ap (isStripe p k s) done ∙ pair-stripe p k s a b (c .0 .array .width) m ha hb (c .3) t ok;
+      is-clean = ap (clean p k s) done ∙ pair-clean p k s a b (c .0 .array .width) m ha hb (c .3) t ok;
+      kept = λ x i j. ap (λ (l : List ℕ). cellAt s l x) done ∙ pair-off p k s a b (c .0 .array .width) m ha hb (c .3) t ok x i j;
+      only = λ u v d h. done ∙ pair-back p k s a b (c .0 .array .width) m ha hb (c .3) t u ok v d h;
     }

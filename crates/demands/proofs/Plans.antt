@@ -41,9 +41,9 @@ our-reads p k f r d z = let m = plan-means p k f r d z in m .count ∙ ap (readC
 pub compared : (p f : ℕ) (bs : List ℕ) (r : Plan) (j : Judged) → f < p → PlanSays p p f r → JudgeSays p p f bs j → j .answer .refusal ≡ 0 → Compared p f bs r j
 compared p f bs r j l k d z =
     let a = zero-accepts p p f bs j d z in
-    let best = plans-best p f (a .width) l in
+    let best = plans-best p f (a .array .width) l in
     let ss = stepsIn p bs in
-    let ours : r .reads ≡ readCount p p f (planOf p p f) = our-reads p p f r k (k .answer .refusal ∙ plan-none p p f (a .width) (a .least) (a .most) (a .disk)) in
+    let ours : r .reads ≡ readCount p p f (planOf p p f) = our-reads p p f r k (k .answer .refusal ∙ plan-none p p f (a .array) (a .disk)) in
     let theirs : j .reads ≡ readCount p p f ss = zero-counts p p f bs j d z in
     record {
       least = omega (arith, ours, theirs, best .least ss (a .accepts));
@@ -60,7 +60,7 @@ pub priced : (p f : ℕ) (bs : List ℕ) (j : Judged) → f < p → JudgeSays p 
 priced p f bs j l d z =
     let a = zero-accepts p p f bs j d z in
     let ss = stepsIn p bs in
-    let q = plans-best p f (a .width) l .price ss (a .accepts) in
+    let q = plans-best p f (a .array .width) l .price ss (a .accepts) in
     record { few = q .few; price = ap (λ (n : ℕ). n + diagonalsUsed p ss * (p - diagonalsUsed p ss)) (zero-counts p p f bs j d z) ∙ q .price }
 
 -- "rearranging a plan's steps into another accepted plan changes neither its count nor any byte its steps rebuild, on dirty stripes too", whatever disk is lost and however many data disks there are
@@ -87,13 +87,13 @@ own-accepted p k f r j y z d =
     let m = plan-means p k f r y z in
     let bs : List ℕ = formOf p r in
     let e : stepsIn p bs ≡ planOf p k f = plan-form p k f r y z in
-    let a : Acceptable p k f bs = record { width = m .width; least = m .disks .0; most = m .disks .1; disk = m .disk; long = length-of p r; accepts = ap (accepted p k f) e ∙ plan-accepted p k f (m .width) (m .disks .1) (m .disk) } in
+    let a : Acceptable p k f bs = record { array = m .array; disk = m .disk; long = length-of p r; accepts = ap (accepted p k f) e ∙ plan-accepted p k f (m .array .width) (m .array .disks) (m .disk) } in
     let g : j .answer .refusal ≡ 0 = accepts-zero p k f bs j d a in
     record { refusal = g; reads = zero-counts p k f bs j d g ∙ ap (λ (ss : List Step). readCount p k f ss) e ∙ sym (our-reads p k f r y z) }
 
 -- "Ours is (3p² + 1)/4", where k = p.
 pub own-count : (p f : ℕ) (r : Plan) → f < p → PlanSays p p f r → r .answer .refusal ≡ 0 → 4 * r .reads ≡ 3 * (p * p) + 1
-own-count p f r l k z = ap (λ (n : ℕ). 4 * n) (our-reads p p f r k z) ∙ plans-best p f (plan-means p p f r k z .width) l .ours-count
+own-count p f r l k z = ap (λ (n : ℕ). 4 * n) (our-reads p p f r k z) ∙ plans-best p f (plan-means p p f r k z .array .width) l .ours-count
 
 -- Ask 1: "A lost P or Q reads k × p cells."
 pub parity-count : (p k f : ℕ) (r : Plan) → k ≤ f → PlanSays p k f r → r .answer .refusal ≡ 0 → r .reads ≡ k * p
@@ -113,5 +113,5 @@ part-within p k f o o′ n n′ a b d z e y r c h g =
     let u = our-list p k f o o′ a d z in
     let w = plan-of p k f (u .0) in
     ap (λ (x : List ℕ). getD x (place p r c) 0) (u .1)
-    ∙ plans-part p k f (w .0) (w .3) (w .1) .within r c h g
+    ∙ plans-part p k f (w .0 .width) (w .0 .disks) (w .1) .within r c h g
     ∙ sym (ap (λ (x : List ℕ). getD x (place p r (fullDisk p k c)) 0) (our-list p p (fullDisk p k f) n n′ b e y .1))

@@ -21,7 +21,6 @@ use Rattle.stripes.specs.Says.{stripeFault}
 use Rattle.stripes.proofs.StripeRefusals.{fault-none}
 use Rattle.scrub.specs.declared.Scrubbed.{Scrubbed}
 use Rattle.scrub.specs.Says.{ScrubSays}
-use Rattle.scrub.proofs.ScrubRefusals.{width-is}
 use Rattle.demands.proofs.Stripes.{is-stripe}
 
 -- Some column of p × s bytes in the place of disk d makes t clean.
@@ -88,7 +87,7 @@ module _ (p k s : ℕ) (width : isWidth p ≡ true) (most : k ≤ p) (t : List �
 pub scrubs : (p k s : ℕ) (t : List ℕ) (r : Scrubbed) → ScrubSays p k s t r → r .answer .refusal ≡ 0 → Scrubs p k s t r
 scrubs p k s t r d z =
     let e : stripeFault p k s t ≡ 0 = sym (d .answer .refusal) ∙ z in
-    let a = fault-none p k s t e .0 in
-    scrubs-so p k s (width-is p k s t e) (a .disks) t (is-stripe p k s t (a .long) (d .bytes)) r
+    let a = fault-none p k s t e in
+    scrubs-so p k s (a .array .width) (a .array .disks) t (is-stripe p k s t (a .long) (d .bytes)) r
     (d .verdict ∙ ap (λ (n : ℕ). pick (eqb n 0) (verdict p k s t) 0) e)
     (d .disk ∙ ap (λ (n : ℕ). pick (eqb n 0 && eqb (verdict p k s t) 1) (suspect p k s t) 0) e)

@@ -3,7 +3,7 @@
 use mathlib.Core.Path.{_≡_, sym, ap, _∙_}
 use mathlib.Core.Bool.{true, _&&_}
 use mathlib.Core.List.{List}
-use Prim.Native.Nat.{ℕ, _+_, _*_, _<_}
+use Prim.Native.Nat.{ℕ, _+_, _*_, _≤_, _<_}
 use native.Mathlib.Omega.{arith}
 use lib.Dec.{eqb}
 use lib.ListN.{length, getD}
@@ -15,6 +15,7 @@ use Rattle.liberation.specs.Sets.{diskAt}
 use Rattle.liberation.specs.Plans.{readList}
 use Rattle.liberation.proofs.PartPlans.{plan-accepted}
 use Rattle.liberation_stripes.specs.Stripes.{cellAt, columnOf, stripeLong, isStripe, clean, encoded, rebuilt}
+use Rattle.liberation_stripes.specs.Limits.{Sized}
 use Rattle.liberation_stripes.specs.Widened.{widened}
 use Rattle.liberation_stripes.proofs.Widening.{widened-clean, widened-encoded}
 use Rattle.liberation_stripes.proofs.Encoding.{encoded-stripe, encoded-data, encoded-clean, encoded-only}
@@ -27,7 +28,7 @@ use Rattle.encode_stripe.specs.Says.{EncodeSays}
 use Rattle.check_stripe.specs.Says.{CheckSays}
 use Rattle.stripes.proofs.StripeRefusals.{fault-none as within-limits}
 use Rattle.rebuild_one.specs.Says.{OneSays}
-use Rattle.rebuild_one.proofs.OneRefusals.{Fit, fault-none}
+use Rattle.rebuild_one.proofs.OneRefusals.{fault-none}
 
 pub is-stripe : (p k s : ℕ) (t : List ℕ) → length t ≡ stripeLong p k s → allBytes t ≡ true → isStripe p k s t ≡ true
 is-stripe p k s t e b = and-i (eqb (length t) (stripeLong p k s)) (allBytes t) (eq-eqb (length t) (stripeLong p k s) e) b
@@ -49,7 +50,7 @@ pub encodes : (p k s : ℕ) (t t′ : List ℕ) (r : Answer) → EncodeSays p k 
 encodes p k s t t′ r d z =
     let e : stripeFault p k s t ≡ 0 = sym (d .answer .refusal) ∙ z in
     let done : t′ ≡ encoded p k s t = encoded-is p k s t t′ r d z in
-    let ok : isStripe p k s t ≡ true = is-stripe p k s t (within-limits p k s t e .0 .long) (d .bytes) in
+    let ok : isStripe p k s t ≡ true = is-stripe p k s t (within-limits p k s t e .long) (d .bytes) in
     record {
       stripe = ap (isStripe p k s) done ∙ encoded-stripe p k s t ok;
       is-clean = ap (clean p k s) done ∙ encoded-clean p k s t ok;
@@ -64,21 +65,21 @@ checks p k s t r d z = d .clean ∙ ap (λ (n : ℕ). eqb n 0 && clean p k s t) 
 -- Ask 1: cells of absent disks "count as zero". The check says of a stripe what it says of the full one with zeros on the absent disks
 pub absent-checked : (p k s : ℕ) (t : List ℕ) (r q : Checked) → CheckSays p k s t r → r .answer .refusal ≡ 0 → CheckSays p p s (widened p k s t) q → q .answer .refusal ≡ 0 → r .clean ≡ q .clean
 absent-checked p k s t r q d z e y =
-    let a = within-limits p k s t (sym (d .answer .refusal) ∙ z) .0 in
-    checks p k s t r d z ∙ widened-clean p k s t (a .disks) (is-stripe p k s t (a .long) (d .bytes)) ∙ sym (checks p p s (widened p k s t) q e y)
+    let a = within-limits p k s t (sym (d .answer .refusal) ∙ z) in
+    checks p k s t r d z ∙ widened-clean p k s t (a .array .disks) (is-stripe p k s t (a .long) (d .bytes)) ∙ sym (checks p p s (widened p k s t) q e y)
 
 -- and encoding that one leaves the encoded stripe with zeros on the absent disks.
 pub absent-encoded : (p k s : ℕ) (t t′ u′ : List ℕ) (r q : Answer) → EncodeSays p k s t t′ r → r .refusal ≡ 0 → EncodeSays p p s (widened p k s t) u′ q → q .refusal ≡ 0 → u′ ≡ widened p k s t′
 absent-encoded p k s t t′ u′ r q d z e y =
-    let a = within-limits p k s t (sym (d .answer .refusal) ∙ z) .0 in
-    encoded-is p p s (widened p k s t) u′ q e y ∙ widened-encoded p k s t (a .disks) (is-stripe p k s t (a .long) (d .bytes)) ∙ ap (widened p k s) (sym (encoded-is p k s t t′ r d z))
+    let a = within-limits p k s t (sym (d .answer .refusal) ∙ z) in
+    encoded-is p p s (widened p k s t) u′ q e y ∙ widened-encoded p k s t (a .array .disks) (is-stripe p k s t (a .long) (d .bytes)) ∙ ap (widened p k s) (sym (encoded-is p k s t t′ r d z))
 
 -- what an accepted rebuild shows of its arguments
-taken : (p k s f : ℕ) (t o o′ : List ℕ) (r : Answer) → OneSays p k s f t o o′ r → r .refusal ≡ 0 → Fit p k s f (length t) (length o)
-taken p k s f t o o′ r d z = fault-none p k s f (length t) (length o) (sym (d .answer .refusal) ∙ z)
+taken : (p k s f : ℕ) (t o o′ : List ℕ) (r : Answer) → OneSays p k s f t o o′ r → r .refusal ≡ 0 → Sized p k s t × (f ≤ k + 1)
+taken p k s f t o o′ r d z = let q = fault-none p k s f (length o) t (sym (d .answer .refusal) ∙ z) in (q .0, q .1)
 
 stripe-is : (p k s f : ℕ) (t o o′ : List ℕ) (r : Answer) → OneSays p k s f t o o′ r → r .refusal ≡ 0 → isStripe p k s t ≡ true
-stripe-is p k s f t o o′ r d z = is-stripe p k s t (taken p k s f t o o′ r d z .stripe) (d .bytes)
+stripe-is p k s f t o o′ r d z = is-stripe p k s t (taken p k s f t o o′ r d z .0 .long) (d .bytes)
 
 column-is : (p k s f : ℕ) (t o o′ : List ℕ) (r : Answer) → OneSays p k s f t o o′ r → r .refusal ≡ 0 → o′ ≡ rebuilt p k s f t
 column-is p k s f t o o′ r d z = d .column ∙ ap (λ (n : ℕ). pick (eqb n 0) (rebuilt p k s f t) o) (sym (d .answer .refusal) ∙ z)
@@ -89,7 +90,7 @@ pub brings-back :
     → ((x : ℕ) → x < p * (k + 2) → (diskAt p x ≡ f → ⊥) → cellAt s t x ≡ cellAt s u x) → o′ ≡ columnOf p s f u
 brings-back p k s f t u o o′ r v c d z h =
     let a = taken p k s f t o o′ r d z in
-    column-is p k s f t o o′ r d z ∙ one-back p k s f (plan-accepted p k f (a .width) (a .disks) (a .disk)) (omega (arith, a .disk)) t u (stripe-is p k s f t o o′ r d z) v c h
+    column-is p k s f t o o′ r d z ∙ one-back p k s f (plan-accepted p k f (a .0 .array .width) (a .0 .array .disks) (a .1)) (omega (arith, a .1)) t u (stripe-is p k s f t o o′ r d z) v c h
 
 -- "What the stripe holds for the lost disk is never used": two accepted calls on stripes alike off that disk write one column, on dirty stripes too.
 pub never-used :
@@ -98,7 +99,7 @@ pub never-used :
 never-used p k s f t u o o′ n n′ r q d z m y h =
     let a = taken p k s f t o o′ r d z in
     column-is p k s f t o o′ r d z
-    ∙ lost-unused p k s f (plan-accepted p k f (a .width) (a .disks) (a .disk)) (omega (arith, a .disk)) t u (stripe-is p k s f t o o′ r d z) (stripe-is p k s f u n n′ q m y) h
+    ∙ lost-unused p k s f (plan-accepted p k f (a .0 .array .width) (a .0 .array .disks) (a .1)) (omega (arith, a .1)) t u (stripe-is p k s f t o o′ r d z) (stripe-is p k s f u n n′ q m y) h
     ∙ sym (column-is p k s f u n n′ q m y)
 
 -- The last sentence of demand 3: stripes alike in every cell marked 1 in the list that `read_list` writes give one rebuilt disk, dirty stripes too.
@@ -110,5 +111,5 @@ one-column p k s f t u o o′ n n′ l l′ r q a d z m y w e h =
     let i = taken p k s f t o o′ r d z in
     let list : l′ ≡ readList p k f = w .list ∙ ap (λ (x : ℕ). pick (eqb x 0) (readList p k f) l) (sym (w .answer .refusal) ∙ e) in
     column-is p k s f t o o′ r d z
-    ∙ only-read p k s f (plan-accepted p k f (i .width) (i .disks) (i .disk)) (omega (arith, i .disk)) t u (stripe-is p k s f t o o′ r d z) (stripe-is p k s f u n n′ q m y) (λ x g. h x (ap (λ (v : List ℕ). getD v x 0) list ∙ g))
+    ∙ only-read p k s f (plan-accepted p k f (i .0 .array .width) (i .0 .array .disks) (i .1)) (omega (arith, i .1)) t u (stripe-is p k s f t o o′ r d z) (stripe-is p k s f u n n′ q m y) (λ x g. h x (ap (λ (v : List ℕ). getD v x 0) list ∙ g))
     ∙ sym (column-is p k s f u n n′ q m y)

@@ -4,7 +4,7 @@ use mathlib.Core.Path.{_≡_, sym, ap, _∙_}
 use mathlib.Core.Bool.{Bool, true, false, not}
 use mathlib.Core.Logic.{_⊎_, inl, inr, ⊎-elim}
 use mathlib.Core.List.{List}
-use Prim.Native.Nat.{ℕ, _+_, _<_}
+use Prim.Native.Nat.{ℕ, _+_, _*_, _≤_, _<_}
 use native.Mathlib.Omega.{arith}
 use lib.Dec.{eqb}
 use lib.ListN.{length}
@@ -13,12 +13,13 @@ use Rattle.laws.specs.Choice.{pick, when, firstOf}
 use Rattle.laws.proofs.Flags.{flag}
 use Rattle.laws.proofs.ChoiceLaws.{first-is, pick-refused}
 use Rattle.liberation_stripes.specs.Stripes.{columnOf, isStripe, rebuilt}
+use Rattle.liberation_stripes.specs.Limits.{Sized}
 use Rattle.liberation_survivors.specs.Survivors.{withRebuilt, fits}
 use Rattle.liberation_survivors.specs.Explained.{Explains}
 use Rattle.liberation_survivors.proofs.Explaining.{fits-explains, explains-fits, explains-column, none-unfit}
 use Rattle.refusals.specs.declared.Answer.{Answer}
 use Rattle.rebuild_one.specs.Says.{oneFault, OneSays}
-use Rattle.rebuild_one.proofs.OneRefusals.{Fit, fault-none}
+use Rattle.rebuild_one.proofs.OneRefusals.{fault-none}
 use Rattle.rebuild_tested.specs.Says.{testedFault, TestedSays}
 use Rattle.demands.proofs.Stripes.{is-stripe}
 
@@ -44,14 +45,14 @@ module _ (p k s f : ℕ) (t o o′ : List ℕ) (r : Answer) (d : TestedSays p k 
       d .answer .refusal ∙ first-is (oneFault p k s f t o) (when (not (fits p k s f t)) 19) (ne-eqb (oneFault p k s f t o) 0 (λ w. z (e ∙ w))) ∙ sym e
 
   module _ (e : oneFault p k s f t o ≡ 0) where
-    within : Fit p k s f (length t) (length o)
-    within = fault-none p k s f (length t) (length o) e
+    within : Sized p k s t × (f ≤ k + 1) × (length o ≡ p * s)
+    within = fault-none p k s f (length o) t e
 
     ok : isStripe p k s t ≡ true
-    ok = is-stripe p k s t (within .stripe) (d .bytes)
+    ok = is-stripe p k s t (within .0 .long) (d .bytes)
 
     below : f < k + 2
-    below = omega (arith, within .disk)
+    below = omega (arith, within .1)
 
     fault-is : (b : Bool) → fits p k s f t ≡ b → testedFault p k s f t o ≡ when (not b) 19
     fault-is b q = ap (λ (n : ℕ). firstOf n (when (not (fits p k s f t)) 19)) e ∙ ap (λ (c : Bool). when (not c) 19) q
@@ -60,18 +61,18 @@ module _ (p k s f : ℕ) (t o o′ : List ℕ) (r : Answer) (d : TestedSays p k 
     answer-is b q = d .answer .refusal ∙ fault-is b q
 
     fit : (u : List ℕ) → Explains p k s f t u → fits p k s f t ≡ true
-    fit u x = explains-fits p k s f (within .width) (within .disks) below t ok u x
+    fit u x = explains-fits p k s f (within .0 .array .width) (within .0 .array .disks) below t ok u x
 
     tested-so : Tested p k s f t o o′ r
     tested-so =
         record {
           says-none = λ h u x. omega (arith, answer-is true (fit u x), h);
-          if-none = λ n. answer-is false (none-unfit p k s f (within .width) (within .disks) below t ok n);
+          if-none = λ n. answer-is false (none-unfit p k s f (within .0 .array .width) (within .0 .array .disks) below t ok n);
           either = ⊎-elim (λ q. inl (answer-is true q)) (λ q. inr (answer-is false q)) (flag (fits p k s f t));
-          some = λ h. ⊎-elim (λ q. (withRebuilt p k s f t, fits-explains p k s f (within .width) (within .disks) below t ok q)) (λ q. absurd (omega (arith, answer-is false q, h))) (flag (fits p k s f t));
+          some = λ h. ⊎-elim (λ q. (withRebuilt p k s f t, fits-explains p k s f (within .0 .array .width) (within .0 .array .disks) below t ok q)) (λ q. absurd (omega (arith, answer-is false q, h))) (flag (fits p k s f t));
           writes = λ u x. (
             answer-is true (fit u x),
-            d .column ∙ ap (λ (n : ℕ). pick (eqb n 0) (rebuilt p k s f t) o) (fault-is true (fit u x)) ∙ sym (explains-column p k s f (within .width) (within .disks) below t ok u x),
+            d .column ∙ ap (λ (n : ℕ). pick (eqb n 0) (rebuilt p k s f t) o) (fault-is true (fit u x)) ∙ sym (explains-column p k s f (within .0 .array .width) (within .0 .array .disks) below t ok u x),
           );
         }
 

@@ -60,7 +60,7 @@ module _ {n p k f : ℕ} {ss : List Step} {o o′ : List ℕ} {r : Written} (w :
   plain-written : planFault p k f ≡ 0 → length o ≡ 263 → length ss ≡ p → PlainWritten p k f ss o o′ r
   plain-written q m l =
       let a = long-enough l in
-      let v = plan-of p k f q .0 in
+      let v = plan-of p k f q .0 .width in
       let s : r .length ≡ length (plain ss) = w .size ∙ sym (pick-done (allFaults n p k f ss) (length (plain ss)) 0 (sym (w .refusal) ∙ z)) in
       let most = accepted-most p k f v ss a in
       record {
@@ -100,7 +100,7 @@ text-written p k f t o o′ r w z =
 -- What was written, read again.
 module _ {p k f : ℕ} {ss : List Step} {o o′ : List ℕ} {r : Written} (w : PlainWritten p k f ss o o′ r) where
   width : isWidth p ≡ true
-  width = plan-of p k f (w .numbers) .0
+  width = plan-of p k f (w .numbers) .0 .width
 
   -- the plain form is readable, and gives the steps back
   pub read-back : (readable p (take (r .length) o′) ≡ true) × (stepsRead p (take (r .length) o′) ≡ ss)

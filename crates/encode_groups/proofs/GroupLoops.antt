@@ -13,17 +13,14 @@ use Rattle.liberation_stripes.specs.Stripes.{cellAt, encoded}
 use Rattle.liberation_stripes.proofs.Solving.{stripe-of, clean-of}
 use Rattle.liberation_stripes.proofs.Encoding.{encoded-only}
 use Rattle.set_offsets.specs.Cells.{parityDisk}
-use Rattle.stripes.specs.Cells.{Sized}
+use Rattle.liberation_stripes.proofs.SizedLaws.{sized-kept}
 use Rattle.group_sets.specs.Groups.{parityCell, groupSum, addedSet, Group}
 use Rattle.encode_groups.specs.Added.{KindAdded, SetsAdded}
 use Rattle.encode_groups.proofs.GroupSums.{DataSame, parity-apart, sum-same, added-cell, added-other, added-data, sumBelow, sum-more, sum-clean}
 
 -- a stripe and a list of the same lengths do as well
 pub still-group : {p k s lo hi : ℕ} {t at : List ℕ} (u ats : List ℕ) → Group p k s lo hi t at → length u ≡ length t → length ats ≡ length at → Group p k s lo hi u ats
-still-group u ats q e l = record { sized = record { widest = q .sized .widest; disks = q .sized .disks; small = q .sized .small; long = e ∙ q .sized .long }; ordered = q .ordered; last = q .last; room = l ∙ q .room }
-
-pub sized-long : (p k s : ℕ) (t : List ℕ) → Sized p k s t → length t ≡ p * (k + 2) * s
-sized-long p k s t q = q .long ∙ omega arith
+still-group u ats q e l = record { sized = sized-kept _ _ _ _ u (q .sized) e; ordered = q .ordered; last = q .last; room = l ∙ q .room }
 
 -- parity cells of one kind
 row-differs : (p d i j : ℕ) → (i ≡ j → ⊥) → place p i d ≡ place p j d → ⊥

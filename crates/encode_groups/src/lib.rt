@@ -2,7 +2,7 @@
 ghost use mathlib.Core.Path.{_≡_};
 ghost use Prim.Native.Nat.{_+_, _≤_, _<_};
 ghost use Rattle.liberation_stripes.specs.Stripes.{encoded};
-ghost use Rattle.stripes.specs.Cells.{Sized};
+ghost use Rattle.liberation_stripes.specs.Limits.{Sized};
 ghost use Rattle.group_sets.specs.Groups.{Group};
 ghost use Rattle.encode_groups.specs.Added.{SetsAdded};
 
@@ -40,7 +40,7 @@ fn add_group(
     stripe: &mut [u8],
     at: &mut [usize],
 )
-    requires { ⌜ Group width disks size lo hi (now stripe) (now at) × (0 < width) ⌝ }
+    requires { ⌜ Group width disks size lo hi (now stripe) (now at) ⌝ }
     ensures { λ _. ⌜ SetsAdded width disks size lo hi 0 0 width (now (stripe .entry)) (now (stripe .exit)) ⌝ }
 {
     let first = (lo + 2) % width;
@@ -65,7 +65,7 @@ fn group_end(lo: usize, disks: usize) -> usize
 
 // Writes P and Q of a stripe, group by group.
 pub fn encode_groups(width: usize, disks: usize, size: usize, stripe: &mut [u8])
-    requires { ⌜ Sized width disks size (now stripe) × (0 < width) × (0 < disks) ⌝ }
+    requires { ⌜ Sized width disks size (now stripe) ⌝ }
     ensures { λ _. ⌜ now (stripe .exit) ≡ encoded width disks size (now (stripe .entry)) ⌝ }
 {
     let mut at = offsets::no_offsets();

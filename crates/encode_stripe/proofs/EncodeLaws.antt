@@ -1,29 +1,19 @@
--- Encoding past the refusals: the stripe is within the limits, P by the row sets and then Q by the diagonal sets is the encoded stripe, and the promise from what was refused or done.
+-- Encoding past the refusals: P by the row sets and then Q by the diagonal sets is the encoded stripe, and the promise from what was refused or done.
 use mathlib.Core.Path.{_≡_, sym, ap₂, _∙_}
 use mathlib.Core.Bool.{true}
 use mathlib.Core.List.{List}
-use Prim.Native.Nat.{ℕ, suc, _+_, _<_}
+use Prim.Native.Nat.{ℕ, suc, _+_}
 use native.Mathlib.Omega.{arith}
 use Rattle.laws.specs.Xor.{allBytes}
-use Rattle.laws.proofs.ChoiceLaws.{first-none, pick-refused, pick-done}
-use Rattle.liberation.specs.Sets.{longFault, shapeFault}
+use Rattle.laws.proofs.ChoiceLaws.{pick-refused, pick-done}
 use Rattle.liberation.specs.Plans.{Step, allOf}
-use Rattle.liberation.proofs.FaultLaws.{shape-of}
 use Rattle.liberation.proofs.ParityPlans.{plan-row-parity, plan-diagonal-parity}
-use Rattle.liberation_stripes.specs.Stripes.{stripeLong, encoded, followed}
+use Rattle.liberation_stripes.specs.Stripes.{encoded, followed}
 use Rattle.refusals.specs.declared.Answer.{Answer}
 use Rattle.refusals.specs.Answers.{Answers}
 use Rattle.refusals.proofs.AnswerLaws.{answers-as}
-use Rattle.stripes.specs.Cells.{Sized}
 use Rattle.stripes.specs.Says.{stripeFault}
-use Rattle.stripes.proofs.StripeRefusals.{fault-none}
 use Rattle.encode_stripe.specs.Says.{EncodeSays}
-
--- no refusal: the stripe is within the limits, and has rows and data disks
-pub within : (p k s : ℕ) (t : List ℕ) → stripeFault p k s t ≡ 0 → Sized p k s t × (0 < p) × (0 < k)
-within p k s t e =
-    let q = fault-none p k s t e in
-    (q .0, q .1, omega (arith, shape-of p k s (first-none (shapeFault p k s) (longFault (stripeLong p k s) t) e .0) .3))
 
 -- P by the row sets, then Q by the diagonal sets
 pub both-kinds : (p k s : ℕ) (t u v : List ℕ) → u ≡ followed p k s k (allOf p 0 0) t → v ≡ followed p k s (k + 1) (allOf p 1 0) u → v ≡ encoded p k s t

@@ -1,10 +1,9 @@
 // Encoding a stripe, which writes P and Q: by groups of data disks where that is faster, else P as one run of bytes and Q diagonal by diagonal.
 ghost use mathlib.Core.Path.{_≡_};
 ghost use mathlib.Core.Bool.{_&&_};
-ghost use Prim.Native.Nat.{_<_};
 ghost use lib.Dec.{leb};
 ghost use Rattle.liberation_stripes.specs.Stripes.{encoded};
-ghost use Rattle.stripes.specs.Cells.{Sized};
+ghost use Rattle.liberation_stripes.specs.Limits.{Sized};
 ghost use Rattle.encode_stripe.specs.Says.{EncodeSays};
 use refusals::Answer;
 use refusals::Shape;
@@ -21,7 +20,7 @@ fn by_groups(disks: usize, size: usize) -> bool
 
 // Writes P and Q of a stripe within the limits.
 fn write_parity(width: usize, disks: usize, size: usize, stripe: &mut [u8])
-    requires { ⌜ Sized width disks size (now stripe) × (0 < width) × (0 < disks) ⌝ }
+    requires { ⌜ Sized width disks size (now stripe) ⌝ }
     ensures { λ _. ⌜ now (stripe .exit) ≡ encoded width disks size (now (stripe .entry)) ⌝ }
 {
     if by_groups(disks, size) {

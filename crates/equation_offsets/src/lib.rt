@@ -2,10 +2,10 @@
 ghost use mathlib.Core.Path.{_≡_};
 ghost use Prim.Native.Nat.{_+_, _≤_, _<_};
 ghost use lib.ListN.{length};
+ghost use Rattle.liberation.specs.Limits.{InArray};
 ghost use Rattle.liberation.specs.Sets.{setOf, diagonalSet, lostIn, survivingIn};
 ghost use Rattle.liberation_survivors.specs.Survivors.{rowSets, equation};
 ghost use Rattle.offsets.specs.Offsets.{scaled, Pushed};
-ghost use Rattle.equation_offsets.specs.Lists.{Listed};
 
 // A list with room for the cells of any three sets.
 pub fn no_offsets() -> [usize; 99]
@@ -25,7 +25,7 @@ fn push_set(
     at: &mut [usize],
     count: usize,
 ) -> usize
-    requires { ⌜ Listed width disks size disk number (length (now at)) × (count ≤ 66) ⌝ }
+    requires { ⌜ InArray width disks × (size ≤ 4096) × (number < width) × (length (now at) ≡ 99) × (disk < disks + 2) × (count ≤ 66) ⌝ }
     ensures { λ r. ⌜ Pushed (now (at .entry)) (now (at .exit)) count r (scaled size (survivingIn width disk (setOf width disks kind number))) × (r ≤ count + 33) ⌝ }
 {
     let end = count + 33;
@@ -52,7 +52,7 @@ fn push_rows(
     at: &mut [usize],
     count: usize,
 ) -> usize
-    requires { ⌜ Listed width disks size disk number (length (now at)) × (disk < disks) × (count ≤ 33) ⌝ }
+    requires { ⌜ InArray width disks × (size ≤ 4096) × (number < width) × (length (now at) ≡ 99) × (disk < disks) × (count ≤ 33) ⌝ }
     ensures { λ r. ⌜ Pushed (now (at .entry)) (now (at .exit)) count r (scaled size (survivingIn width disk (rowSets width disks (lostIn width disk (diagonalSet width disks number))))) ⌝ }
 {
     let row = offsets::row_on(width, number, disk);
@@ -75,7 +75,7 @@ pub fn push_equation(
     number: usize,
     at: &mut [usize],
 ) -> usize
-    requires { ⌜ Listed width disks size disk number (length (now at)) ⌝ }
+    requires { ⌜ InArray width disks × (size ≤ 4096) × (number < width) × (length (now at) ≡ 99) × (disk < disks + 2) ⌝ }
     ensures { λ r. ⌜ Pushed (now (at .entry)) (now (at .exit)) 0 r (scaled size (survivingIn width disk (equation width disks disk number))) ⌝ }
 {
     if disk == disks + 1 {

@@ -9,7 +9,7 @@ use Rattle.liberation.specs.Sets.{place, extraDisk}
 use Rattle.liberation_stripes.specs.Stripes.{cellAt, withCell, xorOver}
 use Rattle.offsets.specs.Offsets.{cellsFrom}
 use Rattle.set_offsets.specs.Cells.{parityDisk, extraIn}
-use Rattle.stripes.specs.Cells.{Sized}
+use Rattle.liberation_stripes.specs.Limits.{Sized}
 
 -- a set's extra cell, if it has one on disks lo to hi - 1
 abbrev pub extraBetween : ℕ → ℕ → ℕ → ℕ → ℕ → List ℕ

@@ -9,7 +9,8 @@ use borrow.Author.Tests.{eqb-true, eq-eqb}
 use Rattle.laws.specs.Choice.{pick, firstOf}
 use Rattle.laws.proofs.ChoiceLaws.{first-none}
 use Rattle.laws.proofs.Flags.{and-i, and-r}
-use Rattle.liberation.specs.Sets.{isWidth, planFault, longFault}
+use Rattle.liberation.specs.Limits.{InArray}
+use Rattle.liberation.specs.Sets.{planFault, longFault}
 use Rattle.liberation.specs.Plans.{readCount}
 use Rattle.liberation.specs.Judging.{judge, stepsIn, accepted}
 use Rattle.liberation.proofs.FaultLaws.{plan-of, plan-none, long-accepted, long-of}
@@ -18,9 +19,7 @@ use Rattle.judge.specs.Says.{formFault, JudgeSays}
 
 -- the bytes bs are an accepted plan for lost disk f
 pub record Acceptable (p k f : ℕ) (bs : List ℕ) : Type 0 where
-  pub width : isWidth p ≡ true
-  pub least : 2 ≤ k
-  pub most : k ≤ p
+  pub array : InArray p k
   pub disk : f ≤ k + 1
   pub long : length bs ≡ 3 * p
   pub accepts : accepted p k f (stepsIn p bs) ≡ true
@@ -35,9 +34,7 @@ pub zero-accepts : (p k f : ℕ) (bs : List ℕ) (r : Judged) → JudgeSays p k 
 unfolding accepted
 zero-accepts p k f bs r s e =
     record {
-      width = numbers .0;
-      least = numbers .2;
-      most = numbers .3;
+      array = numbers .0;
       disk = numbers .1;
       long = long-of (3 * p) bs (form .1);
       accepts = and-i (eqb (length (stepsIn p bs)) p) (eqb (judge p k f (stepsIn p bs) .number) 0) (eq-eqb (length (stepsIn p bs)) p (steps-long p bs)) (eq-eqb (judge p k f (stepsIn p bs) .number) 0 (all .1));
@@ -49,7 +46,7 @@ zero-accepts p k f bs r s e =
     form : (planFault p k f ≡ 0) × (longFault (3 * p) bs ≡ 0)
     form = first-none (planFault p k f) (longFault (3 * p) bs) (all .0)
 
-    numbers : (isWidth p ≡ true) × (f ≤ k + 1) × (2 ≤ k) × (k ≤ p)
+    numbers : InArray p k × (f ≤ k + 1)
     numbers = plan-of p k f (form .0)
 
 pub accepts-zero : (p k f : ℕ) (bs : List ℕ) (r : Judged) → JudgeSays p k f bs r → Acceptable p k f bs → r .answer .refusal ≡ 0
@@ -57,7 +54,7 @@ unfolding accepted
 accepts-zero p k f bs r s a = s .refusal ∙ ap₂ firstOf form steps
   where
     form : formFault p k f bs ≡ 0
-    form = ap₂ firstOf (plan-none p k f (a .width) (a .least) (a .most) (a .disk)) (long-accepted (3 * p) bs (a .long))
+    form = ap₂ firstOf (plan-none p k f (a .array) (a .disk)) (long-accepted (3 * p) bs (a .long))
 
     steps : judge p k f (stepsIn p bs) .number ≡ 0
     steps = eqb-true (judge p k f (stepsIn p bs) .number) 0 (and-r (eqb (length (stepsIn p bs)) p) (eqb (judge p k f (stepsIn p bs) .number) 0) (a .accepts))

@@ -2,13 +2,13 @@
 ghost use mathlib.Core.Path.{_≡_};
 ghost use mathlib.Core.Bool.{not};
 ghost use mathlib.Core.List.{[]};
-ghost use Prim.Native.Nat.{_+_, _*_};
+ghost use Prim.Native.Nat.{_+_, _*_, _≤_};
 ghost use lib.Dec.{eqb};
 ghost use lib.ListN.{length};
 ghost use Rattle.laws.specs.Choice.{firstOf, when};
+ghost use Rattle.liberation.specs.Limits.{InArray};
 ghost use Rattle.liberation.specs.Sets.{planFault};
 ghost use Rattle.liberation.specs.Plans.{marksFrom};
-ghost use Rattle.judge_step.specs.Limits.{InArray};
 ghost use Rattle.judge.specs.Says.{JudgeSays, StepsSay};
 use refusals::Answer;
 
@@ -28,7 +28,7 @@ pub fn wide(byte: u8) -> usize
 
 // Judges the steps in order. `marks` has a byte a cell, none marked, and collects the cells that the steps read.
 fn judge_steps(width: usize, disks: usize, lost: usize, plan: &[u8], marks: &mut [u8]) -> Judged
-    requires { ⌜ InArray width disks lost ⌝ }
+    requires { ⌜ InArray width disks × (lost ≤ disks + 1) ⌝ }
     requires { ⌜ length (now plan) ≡ 3 * width ⌝ }
     requires { ⌜ now marks ≡ marksFrom (width * (disks + 2)) 0 [] ⌝ }
     ensures { λ r. ⌜ StepsSay width disks lost (now (plan .entry)) r ⌝ }

@@ -2,12 +2,12 @@
 ghost use mathlib.Core.Path.{_≡_};
 ghost use mathlib.Core.Bool.{not};
 ghost use mathlib.Core.List.{List, [], _∷_};
-ghost use Prim.Native.Nat.{ℕ, _<_};
+ghost use Prim.Native.Nat.{ℕ, _+_, _≤_, _<_};
 ghost use Rattle.laws.specs.Lists.{isIn};
+ghost use Rattle.liberation.specs.Limits.{InArray};
 ghost use Rattle.liberation.specs.Sets.{setOf, lostIn};
 ghost use Rattle.liberation.specs.Plans.{step, marksFrom};
 ghost use Rattle.liberation.specs.Judging.{othersThere, stepFault};
-ghost use Rattle.judge_step.specs.Limits.{InArray};
 
 // Does a set hold the cell of this row on the lost disk?
 fn holds_row(
@@ -18,7 +18,7 @@ fn holds_row(
     kind: usize,
     number: usize,
 ) -> bool
-    requires { ⌜ InArray width disks lost ⌝ }
+    requires { ⌜ InArray width disks × (lost ≤ disks + 1) ⌝ }
     requires { ⌜ (row < width) × (number < width) ⌝ }
     ensures { λ r. ⌜ r ≡ isIn row (lostIn width lost (setOf width disks kind number)) ⌝ }
 {
@@ -43,7 +43,7 @@ fn is_missing(
     cell: usize,
     done: [u8; 31],
 ) -> bool
-    requires { ⌜ InArray width disks lost ⌝ }
+    requires { ⌜ InArray width disks ⌝ }
     ensures { λ r. ⌜ ((ds : List ℕ) → done ≡ marksFrom 31 0 ds → not r ≡ othersThere row (lostIn width lost (cell ∷ [])) ds) ⌝ }
 {
     if cell / width != lost {
@@ -66,8 +66,7 @@ fn others_there(
     number: usize,
     done: [u8; 31],
 ) -> bool
-    requires { ⌜ InArray width disks lost ⌝ }
-    requires { ⌜ number < width ⌝ }
+    requires { ⌜ InArray width disks × (number < width) ⌝ }
     ensures { λ r. ⌜ ((ds : List ℕ) → done ≡ marksFrom 31 0 ds → r ≡ othersThere row (lostIn width lost (setOf width disks kind number)) ds) ⌝ }
 {
     let size = sets::set_size(width, disks, kind, number);
@@ -92,7 +91,7 @@ pub fn step_fault(
     number: usize,
     done: [u8; 31],
 ) -> u8
-    requires { ⌜ InArray width disks lost ⌝ }
+    requires { ⌜ InArray width disks × (lost ≤ disks + 1) ⌝ }
     ensures { λ r. ⌜ ((ds : List ℕ) → done ≡ marksFrom 31 0 ds → r ≡ stepFault width disks lost ds (step row kind number)) ⌝ }
 {
     if width <= row {

@@ -101,11 +101,9 @@ module _ (p k s m : ℕ) (ts : List ℕ) where
         y .0,
         λ e.
             record {
-              width = q .0;
+              array = q .0;
               some = q .1;
               small = q .2;
-              least = q .3;
-              most = q .4;
               few = count-of m e .0;
               many = count-of m e .1;
               long = long-of (serversLong p k s m) ts (y .1);

@@ -47,7 +47,7 @@ module _ (p k s m j : ℕ) (ls ts : List ℕ) (bytes : allBytes ts ≡ true) (ac
   all = servers-of p k s m ts (given .long) bytes
 
   mends-at : (i : ℕ) → i < suc m → (i ≡ j → ⊥) → Mends p k s (firstLoss ls i) (secondLoss ls i) (mended p k s (firstLoss ls i) (secondLoss ls i))
-  mends-at i l a = mends p k s (given .width) (given .most) (firstLoss ls i) (secondLoss ls i) (losses-of k (firstLoss ls i) (secondLoss ls i) (losses .pairs i l a))
+  mends-at i l a = mends p k s (given .array .width) (given .array .disks) (firstLoss ls i) (secondLoss ls i) (losses-of k (firstLoss ls i) (secondLoss ls i) (losses .pairs i l a))
 
   keeps : (i : ℕ) → i < suc m → (i ≡ j → ⊥) → (t : List ℕ) → isStripe p k s t ≡ true → isStripe p k s (mended p k s (firstLoss ls i) (secondLoss ls i) t) ≡ true
   keeps i l a = mends-at i l a .stripe

@@ -4,7 +4,8 @@ use mathlib.Core.Bool.{true}
 use mathlib.Core.List.{List}
 use Prim.Native.Nat.{ℕ, suc, _+_, _*_, _≤_, _<_}
 use lib.ListN.{length}
-use Rattle.liberation.specs.Sets.{isWidth, diskAt}
+use Rattle.liberation.specs.Limits.{InArray}
+use Rattle.liberation.specs.Sets.{diskAt}
 use Rattle.liberation_stripes.specs.Stripes.{cellAt, xorOver, stripeLong, clean}
 use Rattle.liberation_servers.specs.Servers.{upTo, serverAt, serversLong, isServers, firstLoss, secondLoss, pairFault}
 
@@ -23,11 +24,9 @@ AlikeOff p k s m j ls ts us =
 
 -- what a call that is not refused was given: numbers within their limits, slices as long as required; for a rebuild a server, and losses with no refusal of their own
 pub record Given (p k s m : ℕ) (ts : List ℕ) : Type 0 where
-  pub width : isWidth p ≡ true
+  pub array : InArray p k
   pub some : 0 < s
   pub small : s ≤ 4096
-  pub least : 2 ≤ k
-  pub most : k ≤ p
   pub few : 2 ≤ m
   pub many : m ≤ 16
   pub long : length ts ≡ serversLong p k s m

@@ -2,7 +2,7 @@
 use mathlib.Core.Path.{_≡_, sym, ap, ap₂, _∙_}
 use mathlib.Core.Bool.{Bool, true, false}
 use mathlib.Core.List.{List}
-use Prim.Native.Nat.{ℕ, _+_, _-_, _/_, _≤_, _<_}
+use Prim.Native.Nat.{ℕ, _+_, _-_, _/_, _%_, _≤_, _<_}
 use native.Mathlib.Numerals.{add-one}
 use native.Mathlib.Omega.{arith}
 use lib.Dec.{eqb, leb}
@@ -10,6 +10,7 @@ use borrow.Author.Tests.{leb-true, lt-ltb, le-ltb, eq-eqb, ne-eqb}
 use Rattle.laws.specs.Choice.{pick}
 use Rattle.laws.specs.Xor.{allBytes}
 use Rattle.laws.proofs.Flags.{and-l}
+use Rattle.laws.proofs.Primes.{Prime}
 use Rattle.liberation.specs.Sets.{isWidth}
 use Rattle.liberation.specs.Plans.{allOf}
 use Rattle.liberation.proofs.Widths.{width-prime, width-odd}
@@ -19,7 +20,7 @@ use Rattle.liberation_pairs.specs.Pairs.{walked, comesToOne, forward, dataSolve
 use Rattle.liberation_pairs.proofs.Roles.{roles-forward, roles-backward}
 use Rattle.liberation_sums.specs.Sums.{sumWalked}
 use Rattle.liberation_sums.proofs.Summing.{sums-walk}
-use Rattle.stripes.specs.Cells.{Sized}
+use Rattle.liberation_stripes.specs.Limits.{Sized}
 use Rattle.pair_start.specs.Disks.{Walked}
 
 -- a disk and a parity disk, one after the other
@@ -44,22 +45,28 @@ module _ (p k s a b : ℕ) (t u : List ℕ) where
       data-back f e q (w ∙ ap (λ (y : ℕ). walked p k s b y t) z)
 
   -- the same from sums, to a disk that is not disk 0
-  module _ (width : isWidth p ≡ true) (sized : Sized p k s t) (bytes : allBytes t ≡ true) (less : a < b) (below : b < k) where
+  module _ (sized : Sized p k s t) (bytes : allBytes t ≡ true) (less : a < b) (below : b < k) where
     stripe : isStripe p k s t ≡ true
     stripe = stripe-of p k s t (sized .long ∙ omega arith) bytes
 
     within : b < p
-    within = omega (arith, sized .disks)
+    within = omega (arith, sized .array .disks)
+
+    prime : Prime p
+    prime = width-prime p (sized .array .width)
+
+    odd : p % 2 ≡ 1
+    odd = width-odd p (sized .array .width)
 
     pub sums-forward : (f : Bool) → f ≡ forward p a b → f ≡ true → u ≡ sumWalked p k s a b t → u ≡ dataSolved p k s a b t
     sums-forward f e q w =
-        let g = roles-forward p a b (width-prime p width) (width-odd p width) less within (sym e ∙ q) in
-        data-forward f e q (w ∙ sym (sums-walk p k s a b (width-prime p width) (width-odd p width) (sized .disks) g (omega arith) below (omega arith) t stripe))
+        let g = roles-forward p a b prime odd less within (sym e ∙ q) in
+        data-forward f e q (w ∙ sym (sums-walk p k s a b prime odd (sized .array .disks) g (omega arith) below (omega arith) t stripe))
 
     pub sums-back : (f : Bool) → f ≡ forward p a b → f ≡ false → 0 < a → u ≡ sumWalked p k s b a t → u ≡ dataSolved p k s a b t
     sums-back f e q low w =
-        let g = roles-backward p a b (width-prime p width) (width-odd p width) less within (sym e ∙ q) in
-        data-back f e q (w ∙ sym (sums-walk p k s b a (width-prime p width) (width-odd p width) (sized .disks) g below (omega arith) low t stripe))
+        let g = roles-backward p a b prime odd less within (sym e ∙ q) in
+        data-back f e q (w ∙ sym (sums-walk p k s b a prime odd (sized .array .disks) g below (omega arith) low t stripe))
 
   -- which disks are lost
   pub ordered-data : b < k → u ≡ dataSolved p k s a b t → u ≡ orderedSolved p k s a b t

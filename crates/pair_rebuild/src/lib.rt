@@ -1,11 +1,9 @@
 // Two lost disks of a stripe within its limits, rebuilt in place: document 01, "Two lost disks". Two data disks by the walk, in the order in which it goes through; a parity disk and another one disk after the other.
 ghost use mathlib.Core.Path.{_≡_};
-ghost use mathlib.Core.Bool.{true};
 ghost use Prim.Native.Nat.{_+_, _-_, _/_, _≤_, _<_};
-ghost use Rattle.liberation.specs.Sets.{isWidth};
 ghost use Rattle.liberation_stripes.specs.Stripes.{followed};
 ghost use Rattle.liberation_pairs.specs.Pairs.{comesToOne, forward, dataSolved, upDiagonals, withRowParity, withDiagonalParity, orderedSolved, pairSolved};
-ghost use Rattle.stripes.specs.Cells.{Sized};
+ghost use Rattle.liberation_stripes.specs.Limits.{Sized};
 
 // All cells of a data disk, rows upward, each by the diagonal set on which it is ordinary.
 fn up_diagonals(width: usize, disks: usize, size: usize, disk: usize, stripe: &mut [u8])
@@ -62,7 +60,7 @@ fn with_row_parity(width: usize, disks: usize, size: usize, disk: usize, stripe:
 // A data disk, or P, and Q: the disk by the row sets, then Q by the diagonal sets.
 fn with_diagonal_parity(width: usize, disks: usize, size: usize, disk: usize, stripe: &mut [u8])
     requires { ⌜ Sized width disks size (now stripe) ⌝ }
-    requires { ⌜ (0 < width) × (disk ≤ disks) ⌝ }
+    requires { ⌜ disk ≤ disks ⌝ }
     ensures { λ _. ⌜ now (stripe .exit) ≡ withDiagonalParity width disks size disk (now (stripe .entry)) ⌝ }
 {
     stripes::solve_rows(width, disks, size, disk, stripe);
@@ -72,7 +70,7 @@ fn with_diagonal_parity(width: usize, disks: usize, size: usize, disk: usize, st
 // Two data disks a < b, walked in the order in which the walk goes through: from sums, or to disk 0 from the first cell alone.
 fn solve_data(width: usize, disks: usize, size: usize, a: usize, b: usize, stripe: &mut [u8])
     requires { ⌜ Sized width disks size (now stripe) ⌝ }
-    requires { ⌜ (isWidth width ≡ true) × (a < b) × (b < disks) ⌝ }
+    requires { ⌜ (a < b) × (b < disks) ⌝ }
     ensures { λ _. ⌜ now (stripe .exit) ≡ dataSolved width disks size a b (now (stripe .entry)) ⌝ }
 {
     if goes_forward(width, a, b) {
@@ -90,7 +88,7 @@ fn solve_data(width: usize, disks: usize, size: usize, a: usize, b: usize, strip
 // Two disks a < b: two data disks, a data disk and P, or Q and another.
 fn solve_ordered(width: usize, disks: usize, size: usize, a: usize, b: usize, stripe: &mut [u8])
     requires { ⌜ Sized width disks size (now stripe) ⌝ }
-    requires { ⌜ (isWidth width ≡ true) × (a < b) × (b ≤ disks + 1) ⌝ }
+    requires { ⌜ (a < b) × (b ≤ disks + 1) ⌝ }
     ensures { λ _. ⌜ now (stripe .exit) ≡ orderedSolved width disks size a b (now (stripe .entry)) ⌝ }
 {
     if b < disks {
@@ -114,7 +112,7 @@ pub fn solve_pair(
     stripe: &mut [u8],
 )
     requires { ⌜ Sized width disks size (now stripe) ⌝ }
-    requires { ⌜ (isWidth width ≡ true) × (first ≤ disks + 1) × (second ≤ disks + 1) × (first ≡ second → ⊥) ⌝ }
+    requires { ⌜ (first ≤ disks + 1) × (second ≤ disks + 1) × (first ≡ second → ⊥) ⌝ }
     ensures { λ _. ⌜ now (stripe .exit) ≡ pairSolved width disks size first second (now (stripe .entry)) ⌝ }
 {
     if first < second {

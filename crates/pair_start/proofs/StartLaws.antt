@@ -24,7 +24,7 @@ use Rattle.odd.specs.Toggled.{isOdd, oddFrom, toggledAll}
 use Rattle.odd.specs.Listed.{Marked}
 use Rattle.odd.proofs.OddLaws.{odd-offsets}
 use Rattle.set_offsets.specs.Cells.{survivors}
-use Rattle.stripes.specs.Cells.{Sized}
+use Rattle.liberation_stripes.specs.Limits.{Sized}
 use Rattle.pair_numbers.proofs.NumberLaws.{extra-below}
 use Rattle.pair_start.specs.Disks.{Walked}
 use Rattle.pair_start.proofs.ToggleLaws.{toggled-long, toggled-other}

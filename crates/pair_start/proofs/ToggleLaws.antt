@@ -20,7 +20,6 @@ use Rattle.offsets.specs.Offsets.{scaled, Pushed}
 use Rattle.odd.specs.Toggled.{toggled, toggledAll}
 use Rattle.set_offsets.specs.Cells.{survivors}
 use Rattle.set_offsets.proofs.SetLists.{survivors-none, survivors-append, survivors-swap}
-use Rattle.pair_start.specs.Disks.{Toggling}
 
 toggled-append : (xs ys ms : List ℕ) → toggledAll (xs ++ ys) ms ≡ toggledAll ys (toggledAll xs ms)
 unfolding toggledAll
@@ -51,10 +50,6 @@ set-places p x xs u = u .list ∙ scaled-one (survivors p 0 x xs) ∙ survivors-
 -- they have marks
 pub places-marked : (n : ℕ) (at xs : List ℕ) → at ≡ xs → allBelow n xs ≡ true → (i : ℕ) → i < length at → getD at i 0 < n
 places-marked n at xs e b = subst (λ (l : List ℕ). (i : ℕ) → i < length l → getD l i 0 < n) (sym e) (λ i h. below-at n i xs b h)
-
--- marks and a list that are as long
-pub still-toggling : {p k x : ℕ} {ms₀ at₀ : List ℕ} (ms at : List ℕ) → Toggling p k x ms₀ at₀ → length ms ≡ length ms₀ → length at ≡ length at₀ → Toggling p k x ms at
-still-toggling ms at q e f = record { widest = q .widest; disks = q .disks; one = q .one; marks = e ∙ q .marks; room = f ∙ q .room }
 
 -- the loop over the rows of the start: the row that is next is the diagonal's number
 module _ (p k x : ℕ) where

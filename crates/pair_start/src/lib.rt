@@ -1,12 +1,14 @@
 // The first cell of the walk to disk 0 over two lost data disks: document 01, "Two lost disks". Marks are toggled along all sets together, and the cells that occur an odd number of times are gathered.
 ghost use mathlib.Core.Path.{_≡_};
-ghost use Prim.Native.Nat.{_<_};
+ghost use Prim.Native.Nat.{_+_, _*_, _<_};
+ghost use lib.ListN.{length};
+ghost use Rattle.liberation.specs.Limits.{InArray};
 ghost use Rattle.liberation.specs.Sets.{setOf};
 ghost use Rattle.liberation_pairs.specs.Pairs.{startSets, started};
 ghost use Rattle.odd.specs.Toggled.{toggledAll};
 ghost use Rattle.set_offsets.specs.Cells.{survivors};
-ghost use Rattle.stripes.specs.Cells.{Sized};
-ghost use Rattle.pair_start.specs.Disks.{Toggling, Walked};
+ghost use Rattle.liberation_stripes.specs.Limits.{Sized};
+ghost use Rattle.pair_start.specs.Disks.{Walked};
 
 // The marks of a set's cells on neither disk x nor disk 0 are toggled. Cells of one byte have their places as offsets.
 fn toggle_set(
@@ -18,7 +20,7 @@ fn toggle_set(
     marks: &mut [u8],
     at: &mut [usize],
 )
-    requires { ⌜ Toggling width disks x (now marks) (now at) × (number < width) ⌝ }
+    requires { ⌜ InArray width disks × (number < width) × (x < disks) × (length (now marks) ≡ width * (disks + 2)) × (length (now at) ≡ 33) ⌝ }
     ensures { λ _. ⌜ now (marks .exit) ≡ toggledAll (survivors width x 0 (setOf width disks kind number)) (now (marks .entry)) ⌝ }
 {
     let n = set_offsets::surviving(width, disks, 1, kind, number, 0, x, at);
@@ -27,7 +29,7 @@ fn toggle_set(
 
 // The marks of the surviving cells of the row set and the diagonal set of each row, from this row on, are toggled. The diagonal through disk x's cell of a row has the number of the next row, since that is the row of its cell on disk 0.
 fn toggle_sets(width: usize, disks: usize, x: usize, row: usize, marks: &mut [u8], at: &mut [usize])
-    requires { ⌜ Toggling width disks x (now marks) (now at) × (row < width) ⌝ }
+    requires { ⌜ InArray width disks × (row < width) × (x < disks) × (length (now marks) ≡ width * (disks + 2)) × (length (now at) ≡ 33) ⌝ }
     ensures { λ _. ⌜ now (marks .exit) ≡ toggledAll (survivors width x 0 (startSets width width disks x 0 row)) (now (marks .entry)) ⌝ }
 {
     let mut left = width;

@@ -3,17 +3,11 @@ use mathlib.Core.Path.{_≡_, refl, sym, ap, ap₂, _∙_}
 use mathlib.Core.List.{List}
 use Prim.Native.Nat.{ℕ, zero, suc, _+_, _-_, _*_, _/_, _%_, _≤_, _<_}
 use native.Mathlib.Omega.{arith}
-use lib.ListN.{length}
 use Rattle.liberation.specs.Sets.{place, rowSet, diagonalSet}
 use Rattle.liberation.specs.Plans.{diagonalOf}
 use Rattle.liberation_stripes.specs.Stripes.{solved}
 use Rattle.liberation_pairs.specs.Pairs.{nextRow, diagonalWalk, rowWalk}
 use Rattle.liberation_pairs.proofs.WalkRows.{rowAfter, after-by}
-use Rattle.stripes.specs.Cells.{Sized}
-
--- a stripe that is as long
-pub sized-kept : (p k s : ℕ) (t u : List ℕ) → Sized p k s t → length u ≡ length t → Sized p k s u
-sized-kept p k s t u q e = record { widest = q .widest; disks = q .disks; small = q .small; long = e ∙ q .long }
 
 module _ (p k s x y : ℕ) where
   pub diagonal-none : (n r : ℕ) (t : List ℕ) → n ≡ 0 → t ≡ diagonalWalk n p k s x y r t

@@ -3,7 +3,7 @@ ghost use mathlib.Core.Path.{_≡_};
 ghost use Prim.Native.Nat.{_<_};
 ghost use lib.ListN.{length};
 ghost use Rattle.liberation_pairs.specs.Pairs.{diagonalWalk, rowWalk};
-ghost use Rattle.stripes.specs.Cells.{Sized};
+ghost use Rattle.liberation_stripes.specs.Limits.{Sized};
 
 // While cells are missing: the diagonal set through disk x's cell of this row gives a cell of disk y, whose row comes next.
 pub fn diagonal_step(

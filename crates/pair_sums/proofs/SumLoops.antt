@@ -22,12 +22,13 @@ use Rattle.xor_within.specs.Beside.{Beside}
 use Rattle.offsets.specs.Offsets.{scaled, Pushed}
 use Rattle.offsets.proofs.OffsetLaws.{length-scaled, over-offsets}
 use Rattle.offsets.proofs.PushLaws.{pushed-one, pushed-then}
+use Rattle.liberation_stripes.proofs.SizedLaws.{sized-kept}
 use Rattle.pair_sums.specs.Disks.{Lost}
 use Rattle.stripes.proofs.OrdinaryLaws.{cells-beside}
 
 -- a stripe and a list that are as long
 pub still-lost : {p k s x y : ℕ} {t₀ at₀ : List ℕ} (t at : List ℕ) → Lost p k s x y t₀ at₀ → length t ≡ length t₀ → length at ≡ length at₀ → Lost p k s x y t at
-still-lost t at q e f = record { sized = record { widest = q .sized .widest; disks = q .sized .disks; small = q .sized .small; long = e ∙ q .sized .long }; one = q .one; other = q .other; room = f ∙ q .room }
+still-lost t at q e f = record { sized = sized-kept _ _ _ _ t (q .sized) e; one = q .one; other = q .other; room = f ∙ q .room }
 
 module _ (p k s x y : ℕ) where
   -- the row set and the diagonal set of row r were summed, which made v of t

@@ -6,7 +6,7 @@ ghost use Rattle.liberation.specs.Plans.{extraRowOn};
 ghost use Rattle.liberation_stripes.specs.Stripes.{solved};
 ghost use Rattle.liberation_pairs.specs.Pairs.{diagonalWalk};
 ghost use Rattle.liberation_sums.specs.Sums.{sumWalked};
-ghost use Rattle.stripes.specs.Cells.{Sized};
+ghost use Rattle.liberation_stripes.specs.Limits.{Sized};
 ghost use Rattle.pair_start.specs.Disks.{Walked};
 
 // Data disks x and 0 after the first cell: its row's other cell, then the walk over the other rows in two halves, so that it takes half of the stack. `middle` is the row at which the second half begins.

@@ -14,7 +14,6 @@ use Rattle.laws.proofs.ChoiceLaws.{first-kept, first-next, pick-refused, pick-d
 use Rattle.liberation.specs.Sets.{planFault, longFault}
 use Rattle.liberation.specs.Plans.{Step, readCount}
 use Rattle.liberation.specs.Judging.{judge, stepsIn, accepted}
-use Rattle.liberation.proofs.Widths.{width-most}
 use Rattle.liberation.proofs.FaultLaws.{plan-of, long-accepted}
 use Rattle.refusals.specs.Answers.{Answers}
 use Rattle.judge.specs.declared.Judged.{Judged}
@@ -51,7 +50,7 @@ read-steps p t r k o =
 
 -- a plan that the numbers allow has at most 31 steps
 pub plan-small : (p k f : ℕ) → planFault p k f ≡ 0 → p ≤ 31
-plan-small p k f z = width-most p (plan-of p k f z .0)
+plan-small p k f z = plan-of p k f z .0 .widest
 
 -- The judge: refused before any step by n.
 module _ (n p k f : ℕ) (ss : List Step) where
@@ -127,4 +126,4 @@ module _ (p k f : ℕ) (bs : List ℕ) (j : Judged) (g : Judges 0 p k f (stepsIn
 
 -- what is asked of a plan before it is written
 pub writable-steps : (p k f : ℕ) (ss : List Step) → planFault p k f ≡ 0 → accepted p k f ss ≡ true → writable ss ≡ true
-writable-steps p k f ss z h = accepted-writable p k f ss (plan-of p k f z .0) h
+writable-steps p k f ss z h = accepted-writable p k f ss (plan-of p k f z .0 .width) h

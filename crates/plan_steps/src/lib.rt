@@ -1,8 +1,7 @@
 // Our plan for one lost disk, its reads not counted: the steps and the routes, as a rebuild takes them.
 ghost use mathlib.Core.Path.{_≡_};
-ghost use mathlib.Core.Bool.{true};
 ghost use Prim.Native.Nat.{_+_, _-_, _^_, _≤_, _<_};
-ghost use Rattle.liberation.specs.Sets.{isWidth};
+ghost use Rattle.liberation.specs.Limits.{InArray};
 ghost use Rattle.refusals.specs.Answers.{Answers};
 ghost use Rattle.plan_steps.specs.Says.{OurPlan, PlannedSays, Refused};
 use refusals::Answer;
@@ -37,7 +36,7 @@ fn all_bits(width: usize) -> u32
 
 // Our plan for a disk of an array that is within its limits.
 pub fn our_plan(width: usize, disks: usize, lost: usize) -> Planned
-    requires { ⌜ (isWidth width ≡ true) × (disks ≤ width) × (lost ≤ disks + 1) ⌝ }
+    requires { ⌜ InArray width disks × (lost ≤ disks + 1) ⌝ }
     ensures { λ r. ⌜ OurPlan width disks lost r ⌝ }
 {
     if lost < disks {

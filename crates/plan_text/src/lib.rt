@@ -1,10 +1,9 @@
 // The printed plan as text: the input's form, the plan's lines or a refusal.
 ghost use mathlib.Core.Path.{_≡_};
-ghost use mathlib.Core.Bool.{true};
 ghost use mathlib.Core.List.{[]};
 ghost use Prim.Native.Nat.{_+_, _*_, _≤_, _<_};
 ghost use lib.ListN.{length, drop, replicate};
-ghost use Rattle.liberation.specs.Sets.{isWidth};
+ghost use Rattle.liberation.specs.Limits.{InArray};
 ghost use Rattle.liberation.specs.Plans.{step, planOf, marksFrom};
 ghost use Rattle.step_records.specs.Records.{Holds};
 ghost use Rattle.text.specs.Writing.{Wrote};
@@ -114,7 +113,7 @@ fn put_steps(
     steps: Steps,
     marks: &mut [u8],
 ) -> usize
-    requires { ⌜ (isWidth width ≡ true) × (disk ≤ width + 1) × Holds (planOf width width disk) steps × (now marks ≡ marksFrom (width * (width + 2)) 0 []) × (at + 14 * width ≤ length (now out)) ⌝ }
+    requires { ⌜ InArray width width × (disk ≤ width + 1) × Holds (planOf width width disk) steps × (now marks ≡ marksFrom (width * (width + 2)) 0 []) × (at + 14 * width ≤ length (now out)) ⌝ }
     ensures { λ r. ⌜ Wrote (now (out .entry)) (now (out .exit)) at r (linesFrom 0 (planOf width width disk) (newFrom width disk [] (planOf width width disk))) ⌝ }
 {
     let rows = steps.rows;
@@ -134,7 +133,7 @@ fn put_steps(
 
 // Puts a whole plan: the head line and a line for each step.
 fn put_plan(out: &mut [u8], at: usize, width: usize, disk: usize, steps: Steps) -> usize
-    requires { ⌜ (isWidth width ≡ true) × (disk ≤ width + 1) × Holds (planOf width width disk) steps × (at + 458 ≤ length (now out)) ⌝ }
+    requires { ⌜ InArray width width × (disk ≤ width + 1) × Holds (planOf width width disk) steps × (at + 458 ≤ length (now out)) ⌝ }
     ensures { λ r. ⌜ Wrote (now (out .entry)) (now (out .exit)) at r (planText width disk) ⌝ }
 {
     let lines = text::put(out, at, b"step,row,set,number,new\n");
@@ -165,7 +164,7 @@ fn refusal_text(number: usize) -> Text
 
 // The text of a plan.
 fn steps_text(width: usize, disk: usize, steps: Steps) -> Text
-    requires { ⌜ (isWidth width ≡ true) × (disk ≤ width + 1) × Holds (planOf width width disk) steps ⌝ }
+    requires { ⌜ InArray width width × (disk ≤ width + 1) × Holds (planOf width width disk) steps ⌝ }
     ensures { λ r. ⌜ TextIs (planText width disk) r ⌝ }
 {
     let mut bytes = no_text();

@@ -38,7 +38,7 @@ plan-held p k f r q z =
     let n : planFault p k f ≡ 0 = answers-none (planFault p k f) (r .answer) (q .answer) z in
     let w = plan-of p k f n in
     let h = held-as (plannedSteps p k f) (planOf p k f) (r .steps) (planned-is p k f n) (q .steps) in
-    (λ j. recorded p 0 (h .rows j) (h .kinds j) (h .numbers j)) ∙ recorded-from p 0 (planOf p k f) (omega (arith, plan-length p k f (w .0) (w .3) (w .1)))
+    (λ j. recorded p 0 (h .rows j) (h .kinds j) (h .numbers j)) ∙ recorded-from p 0 (planOf p k f) (omega (arith, plan-length p k f (w .0 .width) (w .0 .disks) (w .1)))
 
 -- "ours for the p steps of the planner's record, put in that form"
 pub plan-form : (p k f : ℕ) (r : Plan) → PlanSays p k f r → r .answer .refusal ≡ 0 → stepsIn p (formOf p r) ≡ planOf p k f

@@ -10,6 +10,7 @@ use Rattle.laws.specs.Choice.{pick, when}
 use Rattle.laws.specs.Lists.{isIn}
 use Rattle.laws.specs.Sums.{total, onesIn}
 use Rattle.laws.proofs.ChoiceLaws.{first-none}
+use Rattle.liberation.specs.Limits.{InArray}
 use Rattle.liberation.specs.Sets.{isWidth, planFault, longFault}
 use Rattle.liberation.specs.Plans.{planOf, routeWord, cellsRead, readCount, marksFrom, readList}
 use Rattle.liberation.specs.Claims.{diagonalsUsed}
@@ -34,8 +35,7 @@ word-ones p k f w most h = go (disk-cases k f h)
 
 -- An accepted plan for disk f of an array with k data disks.
 pub record PlanMeans (p k f : ℕ) (r : Plan) : Type 0 where
-  pub width : isWidth p ≡ true
-  pub disks : (2 ≤ k) × (k ≤ p)
+  pub array : InArray p k
   pub disk : f ≤ k + 1
   -- "The plan record holds its steps": those of our plan
   pub steps : stepsHeld p r ≡ planOf p k f
@@ -54,13 +54,12 @@ plan-means p k f r q z =
     let c : r .reads ≡ readCount p k f (planOf p k f) = q .reads ∙ ap (λ (x : ℕ). pick (eqb x 0) (readCount p k f (planOf p k f)) 0) n in
     let v : r .routes ≡ routeWord p k f = q .routes ∙ ap (λ (x : ℕ). pick (eqb x 0) (routeWord p k f) 0) n in
     record {
-      width = w .0;
-      disks = (w .2, w .3);
+      array = w .0;
       disk = w .1;
       steps = e;
       count = c ∙ sym (ap (readCount p k f) e);
-      diagonals = ap ones v ∙ word-ones p k f (w .0) (w .3) (w .1) ∙ sym (ap (diagonalsUsed p) e);
-      parity = λ l. c ∙ plans-part p k f (w .0) (w .3) (w .1) .parity l;
+      diagonals = ap ones v ∙ word-ones p k f (w .0 .width) (w .0 .disks) (w .1) ∙ sym (ap (diagonalsUsed p) e);
+      parity = λ l. c ∙ plans-part p k f (w .0 .width) (w .0 .disks) (w .1) .parity l;
     }
 
 -- marks are ones and zeros
@@ -81,5 +80,5 @@ list-means p k f o o′ a r l z q =
     let w = plan-of p k f m in
     ap onesIn (l .list ∙ ap (λ (x : ℕ). pick (eqb x 0) (readList p k f) o) n)
     ∙ marks-ones (p * (k + 2)) 0 (cellsRead p k f (planOf p k f))
-    ∙ list-ones p k f (w .0) (w .3) (w .1)
+    ∙ list-ones p k f (w .0 .width) (w .0 .disks) (w .1)
     ∙ sym (q .reads ∙ ap (λ (x : ℕ). pick (eqb x 0) (readCount p k f (planOf p k f)) 0) m)

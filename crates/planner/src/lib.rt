@@ -1,10 +1,10 @@
 // Our plan for one lost disk with its read count, and its read list. Nothing here knows of bytes in stripes.
 ghost use mathlib.Core.Path.{_≡_};
-ghost use mathlib.Core.Bool.{true};
 ghost use mathlib.Core.List.{[]};
 ghost use Prim.Native.Nat.{_+_, _*_, _≤_};
 ghost use lib.ListN.{length, replicate};
-ghost use Rattle.liberation.specs.Sets.{isWidth, planFault};
+ghost use Rattle.liberation.specs.Limits.{InArray};
+ghost use Rattle.liberation.specs.Sets.{planFault};
 ghost use Rattle.liberation.specs.Plans.{planOf, readCount, readList, marksFrom};
 ghost use Rattle.step_records.specs.Records.{Holds};
 ghost use Rattle.plan_steps.specs.Says.{OurPlan};
@@ -24,7 +24,7 @@ pub struct Plan {
 
 // Marks the cells that our plan reads in a list of zeros, and counts them.
 fn mark_steps(width: usize, disks: usize, lost: usize, s: Steps, marks: &mut [u8]) -> u32
-    requires { ⌜ (isWidth width ≡ true) × (disks ≤ width) × (lost ≤ disks + 1) × Holds (planOf width disks lost) s × (now marks ≡ marksFrom (width * (disks + 2)) 0 []) ⌝ }
+    requires { ⌜ InArray width disks × (lost ≤ disks + 1) × Holds (planOf width disks lost) s × (now marks ≡ marksFrom (width * (disks + 2)) 0 []) ⌝ }
     ensures { λ r. ⌜ (r ≡ readCount width disks lost (planOf width disks lost)) × (now (marks .exit) ≡ readList width disks lost) ⌝ }
 {
     let kinds = s.kinds;

@@ -20,7 +20,7 @@ use Rattle.laws.proofs.OrderLaws.{lt-or-le}
 use Rattle.laws.proofs.XorLaws.{xorL-zeros}
 use Rattle.liberation.specs.Sets.{place, rowAt, diskAt, setOf, lostIn, survivingIn}
 use Rattle.liberation.proofs.SetLaws.{disk-place, row-place, place-of, lost-below, in-surviving, survivors-below}
-use Rattle.liberation_stripes.specs.Stripes.{cellAt, withCell, withColumn, xorOver, without, solved}
+use Rattle.liberation_stripes.specs.Stripes.{stripeLong, cellAt, withCell, withColumn, xorOver, without, solved}
 use Rattle.liberation_stripes.proofs.CellLaws.{cell-fits, cell-long, length-with, with-same, cell-with, with-with, cell-other, cell-on, cell-off, column-put}
 use Rattle.liberation_stripes.proofs.OverLaws.{over-long, over-bytes, over-ext, over-split, in-without}
 use Rattle.liberation_stripes.proofs.Solving.{cells-long}
@@ -32,7 +32,6 @@ use Rattle.offsets.specs.Offsets.{scaled, Pushed}
 use Rattle.offsets.proofs.OffsetLaws.{over-offsets}
 use Rattle.set_offsets.specs.Cells.{survivors}
 use Rattle.set_offsets.proofs.SetLists.{survivors-one, survivors-reached, size-fits}
-use Rattle.rebuild_cell.specs.Cells.{Ready}
 
 -- the cell of the step is on the lost disk, so no survivor is left out
 surviving-without : (p f row : ℕ) (xs : List ℕ) → row < p → survivingIn p f (without (place p row f) xs) ≡ survivingIn p f xs
@@ -66,7 +65,7 @@ lost-without p f row (x ∷ xs) h = go (eqb (place p row f) x) (eqb (diskAt p x)
         ∙ sym (ap (λ (t : Bool). pick t (without row (lostIn p f xs)) (rowAt p x ∷ without row (lostIn p f xs))) (ne-eqb row (rowAt p x) n))
     go false false e q rest = ap (λ (t : Bool). pick t (rowAt p x ∷ lostIn p f (without (place p row f) xs)) (lostIn p f (without (place p row f) xs))) q ∙ rest
 
-module _ (p k s f row kind number : ℕ) (t col : List ℕ) (ready : Ready p k s f row kind number t col) where
+module _ (p k s f row kind number : ℕ) (t col : List ℕ) (long : length t ≡ stripeLong p k s) (disk : f ≤ k + 1) (column : length col ≡ p * s) (numbered : number < p) (rows : row < p) where
   abbrev xs : List ℕ
   xs = setOf p k kind number
 
@@ -75,13 +74,13 @@ module _ (p k s f row kind number : ℕ) (t col : List ℕ) (ready : Ready p k s
   whole = withColumn p s f col t
 
   some : 0 < p
-  some = omega (arith, ready .rows)
+  some = omega arith
 
   disk-fits : f * (p * s) + p * s ≤ length t
-  disk-fits = let l : f < k + 2 = omega (arith, ready .disk) in omega (arith, cell-fits (k + 2) (p * s) f l, ready .stripe)
+  disk-fits = let l : f < k + 2 = omega arith in omega (arith, cell-fits (k + 2) (p * s) f l)
 
   pub row-fits : row * s + s ≤ length col
-  row-fits = omega (arith, cell-fits p s row (ready .rows), ready .column)
+  row-fits = omega (arith, cell-fits p s row rows)
 
   -- the XOR of the survivors and that of the other lost cells
   abbrev alive : List ℕ
@@ -97,21 +96,21 @@ module _ (p k s f row kind number : ℕ) (t col : List ℕ) (ready : Ready p k s
   others =
       over-split s p f (cellAt s whole) (without (place p row f) xs)
       ∙ ap₂ xorL
-      (ap (xorOver s (cellAt s whole)) (surviving-without p f row xs (ready .rows)) ∙ over-ext s (cellAt s whole) (cellAt s t) (survivingIn p f xs) off)
-      (ap (xorOver s (λ r. cellAt s whole (place p r f))) (lost-without p f row xs (ready .rows)) ∙ over-ext s (λ r. cellAt s whole (place p r f)) (cellAt s col) (without row (lostIn p f xs)) on)
+      (ap (xorOver s (cellAt s whole)) (surviving-without p f row xs rows) ∙ over-ext s (cellAt s whole) (cellAt s t) (survivingIn p f xs) off)
+      (ap (xorOver s (λ r. cellAt s whole (place p r f))) (lost-without p f row xs rows) ∙ over-ext s (λ r. cellAt s whole (place p r f)) (cellAt s col) (without row (lostIn p f xs)) on)
     where
       off : (x : ℕ) → isIn x (survivingIn p f xs) ≡ true → cellAt s whole x ≡ cellAt s t x
-      off x h = cell-off p s f col t (ready .column) disk-fits x some (eqb-false (diskAt p x) f (not-true (eqb (diskAt p x) f) (and-l (not (eqb (diskAt p x) f)) (isIn x xs) (sym (in-surviving p f x xs) ∙ h))))
+      off x h = cell-off p s f col t column disk-fits x some (eqb-false (diskAt p x) f (not-true (eqb (diskAt p x) f) (and-l (not (eqb (diskAt p x) f)) (isIn x xs) (sym (in-surviving p f x xs) ∙ h))))
 
       on : (r : ℕ) → isIn r (without row (lostIn p f xs)) ≡ true → cellAt s whole (place p r f) ≡ cellAt s col r
       on r h =
           let l : r < p = in-below p r (lostIn p f xs) (lost-below p f xs some) (and-l (isIn r (lostIn p f xs)) (not (eqb r row)) (kept-row r h)) in
-          cell-on p s f col t (ready .column) disk-fits (place p r f) some (disk-place p r f l) ∙ ap (cellAt s col) (row-place p r f l)
+          cell-on p s f col t column disk-fits (place p r f) some (disk-place p r f l) ∙ ap (cellAt s col) (row-place p r f l)
 
   alive-long : length alive ≡ s
   alive-long =
       over-long s (cellAt s t) (survivingIn p f xs)
-      (cells-long (p * (k + 2)) s (survivingIn p f xs) t (ready .stripe ∙ omega arith) (survivors-below p k f kind number (ready .within .numbered)))
+      (cells-long (p * (k + 2)) s (survivingIn p f xs) t (long ∙ omega arith) (survivors-below p k f kind number numbered))
 
   -- the offsets of the survivors: each has the length of the row's part, and lies in the stripe
   module _ (n : ℕ) (old at : List ℕ) (room : length at ≡ 33) (pushed : Pushed old at 0 n (scaled s (survivors p f f xs))) where
@@ -120,8 +119,8 @@ module _ (p k s f row kind number : ℕ) (t col : List ℕ) (ready : Ready p k s
 
     pub sources-fit : (length (midOf (row * s) (row * s + s - row * s) col) ≤ length t) × Reached (length (midOf (row * s) (row * s + s - row * s) col)) (length t) (take n at)
     sources-fit = (
-      omega (arith, mid-long, size-fits p k s kind number f f n old at t (ready .within .numbered) room (ready .stripe) pushed),
-      subst (λ (m : ℕ). Reached m (length t) (take n at)) (sym mid-long) (survivors-reached p k s kind number f f n old at t (ready .within .numbered) room (ready .stripe) pushed),
+      omega (arith, mid-long, size-fits p k s kind number f f n old at t numbered room long pushed),
+      subst (λ (m : ℕ). Reached m (length t) (take n at)) (sym mid-long) (survivors-reached p k s kind number f f n old at t numbered room long pushed),
     )
 
     -- ys is their XOR: it is put into the row's part of the column
@@ -142,7 +141,7 @@ module _ (p k s f row kind number : ℕ) (t col : List ℕ) (ready : Ready p k s
       step-done : (last : List ℕ) → last ≡ withCell s row (xorL (cellAt s mid row) (lost mid)) mid → withColumn p s f last t ≡ solved s (place p row f) xs whole
       step-done last q =
           ap (λ (c : List ℕ). withColumn p s f c t) (q ∙ ap₂ (λ (c m : List ℕ). withCell s row c m) (ap₂ xorL stands same ∙ sym others) mid-is ∙ with-with s row alive col alive-long row-fits new)
-          ∙ column-put p s f col t (ready .column) disk-fits row new (ready .rows)
+          ∙ column-put p s f col t column disk-fits row new rows
         where
           new : List ℕ
           new = xorOver s (cellAt s whole) (without (place p row f) xs)
@@ -173,19 +172,19 @@ module _ (p k s f row kind number : ℕ) (t col : List ℕ) (ready : Ready p k s
         apart = ⊎-elim (λ l. inl (cell-fits row s other l)) (λ l. inr (mul-le-mul-right s l)) (lt-or-le other row)
 
         mid-size : length mid ≡ p * s
-        mid-size = ap length mid-is ∙ length-with s row alive col alive-long row-fits ∙ ready .column
+        mid-size = ap length mid-is ∙ length-with s row alive col alive-long row-fits ∙ column
 
         pub pair-beside : Beside (row * s) s (length mid) pair
         pair-beside =
             subst (Beside (row * s) s (length mid)) (sym two)
             (record {
               sources = record { few = omega arith; inside = inside };
-              fits = omega (arith, mid-size, cell-fits p s row (ready .rows));
+              fits = omega (arith, mid-size, cell-fits p s row rows);
               apart = beside;
             })
           where
             inside : (i : ℕ) → i < 2 → getD (row * s ∷ (other * s ∷ [])) i 0 + s ≤ length mid
-            inside zero l = omega (arith, mid-size, cell-fits p s row (ready .rows))
+            inside zero l = omega (arith, mid-size, cell-fits p s row rows)
             inside (suc zero) l = omega (arith, mid-size, cell-fits p s other h)
             inside (suc (suc i)) l = absurd (omega arith)
 

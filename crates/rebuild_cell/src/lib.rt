@@ -2,14 +2,15 @@
 ghost use mathlib.Core.Path.{_≡_};
 ghost use mathlib.Core.Bool.{true};
 ghost use mathlib.Core.List.{[], _∷_};
-ghost use Prim.Native.Nat.{_<_};
+ghost use Prim.Native.Nat.{_+_, _*_, _≤_, _<_};
 ghost use lib.Dec.{ltb};
+ghost use lib.ListN.{length};
 ghost use Rattle.laws.specs.Choice.{pick};
 ghost use Rattle.laws.specs.Lists.{isIn};
+ghost use Rattle.liberation.specs.Limits.{InArray};
 ghost use Rattle.liberation.specs.Sets.{place, setOf, lostIn};
 ghost use Rattle.liberation_stripes.specs.Stripes.{withColumn, without, solved};
-ghost use Rattle.sets.specs.Limits.{Within};
-ghost use Rattle.rebuild_cell.specs.Cells.{Ready};
+ghost use Rattle.liberation_stripes.specs.Limits.{Sized};
 
 // The row of the set's other cell on the lost disk, the width if there is none. Only a diagonal whose extra cell is on that disk has two cells there, the extra one and an ordinary one: a diagonal whose extra cell would be on an absent disk has none, and P and Q have no extra cells.
 fn other_row(
@@ -20,7 +21,7 @@ fn other_row(
     kind: usize,
     number: usize,
 ) -> usize
-    requires { ⌜ Within width disks number × (row < width) × (isIn row (lostIn width disk (setOf width disks kind number)) ≡ true) ⌝ }
+    requires { ⌜ InArray width disks × (number < width) × (row < width) × (isIn row (lostIn width disk (setOf width disks kind number)) ≡ true) ⌝ }
     ensures { λ r. ⌜ without row (lostIn width disk (setOf width disks kind number)) ≡ pick (ltb r width) (r ∷ []) [] ⌝ }
 {
     if kind == 0 {
@@ -54,7 +55,8 @@ pub fn rebuild_cell(
     stripe: &[u8],
     column: &mut [u8],
 )
-    requires { ⌜ Ready width disks size disk row kind number (now stripe) (now column) ⌝ }
+    requires { ⌜ Sized width disks size (now stripe) ⌝ }
+    requires { ⌜ (disk ≤ disks + 1) × (length (now column) ≡ width * size) × (number < width) × (row < width) × (isIn row (lostIn width disk (setOf width disks kind number)) ≡ true) ⌝ }
     ensures { λ _. ⌜ withColumn width size disk (now (column .exit)) (now (stripe .entry)) ≡ solved size (place width row disk) (setOf width disks kind number) (withColumn width size disk (now (column .entry)) (now (stripe .entry))) ⌝ }
 {
     let mut at = offsets::no_offsets();

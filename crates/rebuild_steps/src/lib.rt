@@ -1,10 +1,12 @@
 // The steps of our plan, one after another, from a lent stripe into a lent column. Each cell goes to its own stretch of the column.
 use step_records::Steps;
 ghost use mathlib.Core.Path.{_≡_};
-ghost use Prim.Native.Nat.{_*_, _≤_};
+ghost use Prim.Native.Nat.{_+_, _*_, _≤_};
 ghost use lib.ListN.{length};
-ghost use Rattle.liberation_stripes.specs.Stripes.{stripeLong, rebuilt};
-ghost use Rattle.rebuild_steps.specs.Plans.{Ours};
+ghost use Rattle.liberation.specs.Plans.{planOf};
+ghost use Rattle.liberation_stripes.specs.Stripes.{rebuilt};
+ghost use Rattle.liberation_stripes.specs.Limits.{Sized};
+ghost use Rattle.step_records.specs.Records.{Holds};
 
 // The steps of our plan, in order.
 pub fn follow(
@@ -16,8 +18,8 @@ pub fn follow(
     stripe: &[u8],
     column: &mut [u8],
 )
-    requires { ⌜ Ours width disks disk steps × (size ≤ 4096) ⌝ }
-    requires { ⌜ (length (now stripe) ≡ stripeLong width disks size) × (length (now column) ≡ width * size) ⌝ }
+    requires { ⌜ Sized width disks size (now stripe) ⌝ }
+    requires { ⌜ (disk ≤ disks + 1) × (length (now column) ≡ width * size) × Holds (planOf width disks disk) steps ⌝ }
     ensures { λ _. ⌜ now (column .exit) ≡ rebuilt width disks size disk (now (stripe .entry)) ⌝ }
 {
     let rows = steps.rows;

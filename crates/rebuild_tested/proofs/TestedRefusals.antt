@@ -9,23 +9,19 @@ use borrow.Author.Tests.{not-false}
 use Rattle.laws.specs.Choice.{firstOf, when}
 use Rattle.laws.specs.Xor.{allBytes}
 use Rattle.laws.proofs.ChoiceLaws.{first-next, first-none, when-none, pick-refused, pick-done}
-use Rattle.liberation.specs.Sets.{isWidth}
-use Rattle.liberation.proofs.Widths.{width-most}
 use Rattle.liberation_stripes.specs.Stripes.{rebuilt}
 use Rattle.liberation_survivors.specs.Survivors.{fits}
 use Rattle.refusals.specs.declared.Answer.{Answer}
 use Rattle.refusals.specs.Answers.{Answers}
 use Rattle.refusals.proofs.AnswerLaws.{answers-as}
-use Rattle.stripes.specs.Cells.{Sized}
+use Rattle.liberation_stripes.specs.Limits.{Sized}
 use Rattle.rebuild_one.specs.Says.{lengthsFault, oneFault}
 use Rattle.rebuild_one.proofs.OneRefusals.{fault-none}
 use Rattle.rebuild_tested.specs.Says.{testedFault, TestedSays}
 
 -- what the test of the survivors asks
-pub test-asks : (p k s f m : ℕ) (t : List ℕ) → lengthsFault p k s f (length t) m ≡ 0 → Sized p k s t × (isWidth p ≡ true) × (f < k + 2)
-test-asks p k s f m t e =
-    let q = fault-none p k s f (length t) m e in
-    (record { widest = width-most p (q .width); disks = q .disks; small = q .small; long = q .stripe }, q .width, omega (arith, q .disk))
+pub test-asks : (p k s f m : ℕ) (t : List ℕ) → lengthsFault p k s f (length t) m ≡ 0 → Sized p k s t × (f < k + 2)
+test-asks p k s f m t e = let q = fault-none p k s f m t e in (q .0, omega (arith, q .1))
 
 -- its answer
 pub test-says : (p k s f m : ℕ) (t : List ℕ) (b : Bool) (n : ℕ) → lengthsFault p k s f (length t) m ≡ 0 → b ≡ fits p k s f t → n ≡ when (not b) 19 → n ≡ firstOf (lengthsFault p k s f (length t) m) (when (not (fits p k s f t)) 19)

@@ -8,7 +8,6 @@ use lib.ListN.{length}
 use Rattle.laws.specs.Xor.{allBytes}
 use Rattle.liberation.specs.Sets.{rowSet, survivingIn}
 use Rattle.liberation.specs.Plans.{allOf}
-use Rattle.liberation.proofs.Widths.{width-least}
 use Rattle.liberation_stripes.specs.Stripes.{stripeLong, followed, columnOf, withColumn, rebuilt}
 use Rattle.liberation_stripes.proofs.CellLaws.{cell-fits, column-with}
 use Rattle.liberation_stripes.proofs.Solving.{stripe-of}
@@ -18,11 +17,10 @@ use Rattle.xor.specs.Parts.{xorOffsets}
 use Rattle.xor.specs.Reach.{Reached}
 use Rattle.xor.proofs.BlockLaws.{offsets-long}
 use Rattle.offsets.specs.Offsets.{scaled}
-use Rattle.stripes.specs.Cells.{Sized}
+use Rattle.liberation_stripes.specs.Limits.{Sized}
 use Rattle.stripes.proofs.ColumnLaws.{columns-reached, rows-solved}
 use Rattle.rebuild_one.specs.Says.{oneFault}
 use Rattle.rebuild_one.proofs.OneRefusals.{fault-none}
-use Rattle.rebuild_tested.proofs.TestedRefusals.{test-asks}
 
 -- the columns are those of the list, and n is the length of a column
 module _ (p k s d n : ℕ) (t : List ℕ) {at : List ℕ} (some : 0 < p) (disk : d ≤ k) (long : length t ≡ stripeLong p k s) (size : n ≡ p * s) (list : at ≡ scaled s (survivingIn p d (rowSet p k 0))) (few : length at ≤ 100) where
@@ -43,10 +41,10 @@ module _ (p k s d n : ℕ) (t : List ℕ) {at : List ℕ} (some : 0 < p) (disk :
 
 -- a call that is not refused: t is the stripe, o the column
 module _ (p k s d : ℕ) (t o : List ℕ) (none : oneFault p k s d t o ≡ 0) (disk : d ≤ k) where
-  pub rows-ask : Sized p k s t × (0 < p) × (d ≤ k) × (length o ≡ p * s)
-  rows-ask = let q = test-asks p k s d (length o) t none in (q .0, omega (arith, width-least p (q .1)), disk, fault-none p k s d (length t) (length o) none .column)
+  pub rows-ask : Sized p k s t × (d ≤ k) × (length o ≡ p * s)
+  rows-ask = let q = fault-none p k s d (length o) t none in (q .0, disk, q .2)
 
   pub rows-tested : fits p k s d t ≡ true → allBytes t ≡ true → (col : List ℕ) → col ≡ columnOf p s d (followed p k s d (allOf p 0 0) t) → col ≡ rebuilt p k s d t
   rows-tested h bytes col e =
-      let q = fault-none p k s d (length t) (length o) none in
-      e ∙ fits-rows p k s d (q .width) (q .disks) disk t (stripe-of p k s t (q .stripe ∙ omega arith) bytes) h
+      let q = fault-none p k s d (length o) t none .0 in
+      e ∙ fits-rows p k s d (q .array .width) (q .array .disks) disk t (stripe-of p k s t (q .long ∙ omega arith) bytes) h

@@ -9,7 +9,7 @@ ghost use Rattle.laws.specs.Choice.{firstOf, when};
 ghost use Rattle.liberation.specs.Plans.{allOf};
 ghost use Rattle.liberation_stripes.specs.Stripes.{followed, columnOf, rebuilt};
 ghost use Rattle.liberation_survivors.specs.Survivors.{fits};
-ghost use Rattle.stripes.specs.Cells.{Sized};
+ghost use Rattle.liberation_stripes.specs.Limits.{Sized};
 ghost use Rattle.rebuild_one.specs.Says.{lengthsFault, oneFault};
 ghost use Rattle.rebuild_tested.specs.Says.{TestedSays};
 
@@ -43,7 +43,7 @@ fn column_by_rows(
     stripe: &[u8],
     column: &mut [u8],
 )
-    requires { ⌜ Sized width disks size (now stripe) × (0 < width) × (disk ≤ disks) × (length (now column) ≡ width * size) ⌝ }
+    requires { ⌜ Sized width disks size (now stripe) × (disk ≤ disks) × (length (now column) ≡ width * size) ⌝ }
     ensures { λ _. ⌜ now (column .exit) ≡ columnOf width size disk (followed width disks size disk (allOf width 0 0) (now (stripe .entry))) ⌝ }
 {
     let mut at = offsets::no_offsets();

@@ -8,26 +8,18 @@ use borrow.Author.Tests.{ltb-false, eqb-false}
 use Rattle.laws.specs.Choice.{when, firstOf}
 use Rattle.laws.specs.Xor.{allBytes}
 use Rattle.laws.proofs.ChoiceLaws.{first-none, when-none, pick-refused, pick-done}
-use Rattle.liberation.specs.Sets.{isWidth, numbersFault, diskFault, longFault}
-use Rattle.liberation.proofs.Widths.{width-most}
+use Rattle.liberation.specs.Sets.{numbersFault, diskFault, longFault}
 use Rattle.liberation.proofs.FaultLaws.{numbers-of, long-of}
 use Rattle.refusals.specs.declared.Answer.{Answer}
 use Rattle.refusals.specs.Answers.{Answers}
 use Rattle.refusals.proofs.AnswerLaws.{answers-as}
 use Rattle.liberation_stripes.specs.Stripes.{stripeLong}
 use Rattle.liberation_pairs.specs.Pairs.{pairSolved}
-use Rattle.stripes.specs.Cells.{Sized}
+use Rattle.liberation_stripes.specs.Limits.{Sized}
 use Rattle.rebuild_two.specs.Says.{twoFault, TwoSays}
 
--- what a call that is not refused has
-pub record Accepted (p k s a b : ℕ) (t : List ℕ) : Type 0 where
-  pub width : isWidth p ≡ true
-  pub sized : Sized p k s t
-  pub first : a ≤ k + 1
-  pub second : b ≤ k + 1
-  pub apart : a ≡ b → ⊥
-
-pub fault-none : (p k s a b : ℕ) (t : List ℕ) → twoFault p k s a b t ≡ 0 → Accepted p k s a b t
+-- none of the refusals: the stripe is within the limits, and the disks are two of the array's
+pub fault-none : (p k s a b : ℕ) (t : List ℕ) → twoFault p k s a b t ≡ 0 → Sized p k s t × (a ≤ k + 1) × (b ≤ k + 1) × (a ≡ b → ⊥)
 fault-none p k s a b t e =
     let tail5 : ℕ = longFault (stripeLong p k s) t in
     let tail4 : ℕ = firstOf (when (eqb a b) 4) tail5 in
@@ -35,19 +27,12 @@ fault-none p k s a b t e =
     let w = first-none (numbersFault p k s a) tail3 e in
     let g = first-none (diskFault k b) tail4 (w .1) in
     let h = first-none (when (eqb a b) 4) tail5 (g .1) in
-    let q = numbers-of p k s a (w .0) in
-    record {
-      width = q .0;
-      sized = record {
-        widest = width-most p (q .0);
-        disks = q .5;
-        small = q .2;
-        long = long-of (stripeLong p k s) t (h .1);
-      };
-      first = q .3;
-      second = ltb-false (k + 1) b (when-none (ltb (k + 1) b) 2 (g .0));
-      apart = eqb-false a b (when-none (eqb a b) 3 (h .0));
-    }
+    let q = numbers-of p k s a (w .0) in (
+      record { array = q .0; small = q .2; long = long-of (stripeLong p k s) t (h .1) },
+      q .3,
+      ltb-false (k + 1) b (when-none (ltb (k + 1) b) 2 (g .0)),
+      eqb-false a b (when-none (eqb a b) 3 (h .0)),
+    )
 
 pub two-refused : (p k s a b n : ℕ) (t : List ℕ) (r : Answer) → n ≡ twoFault p k s a b t → (n ≡ 0 → ⊥) → Answers n r → allBytes t ≡ true → TwoSays p k s a b t t r
 two-refused p k s a b n t r e z q y =

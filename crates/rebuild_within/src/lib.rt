@@ -1,18 +1,16 @@
 // The rebuild of one lost disk in place, for a stripe within its limits: our plan's steps, one after another, each done within the stripe.
 use step_records::Steps;
 ghost use mathlib.Core.Path.{_≡_};
-ghost use mathlib.Core.Bool.{true};
 ghost use Prim.Native.Nat.{_+_, _≤_};
-ghost use Rattle.liberation.specs.Sets.{isWidth, planFault};
 ghost use Rattle.liberation.specs.Plans.{planOf};
 ghost use Rattle.liberation_stripes.specs.Stripes.{followed};
 ghost use Rattle.step_records.specs.Records.{Holds};
-ghost use Rattle.stripes.specs.Cells.{Sized};
+ghost use Rattle.liberation_stripes.specs.Limits.{Sized};
 
 // The steps of our plan, in order: each solves the lost disk's ordinary cell of its set.
 fn follow(width: usize, disks: usize, size: usize, disk: usize, steps: Steps, stripe: &mut [u8])
     requires { ⌜ Sized width disks size (now stripe) ⌝ }
-    requires { ⌜ (isWidth width ≡ true) × (disk ≤ disks + 1) × Holds (planOf width disks disk) steps ⌝ }
+    requires { ⌜ (disk ≤ disks + 1) × Holds (planOf width disks disk) steps ⌝ }
     ensures { λ _. ⌜ now (stripe .exit) ≡ followed width disks size disk (planOf width disks disk) (now (stripe .entry)) ⌝ }
 {
     let rows = steps.rows;
@@ -28,10 +26,10 @@ fn follow(width: usize, disks: usize, size: usize, disk: usize, steps: Steps, st
     }
 }
 
-// Makes our plan and follows it in the stripe, where neither the array nor the disk is refused: for callers that have tested that.
+// Makes our plan and follows it in the stripe, where neither the stripe nor the disk is refused: for callers that have tested that.
 pub fn rebuild_within(width: usize, disks: usize, size: usize, disk: usize, stripe: &mut [u8])
     requires { ⌜ Sized width disks size (now stripe) ⌝ }
-    requires { ⌜ planFault width disks disk ≡ 0 ⌝ }
+    requires { ⌜ disk ≤ disks + 1 ⌝ }
     ensures { λ _. ⌜ now (stripe .exit) ≡ followed width disks size disk (planOf width disks disk) (now (stripe .entry)) ⌝ }
 {
     let plan = plan_steps::plan_steps(width, disks, disk);

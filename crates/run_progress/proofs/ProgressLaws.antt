@@ -7,7 +7,6 @@ use native.Mathlib.Omega.{arith}
 use lib.Dec.{eqb}
 use Rattle.laws.specs.Choice.{pick}
 use Rattle.laws.proofs.ChoiceLaws.{pick-refused, pick-done, and-refused, and-done}
-use Rattle.liberation.proofs.Widths.{width-most}
 use Rattle.liberation.proofs.FaultLaws.{numbers-of, numbers-plan}
 use Rattle.liberation.proofs.RecordLaws.{plan-reads-most}
 use Rattle.liberation.proofs.MarkLists.{cells-most as array-cells}
@@ -33,8 +32,7 @@ reads-are x r z k = k .reads ∙ ap (λ (n : ℕ). pick (eqb n 0) (readsOf x) 0)
 cells-most : (x : Run) → runFault x ≡ 0 → x .next < 2 ^ 32 → cellsSoFar x ≤ 4294967295 * 1023
 cells-most x z n =
     let q = numbers-of (x .shape .width) (x .shape .disks) (x .shape .«cell_size») (x .lost) z in
-    let w = width-most (x .shape .width) (q .0) in
-    let c : readsOf x ≤ 1023 = omega (arith, plan-reads-most (x .shape .width) (x .shape .disks) (x .lost) (q .0) (q .5) (q .3), array-cells (x .shape .width) (x .shape .disks) w (q .5)) in
+    let c : readsOf x ≤ 1023 = omega (arith, plan-reads-most (x .shape .width) (x .shape .disks) (x .lost) (q .0 .width) (q .0 .disks) (q .3), array-cells (x .shape .width) (x .shape .disks) (q .0 .widest) (q .0 .disks)) in
     let m : x .next - x .skipped ≤ 4294967295 = omega arith in
     mul-le-mul m c
 

@@ -8,20 +8,14 @@ use lib.Dec.{eqb, ltb}
 use borrow.Author.Tests.{lt-ltb, le-ltb}
 use Rattle.laws.specs.Choice.{pick}
 use Rattle.laws.specs.Xor.{allBytes}
-use Rattle.laws.proofs.ChoiceLaws.{first-none, pick-refused, and-refused}
-use Rattle.liberation.specs.Sets.{isWidth, shapeFault, longFault}
-use Rattle.liberation.proofs.FaultLaws.{shape-of}
-use Rattle.liberation_stripes.specs.Stripes.{stripeLong, clean}
+use Rattle.laws.proofs.ChoiceLaws.{pick-refused, and-refused}
+use Rattle.liberation_stripes.specs.Stripes.{clean}
 use Rattle.liberation_survivors.specs.Survivors.{suspect, verdict}
 use Rattle.refusals.specs.Answers.{Answers}
 use Rattle.refusals.proofs.AnswerLaws.{answers-as}
 use Rattle.stripes.specs.Says.{stripeFault}
 use Rattle.scrub.specs.declared.Scrubbed.{Scrubbed}
 use Rattle.scrub.specs.Says.{ScrubSays}
-
--- an accepted width
-pub width-is : (p k s : ℕ) (t : List ℕ) → stripeFault p k s t ≡ 0 → isWidth p ≡ true
-width-is p k s t e = shape-of p k s (first-none (shapeFault p k s) (longFault (stripeLong p k s) t) e .0) .0
 
 -- the two results that go with a fault n, a verdict v and a suspect x
 abbrev verdictFor : ℕ → ℕ → ℕ

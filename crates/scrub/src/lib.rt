@@ -1,12 +1,10 @@
 // The scrub of a stripe: is it clean, is one disk inconsistent with the others, or more than one? The stripe is only read.
 ghost use mathlib.Core.Path.{_≡_};
-ghost use mathlib.Core.Bool.{true};
 ghost use Prim.Native.Nat.{_+_, _*_, _≤_, _<_};
 ghost use lib.ListN.{length};
-ghost use Rattle.liberation.specs.Sets.{isWidth};
 ghost use Rattle.liberation_survivors.specs.Survivors.{suspect};
 ghost use Rattle.refusals.specs.Answers.{Answers};
-ghost use Rattle.stripes.specs.Cells.{Sized};
+ghost use Rattle.liberation_stripes.specs.Limits.{Sized};
 ghost use Rattle.scrub.specs.Says.{ScrubSays};
 use refusals::Answer;
 use refusals::Shape;
@@ -32,7 +30,7 @@ fn found(refusal: u8, verdict: u8, disk: usize) -> Scrubbed
 
 // A set of a dirty stripe that is not clean: the number of a row set, or the width and the number of a diagonal set. No answer depends on it, so its bound is all that is promised.
 fn dirty_set(width: usize, disks: usize, size: usize, stripe: &[u8], at: &mut [usize]) -> usize
-    requires { ⌜ Sized width disks size (now stripe) × (isWidth width ≡ true) × (0 < width) × (length (now at) ≡ 99) ⌝ }
+    requires { ⌜ Sized width disks size (now stripe) × (length (now at) ≡ 99) ⌝ }
     ensures { λ r. ⌜ r < 2 * width ⌝ }
 {
     let row = survivors::equations_passed(width, disks, size, disks + 1, 0, stripe, at);
@@ -92,7 +90,7 @@ fn first_fit(
     stripe: &[u8],
     at: &mut [usize],
 ) -> usize
-    requires { ⌜ Sized width disks size (now stripe) × (isWidth width ≡ true) × (0 < width) × (dirty < 2 * width) × (length (now at) ≡ 99) ⌝ }
+    requires { ⌜ Sized width disks size (now stripe) × (dirty < 2 * width) × (length (now at) ≡ 99) ⌝ }
     ensures { λ r. ⌜ r ≡ suspect width disks size (now (stripe .entry)) ⌝ }
 {
     let mut extra = false;
@@ -113,7 +111,7 @@ fn first_fit(
 
 // The same of a dirty stripe, with one list for all equations.
 fn suspected(width: usize, disks: usize, size: usize, stripe: &[u8]) -> usize
-    requires { ⌜ Sized width disks size (now stripe) × (isWidth width ≡ true) × (0 < width) ⌝ }
+    requires { ⌜ Sized width disks size (now stripe) ⌝ }
     ensures { λ r. ⌜ r ≡ suspect width disks size (now (stripe .entry)) ⌝ }
 {
     let mut at = equation_offsets::no_offsets();

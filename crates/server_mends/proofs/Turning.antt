@@ -10,10 +10,7 @@ use lib.ListN.{length}
 use borrow.Author.Tests.{eq-eqb, ne-eqb}
 use Rattle.laws.specs.Choice.{pick}
 use Rattle.laws.proofs.OrderLaws.{eq-or-ne}
-use Rattle.liberation.specs.Sets.{isWidth, arrayFault, planFault}
 use Rattle.liberation.specs.Plans.{planOf}
-use Rattle.liberation.proofs.Widths.{width-most}
-use Rattle.liberation.proofs.FaultLaws.{array-of, array-none, plan-none}
 use Rattle.liberation_stripes.specs.Stripes.{withCell, stripeLong, followed}
 use Rattle.liberation_stripes.proofs.CellLaws.{cell-fits}
 use Rattle.liberation_pairs.specs.Pairs.{pairSolved}
@@ -66,14 +63,13 @@ module _ (a b d : ℕ) (e : d ≡ onlyLoss a b) where
   pub second-too : d ≡ 255 → (a ≡ 255 → ⊥) → b ≡ 255 → ⊥
   second-too z n v = n (only-first a b n v ∙ sym e ∙ z)
 
-  -- an array that is not refused, with a pair of losses that is not
-  module _ (p k : ℕ) (array : arrayFault p k ≡ 0) (pair : pairFault k a b ≡ 0) where
-    pub only-plan : (d ≡ 255 → ⊥) → planFault p k d ≡ 0
-    only-plan n = let q = array-of p k array in plan-none p k d (q .0) (q .1) (q .2) (go (one-lost n))
-      where
-        go : OneLost a b d → d ≤ k + 1
-        go (first-is u v w) = omega (arith, losses-of k a b pair .first (lost-true a u))
-        go (second-is u v w) = omega (arith, losses-of k a b pair .second (lost-true b v))
+  -- a pair of losses that is not refused
+  pub only-disk : (k : ℕ) → pairFault k a b ≡ 0 → (d ≡ 255 → ⊥) → d ≤ k + 1
+  only-disk k pair n = go (one-lost n)
+    where
+      go : OneLost a b d → d ≤ k + 1
+      go (first-is u v w) = omega (arith, losses-of k a b pair .first (lost-true a u))
+      go (second-is u v w) = omega (arith, losses-of k a b pair .second (lost-true b v))
 
   pub only-mended : (p k s : ℕ) (t u : List ℕ) → (d ≡ 255 → ⊥) → u ≡ followed p k s d (planOf p k d) t → u ≡ mended p k s a b t
   only-mended p k s t u n q = go (one-lost n)
@@ -82,10 +78,10 @@ module _ (a b d : ℕ) (e : d ≡ onlyLoss a b) where
       go (first-is x y w) = first-lost p k s a b t u x y (q ∙ sym (ap (λ (f : ℕ). followed p k s f (planOf p k f) t) w))
       go (second-is x y w) = second-lost p k s a b t u x y (q ∙ sym (ap (λ (f : ℕ). followed p k s f (planOf p k f) t) w))
 
-pub both-disks : (p k a b : ℕ) → arrayFault p k ≡ 0 → pairFault k a b ≡ 0 → (a ≡ 255 → ⊥) → (b ≡ 255 → ⊥) → (isWidth p ≡ true) × (a ≤ k + 1) × (b ≤ k + 1) × (a ≡ b → ⊥)
-both-disks p k a b array pair na nb =
+pub both-disks : (k a b : ℕ) → pairFault k a b ≡ 0 → (a ≡ 255 → ⊥) → (b ≡ 255 → ⊥) → (a ≤ k + 1) × (b ≤ k + 1) × (a ≡ b → ⊥)
+both-disks k a b pair na nb =
     let l = losses-of k a b pair in
-    (array-of p k array .0, l .first (lost-true a na), l .second (lost-true b nb), l .apart (lost-true a na))
+    (l .first (lost-true a na), l .second (lost-true b nb), l .apart (lost-true a na))
 
 -- the turn of the lost server j, and of another one
 module _ (p k s j i : ℕ) (ls ts : List ℕ) where
@@ -95,16 +91,12 @@ module _ (p k s j i : ℕ) (ls ts : List ℕ) where
   pub turn-other : (us : List ℕ) → (i ≡ j → ⊥) → us ≡ withCell (stripeLong p k s) i (mendedAt p k s ls ts i) ts → us ≡ mendedTurn p k s j ls i ts
   turn-other us n e = e ∙ sym (ap (λ (b : Bool). pick b ts (withCell (stripeLong p k s) i (mendedAt p k s ls ts i) ts)) (ne-eqb i j n))
 
-  -- an array of a turn is small
-  pub turn-small : Turn p k s j i ls ts → (p ≤ 31) × (k ≤ p)
-  turn-small t = let q = array-of p k (t .array) in (width-most p (q .0), q .2)
-
 -- every turn of a call that is not refused
 pub turn-of : (p k s m j i : ℕ) (ls ts us : List ℕ) → Given p k s m ts → GivenLosses k m j ls → length us ≡ length ts → i ≤ m → Turn p k s j i ls us
 turn-of p k s m j i ls ts us g l e h =
     let below : i < suc m = omega arith in
     record {
-      array = array-none p k (g .width) (g .least) (g .most);
+      array = g .array;
       small = g .small;
       stripe = omega (arith, g .long, cell-fits (suc m) (stripeLong p k s) i below);
       pair = omega (arith, l .long);

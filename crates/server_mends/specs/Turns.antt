@@ -4,7 +4,7 @@ use mathlib.Core.List.{List}
 use Prim.Native.Nat.{ℕ, _+_, _*_, _≤_, _<_}
 use lib.ListN.{length}
 use Rattle.laws.specs.Choice.{pick}
-use Rattle.liberation.specs.Sets.{arrayFault}
+use Rattle.liberation.specs.Limits.{InArray}
 use Rattle.liberation_stripes.specs.Stripes.{stripeLong}
 use Rattle.liberation_servers.specs.Servers.{lost, firstLoss, secondLoss, pairFault}
 
@@ -14,7 +14,7 @@ onlyLoss a b = pick (lost a) (pick (lost b) 255 a) b
 
 -- server i's stripe and its pair of losses lie in the slices, and the pair has no refusal, unless i is the lost server j
 pub record Turn (p k s j i : ℕ) (ls ts : List ℕ) : Type 0 where
-  pub array : arrayFault p k ≡ 0
+  pub array : InArray p k
   pub small : s ≤ 4096
   pub stripe : i * stripeLong p k s + stripeLong p k s ≤ length ts
   pub pair : 2 * i + 1 < length ls

@@ -1,10 +1,9 @@
 // The lost disks of several servers rebuilt, each server's in its part of the slice of all stripes: one by our plan and two by the walk.
 ghost use mathlib.Core.Path.{_≡_};
 ghost use Prim.Native.Nat.{_+_};
-ghost use Rattle.liberation.specs.Sets.{arrayFault};
 ghost use Rattle.liberation_servers.specs.Servers.{pairFault, mended, mendedTurn, mendedAll};
 ghost use Rattle.liberation_servers.specs.Claims.{Given, GivenLosses};
-ghost use Rattle.stripes.specs.Cells.{Sized};
+ghost use Rattle.liberation_stripes.specs.Limits.{Sized};
 ghost use Rattle.server_mends.specs.Turns.{onlyLoss, Turn};
 
 // The one lost disk of a stripe, 255 if none is lost or two are.
@@ -27,7 +26,7 @@ fn mend_server(
     stripe: &mut [u8],
 )
     requires { ⌜ Sized width disks size (now stripe) ⌝ }
-    requires { ⌜ (arrayFault width disks ≡ 0) × (pairFault disks first second ≡ 0) ⌝ }
+    requires { ⌜ pairFault disks first second ≡ 0 ⌝ }
     ensures { λ _. ⌜ now (stripe .exit) ≡ mended width disks size first second (now (stripe .entry)) ⌝ }
 {
     let disk = only_loss(first, second);

@@ -26,7 +26,7 @@ call-few p k s m j n e = count-of m (server-of m j (first-none (serverFault m j)
 
 pub given-small : (p k s m : ℕ) (ts : List ℕ) → Given p k s m ts → (k + 2 ≤ 33) × (p * s ≤ 126976) × ((k + 2) * (p * s) ≤ 4190208)
 given-small p k s m ts g =
-    let q = shape-most p k s (ap₂ firstOf (array-none p k (g .width) (g .least) (g .most)) (size-accepted s (g .some) (g .small))) in
+    let q = shape-most p k s (ap₂ firstOf (array-none p k (g .array .width) (g .array .two) (g .array .disks)) (size-accepted s (g .some) (g .small))) in
     (omega (arith, q .0, q .1), q .2, q .3)
 
 -- the slice of a call that is not refused, or one as long

@@ -4,6 +4,7 @@ use mathlib.Core.List.{List, [], _∷_}
 use Prim.Native.Nat.{ℕ, suc, _+_, _≤_, _<_}
 use lib.Dec.{eqb}
 use Rattle.laws.specs.Choice.{pick}
+use Rattle.liberation.specs.Limits.{InArray}
 use Rattle.liberation.specs.Sets.{rowSet, ordinary, hasExtra, extraOf, survivingIn}
 
 -- the cells on neither of the disks x and y
@@ -22,8 +23,7 @@ extraIn p k kind i = pick (eqb kind 0) [] (pick (hasExtra p k i) (extraOf p i �
 
 -- set i of p rows and k data disks, with cells of s bytes, is to be pushed into a list of `long` numbers without its cells on disks x and y
 pub record Listing (p k s i x y long : ℕ) : Type 0 where
-  pub widest : p ≤ 31
-  pub disks : k ≤ p
+  pub array : InArray p k
   pub numbered : i < p
   pub small : s ≤ 4096
   pub ordered : x ≤ y

@@ -4,7 +4,7 @@ ghost use mathlib.Core.List.{[], _∷_, _++_};
 ghost use Prim.Native.Nat.{_-_, _≤_, _<_};
 ghost use lib.ListN.{length};
 ghost use Rattle.liberation.specs.Sets.{place, setOf};
-ghost use Rattle.sets.specs.Limits.{Within};
+ghost use Rattle.liberation.specs.Limits.{InArray};
 ghost use Rattle.offsets.specs.Offsets.{scaled, cellsFrom, Pushed};
 ghost use Rattle.set_offsets.specs.Cells.{survivors, ordinaryOf, parityDisk, extraIn, Listing};
 
@@ -97,7 +97,7 @@ fn push_extra(
     at: &mut [usize],
     count: usize,
 ) -> usize
-    requires { ⌜ Within width disks number × (size ≤ 4096) × (count < length (now at)) ⌝ }
+    requires { ⌜ InArray width disks × (number < width) × (size ≤ 4096) × (count < length (now at)) ⌝ }
     ensures { λ r. ⌜ Pushed (now (at .entry)) (now (at .exit)) count r (scaled size (survivors width x y (extraIn width disks kind number))) ⌝ }
 {
     if kind == 0 {

@@ -12,7 +12,6 @@ use Rattle.laws.specs.Choice.{firstOf, when}
 use Rattle.laws.specs.Sums.{total}
 use Rattle.liberation.specs.Sets.{shapeFault}
 use Rattle.laws.proofs.ChoiceLaws.{first-none, when-none, pick-refused, pick-done, and-refused, and-done}
-use Rattle.liberation.proofs.Widths.{width-most}
 use Rattle.liberation.proofs.FaultLaws.{shape-of}
 use Rattle.refusals.specs.declared.Answer.{Answer}
 use Rattle.refusals.specs.Answers.{Answers}
@@ -56,9 +55,9 @@ one-file p k s l = let e : l + 0 ≡ l = omega arith in (omega arith, ap package
 pub small : (p k s : ℕ) (ls : List ℕ) → spaceFault p k s ls ≡ 0 → Bounds p k s ls
 small p k s ls e =
     let c = fault-of p k s ls e in
-    let a = shape-of p k s (c .0) in
-    let m = width-most p (a .0) in
-    bounds p k s ls (omega (arith, a .3, a .4)) m (omega (arith, a .3)) (omega (arith, m, a .4)) (a .1) (a .2) (c .1 .0) (c .1 .1)
+    let q = shape-of p k s (c .0) in
+    let a = q .0 in
+    bounds p k s ls (a .some) (a .widest) (omega (arith, a .two)) (omega (arith, a .widest, a .disks)) (q .1) (q .2) (c .1 .0) (c .1 .1)
 
 -- a refusal by a number that is not 0
 pub refusal-says : (p k s : ℕ) (ls : List ℕ) (free n : ℕ) (r : Space) → n ≡ spaceFault p k s ls → (n ≡ 0 → ⊥) → Refused n r → SpaceSays p k s ls free r

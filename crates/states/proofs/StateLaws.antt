@@ -9,7 +9,6 @@ use Rattle.laws.specs.Choice.{pick, when, firstOf}
 use Rattle.laws.proofs.ChoiceLaws.{first-none, when-none}
 use Rattle.liberation.specs.Sets.{arrayFault, diskFault}
 use Rattle.liberation.proofs.FaultLaws.{array-of, plan-of}
-use Rattle.liberation.proofs.Widths.{width-most}
 use Rattle.states.specs.declared.ArrayState.{ArrayState}
 use Rattle.states.specs.States.{isLost, lostFault, stateFault, againFault, diskReportFault, stateReportFault}
 
@@ -43,7 +42,7 @@ again-none true false e = sym e
 again-none false true e = e
 
 pub most-disks : (p k : ℕ) → arrayFault p k ≡ 0 → k ≤ 31
-most-disks p k e = let a = array-of p k e in omega (arith, width-most p (a .0), a .2)
+most-disks p k e = let a = array-of p k e in omega (arith, a .widest, a .disks)
 
 pub few-disks : (p k d : ℕ) → arrayFault p k ≡ 0 → diskFault k d ≡ 0 → (k ≤ 31) × (d ≤ k + 1)
 few-disks p k d e f = let q = plan-of p k d (ap₂ firstOf e f) in (most-disks p k e, q .1)

@@ -8,7 +8,8 @@ ghost use Rattle.laws.specs.Choice.{firstOf, when};
 ghost use Rattle.liberation.specs.Sets.{place, setOf, shapeFault};
 ghost use Rattle.liberation.specs.Plans.{allOf};
 ghost use Rattle.liberation_stripes.specs.Stripes.{solved, followed, stripeLong};
-ghost use Rattle.stripes.specs.Cells.{Sized, Ordinary};
+ghost use Rattle.liberation_stripes.specs.Limits.{Sized};
+ghost use Rattle.stripes.specs.Cells.{Ordinary};
 
 // A set's ordinary cell, of this disk and row, becomes the XOR of the other cells of the set, by a lent list.
 pub fn solve_by(
@@ -51,7 +52,7 @@ pub fn solve(
 
 // All cells of a data disk or of P by the row sets, as one run of bytes: the column becomes the XOR of the other columns.
 pub fn solve_rows(width: usize, disks: usize, size: usize, disk: usize, stripe: &mut [u8])
-    requires { ⌜ Sized width disks size (now stripe) × (0 < width) × (disk ≤ disks) ⌝ }
+    requires { ⌜ Sized width disks size (now stripe) × (disk ≤ disks) ⌝ }
     ensures { λ _. ⌜ now (stripe .exit) ≡ followed width disks size disk (allOf width 0 0) (now (stripe .entry)) ⌝ }
 {
     let mut at = offsets::no_offsets();

@@ -1,15 +1,13 @@
 // The test of one disk by the cells of the others: each of its equations holds, which is that the equation's survivors XOR to zero. The offsets of an equation's survivors, at most three sets, go into one list, so no bytes are kept.
 ghost use mathlib.Core.Path.{_≡_};
-ghost use mathlib.Core.Bool.{true};
 ghost use Prim.Native.Nat.{_+_, _≤_, _<_};
 ghost use lib.Dec.{eqb};
 ghost use lib.ListN.{length, replicate};
 ghost use Rattle.laws.specs.Lists.{same};
 ghost use Rattle.xor.specs.Parts.{xorOffsets};
 ghost use Rattle.xor.specs.Reach.{Reached};
-ghost use Rattle.liberation.specs.Sets.{isWidth};
 ghost use Rattle.liberation_survivors.specs.Survivors.{equationHolds, fits};
-ghost use Rattle.stripes.specs.Cells.{Sized};
+ghost use Rattle.liberation_stripes.specs.Limits.{Sized};
 
 // Is the XOR of the parts of n bytes zero? What is shorter than a stretch goes block by block at once, and so do the few parts of an equation of a narrow array: a second pass over a stretch takes longer.
 fn is_zero(stripe: &[u8], n: usize, at: &[usize]) -> bool
@@ -49,7 +47,7 @@ pub fn equations_passed(
     stripe: &[u8],
     at: &mut [usize],
 ) -> usize
-    requires { ⌜ Sized width disks size (now stripe) × (isWidth width ≡ true) × (disk < disks + 2) × (from < width) × (length (now at) ≡ 99) ⌝ }
+    requires { ⌜ Sized width disks size (now stripe) × (disk < disks + 2) × (from < width) × (length (now at) ≡ 99) ⌝ }
     ensures { λ r. ⌜ (r ≤ width) × (eqb r width ≡ fits width disks size disk (now (stripe .entry))) ⌝ }
 {
     let mut passed = 0;
@@ -65,7 +63,7 @@ pub fn equations_passed(
 
 // Is some clean stripe alike this one off the disk?
 pub fn disk_fits(width: usize, disks: usize, size: usize, disk: usize, stripe: &[u8]) -> bool
-    requires { ⌜ Sized width disks size (now stripe) × (isWidth width ≡ true) × (disk < disks + 2) ⌝ }
+    requires { ⌜ Sized width disks size (now stripe) × (disk < disks + 2) ⌝ }
     ensures { λ r. ⌜ r ≡ fits width disks size disk (now (stripe .entry)) ⌝ }
 {
     let mut at = equation_offsets::no_offsets();

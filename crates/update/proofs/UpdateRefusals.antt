@@ -11,7 +11,7 @@ use Rattle.laws.specs.Choice.{firstOf, when}
 use Rattle.laws.specs.Xor.{allBytes}
 use Rattle.laws.proofs.ChoiceLaws.{first-none, first-kept, first-next, when-none, pick-refused, pick-done}
 use Rattle.liberation.specs.Sets.{shapeFault}
-use Rattle.liberation.proofs.Widths.{width-odd, width-most}
+use Rattle.liberation.proofs.Widths.{width-odd}
 use Rattle.liberation.proofs.FaultLaws.{shape-of}
 use Rattle.liberation_stripes.specs.Stripes.{stripeLong}
 use Rattle.liberation_updates.specs.Updates.{updated}
@@ -53,9 +53,9 @@ fault-none p k s r c t new e =
     let o = first-none (when (not b) 5) (rowFault p r) (u .1) in
     let q = shape-of p k s (w .0) in (
       record {
-        odd = width-odd p (q .0);
-        widest = width-most p (q .0);
-        disks = q .4;
+        odd = width-odd p (q .0 .width);
+        widest = q .0 .widest;
+        disks = q .0 .disks;
         row = leb-false p r (when-none (leb p r) 14 (o .1));
         disk = leb-false k c (when-none (leb k c) 2 (v .0));
         long = eqb-true (length t) (stripeLong p k s) (not-false a (when-none (not a) 4 (u .0)));

@@ -5,7 +5,7 @@ use Prim.Native.Nat.{_<_}
 use borrow.Author.Needs.{needs}
 use Rattle.laws.specs.Xor.{allBytes}
 use Rattle.xor.proofs.SourceLaws.{bytes-all}
-use Rattle.stripes.specs.Cells.{Sized}
+use Rattle.liberation_stripes.specs.Limits.{Sized}
 use Rattle.stripes.specs.Says.{stripeFault}
 use Rattle.stripes.proofs.StripeRefusals.{fault-none}
 use Rattle.check_stripe.proofs.CheckLaws.{check-refused, check-done}
@@ -16,7 +16,7 @@ use Rattle.check_stripe.proofs.check_stripe.Tie as tie
 passed : (c : tie.Else1) → let a = c .before .before .before .args in stripeFault (a .shape .width) (a .shape .disks) (a .shape .«cell_size») (a .stripe .now) ≡ 0
 passed c = sym (c .before .stripe-fault .ensures) ∙ c .if1 .left
 
-sized : (c : tie.Else1) → let a = c .before .before .before .args in Sized (a .shape .width) (a .shape .disks) (a .shape .«cell_size») (a .stripe .now) × (0 < a .shape .width)
+sized : (c : tie.Else1) → let a = c .before .before .before .args in Sized (a .shape .width) (a .shape .disks) (a .shape .«cell_size») (a .stripe .now)
 sized c = let a = c .before .before .before .args in fault-none (a .shape .width) (a .shape .disks) (a .shape .«cell_size») (a .stripe .now) (passed c)
 
 -- the lent stripe is bytes

@@ -21,7 +21,7 @@ reach c =
     let o = c .before .before .before .before in
     let a = o .args in
     let room : length (c .push-row .last .1 .1 .1 .1 .1 .0) ≡ 33 = search needs in
-    columns-reached (a .width) (a .disks) (a .size) (a .disks + 2) (o .pre .1) (first-row (a .width) (a .disks) (a .size) (a .stripe .now) (o .pre .1) (o .pre .0 .long) (c .push-row .ensures)) (omega (arith, long c, c .push-row .ensures .fits)) (omega (arith, o .pre .0 .long))
+    columns-reached (a .width) (a .disks) (a .size) (a .disks + 2) (o .pre .array .some) (first-row (a .width) (a .disks) (a .size) (a .stripe .now) (o .pre .array .some) (o .pre .long) (c .push-row .ensures)) (omega (arith, long c, c .push-row .ensures .fits)) (omega (arith, o .pre .long))
 
 slice-aggregate-is-zero : tie.Need-slice-aggregate-is-zero
 slice-aggregate-is-zero c = sym (long (c .before .before))
@@ -32,15 +32,15 @@ is-zero-requires c κs =
     let o = u .before .before .before .before in
     let a = o .args in
     let l : 0 < a .disks + 2 = omega arith in
-    (omega (arith, o .pre .0 .long, cell-fits (a .disks + 2) (a .width * a .size) 0 l), reach u)
+    (omega (arith, o .pre .long, cell-fits (a .disks + 2) (a .width * a .size) 0 l), reach u)
 
 returns : tie.Need-returns
 returns c =
     let u = c .before .before .before in
     let o = u .before .before .before .before in
     let a = o .args in
-    rows-clean (a .width) (a .disks) (a .size) (a .stripe .now) (o .pre .1) (o .pre .0 .long) (take (u .push-row .result) (u .push-row .last .1 .1 .1 .1 .1 .0)) (c .is-zero .result)
-    (first-row (a .width) (a .disks) (a .size) (a .stripe .now) (o .pre .1) (o .pre .0 .long) (u .push-row .ensures)) (reach u) (c .is-zero .ensures)
+    rows-clean (a .width) (a .disks) (a .size) (a .stripe .now) (o .pre .array .some) (o .pre .long) (take (u .push-row .result) (u .push-row .last .1 .1 .1 .1 .1 .0)) (c .is-zero .result)
+    (first-row (a .width) (a .disks) (a .size) (a .stripe .now) (o .pre .array .some) (o .pre .long) (u .push-row .ensures)) (reach u) (c .is-zero .ensures)
 
 pub rows-are-clean-spec : {M : Type 1} → statement M
 rows-are-clean-spec =

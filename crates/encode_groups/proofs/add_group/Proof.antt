@@ -9,7 +9,7 @@ use Rattle.encode_groups.proofs.add_group.Tie as tie
 
 -- `first` is a row
 first : (o : tie.Start) → (o .args .lo + 2) % o .args .width < o .args .width
-first o = mod-lt (o .args .lo + 2) (o .pre .1)
+first o = mod-lt (o .args .lo + 2) (o .pre .sized .array .some)
 
 sub-left : tie.Need-sub-left
 sub-left c = omega (arith, first (c .before .before))
@@ -17,13 +17,13 @@ sub-left c = omega (arith, first (c .before .before))
 add-sets-requires : tie.Need-add-sets-requires
 add-sets-requires c κs =
     let o = c .before .before .before .before in
-    (o .pre .0, omega (arith, first o), omega (arith, first o))
+    (o .pre, omega (arith, first o), omega (arith, first o))
 
 add-sets-requires-2 : tie.Need-add-sets-requires-2
 add-sets-requires-2 c κs =
     let u = c .before .before .before .before .before .before in
     let o = u .before .before .before .before .before in
-    (still-group (u .add-sets .last .1 .1 .1 .1 .1 .1 .1 .1 .0) (u .add-sets .last .1 .1 .1 .1 .1 .1 .1 .1 .1 .0) (o .pre .0) (u .add-sets .kept .1 .1 .1 .1 .1 .1 .1 .1 .0) (u .add-sets .kept .1 .1 .1 .1 .1 .1 .1 .1 .1 .0), omega (arith, first o), omega (arith, first o))
+    (still-group (u .add-sets .last .1 .1 .1 .1 .1 .1 .1 .1 .0) (u .add-sets .last .1 .1 .1 .1 .1 .1 .1 .1 .1 .0) (o .pre) (u .add-sets .kept .1 .1 .1 .1 .1 .1 .1 .1 .0) (u .add-sets .kept .1 .1 .1 .1 .1 .1 .1 .1 .1 .0), omega (arith, first o), omega (arith, first o))
 
 returns : tie.Need-returns
 returns c =
@@ -31,7 +31,7 @@ returns c =
     let u = v .before .before .before .before .before .before .before in
     let o = u .before .before .before .before .before in
     let a = o .args in
-    let g = o .pre .0 in
+    let g = o .pre in
     let r = (a .lo + 2) % a .width in
     sets-both (a .width) (a .disks) (a .size) (a .lo) (a .hi) (g .ordered) (g .last) r (a .width - r) (a .stripe .now) (u .add-sets .last .1 .1 .1 .1 .1 .1 .1 .1 .0) (v .add-sets2 .last .1 .1 .1 .1 .1 .1 .1 .1 .0) (omega (arith, first o)) (u .add-sets .ensures) (v .add-sets2 .ensures)
 

@@ -5,7 +5,8 @@ use native.Mathlib.Omega.{arith}
 use lib.ListN.{length}
 use borrow.Author.Needs.{needs}
 use Rattle.encode_groups.specs.Added.{SetsAdded}
-use Rattle.encode_groups.proofs.GroupLoops.{still-group, sized-long, sets-none, sets-turn, sets-end}
+use Rattle.liberation_stripes.proofs.SizedLaws.{sized-long}
+use Rattle.encode_groups.proofs.GroupLoops.{still-group, sets-none, sets-turn, sets-end}
 use Rattle.encode_groups.proofs.add_sets.Statement.{statement}
 use Rattle.encode_groups.proofs.add_sets.Tie as tie
 
@@ -30,7 +31,7 @@ number-in : (i : tie.In-loop Inv-loop μ-loop) → let a = i .before .before .be
 number-in i = omega (arith, i .before .before .before .before .pre .2)
 
 add-add-row : tie.Need-add-add-row Inv-loop μ-loop
-add-add-row i = omega (arith, row-in i, i .before .before .before .before .pre .0 .sized .widest)
+add-add-row i = omega (arith, row-in i, i .before .before .before .before .pre .0 .sized .array .widest)
 
 add-row-requires : tie.Need-add-row-requires Inv-loop μ-loop
 add-row-requires c κs =
@@ -42,7 +43,7 @@ add-row-requires c κs =
 add-add-diagonal : tie.Need-add-add-diagonal Inv-loop μ-loop
 add-add-diagonal c =
     let i = c .before .before .before .before .before .before .before in
-    omega (arith, number-in i, i .before .before .before .before .pre .0 .sized .widest)
+    omega (arith, number-in i, i .before .before .before .before .pre .0 .sized .array .widest)
 
 add-diagonal-requires : tie.Need-add-diagonal-requires Inv-loop μ-loop
 add-diagonal-requires c κs =

@@ -7,7 +7,8 @@ use lib.ListN.{length}
 use borrow.Author.Needs.{needs}
 use Rattle.laws.specs.Xor.{allBytes}
 use Rattle.xor.proofs.SourceLaws.{bytes-all}
-use Rattle.encode_groups.proofs.GroupLoops.{sized-long, Summed, summed-none, summed-turn, summed-all}
+use Rattle.liberation_stripes.proofs.SizedLaws.{sized-kept, sized-long}
+use Rattle.encode_groups.proofs.GroupLoops.{Summed, summed-none, summed-turn, summed-all}
 use Rattle.encode_groups.proofs.encode_groups.Statement.{statement}
 use Rattle.encode_groups.proofs.encode_groups.Tie as tie
 
@@ -31,8 +32,7 @@ add-group-requires c κs =
     let e = c .before .before .group-end in
     let l = c .before .before .before .before .loop in
     let o = c .before .before .before .before .before .before .before in
-    let q = o .pre .0 in
-    (record { sized = record { widest = q .widest; disks = q .disks; small = q .small; long = l .inv .2 ∙ q .long }; ordered = omega (arith, e .ensures .0); last = e .ensures .1; room = l .inv .1 }, o .pre .1)
+    record { sized = sized-kept _ _ _ _ (l .stripe) (o .pre) (l .inv .2); ordered = omega (arith, e .ensures .0); last = e .ensures .1; room = l .inv .1 }
 
 loop-again : tie.Need-loop-again Inv-loop μ-loop
 loop-again c =
@@ -46,7 +46,7 @@ loop-again c =
       search needs,
       v .kept .1 .1 .1 .1 .1 .0 ∙ l .inv .2,
       bytes-all (v .last .1 .1 .1 .1 .1 .0) (c .before .slice-known2 .given),
-      summed-turn (a .width) (a .disks) (a .size) (l .lo) (e .result) (a .stripe .now) (l .stripe) (v .last .1 .1 .1 .1 .1 .0) (omega (arith, e .ensures .0)) (e .ensures .1) (sized-long (a .width) (a .disks) (a .size) (a .stripe .now) (o .pre .0)) (l .inv .4) (v .ensures),
+      summed-turn (a .width) (a .disks) (a .size) (l .lo) (e .result) (a .stripe .now) (l .stripe) (v .last .1 .1 .1 .1 .1 .0) (omega (arith, e .ensures .0)) (e .ensures .1) (sized-long (a .width) (a .disks) (a .size) (a .stripe .now) (o .pre)) (l .inv .4) (v .ensures),
     )
 
 same-length : tie.Need-same-length Inv-loop μ-loop
@@ -58,8 +58,8 @@ returns c =
     let s = c .before .before .before in
     let o = s .before in
     let a = o .args in
-    let whole = sized-long (a .width) (a .disks) (a .size) (a .stripe .now) (o .pre .0) in
-    summed-all (a .width) (a .disks) (a .size) (l .lo) (a .stripe .now) (l .stripe) (omega arith) (o .pre .2) whole (l .inv .2 ∙ whole) (bytes s) (l .inv .3) (l .inv .4)
+    let whole = sized-long (a .width) (a .disks) (a .size) (a .stripe .now) (o .pre) in
+    summed-all (a .width) (a .disks) (a .size) (l .lo) (a .stripe .now) (l .stripe) (omega arith) (omega (arith, o .pre .array .two)) whole (l .inv .2 ∙ whole) (bytes s) (l .inv .3) (l .inv .4)
 
 pub encode-groups-spec : {M : Type 1} → statement M
 encode-groups-spec =

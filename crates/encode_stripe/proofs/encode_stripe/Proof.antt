@@ -5,7 +5,8 @@ use borrow.Author.Needs.{needs}
 use Rattle.laws.specs.Xor.{allBytes}
 use Rattle.xor.proofs.SourceLaws.{bytes-all}
 use Rattle.stripes.specs.Says.{stripeFault}
-use Rattle.encode_stripe.proofs.EncodeLaws.{within, encode-refused, encode-done}
+use Rattle.stripes.proofs.StripeRefusals.{fault-none}
+use Rattle.encode_stripe.proofs.EncodeLaws.{encode-refused, encode-done}
 use Rattle.encode_stripe.proofs.encode_stripe.Statement.{statement}
 use Rattle.encode_stripe.proofs.encode_stripe.Tie as tie
 
@@ -28,7 +29,7 @@ write-parity-requires : tie.Need-write-parity-requires
 write-parity-requires c κs =
     let e = c .before in
     let a = e .before .before .before .args in
-    within (a .shape .width) (a .shape .disks) (a .shape .«cell_size») (a .stripe .now) (passed e)
+    fault-none (a .shape .width) (a .shape .disks) (a .shape .«cell_size») (a .stripe .now) (passed e)
 
 returns-2 : tie.Need-returns-2
 returns-2 c =

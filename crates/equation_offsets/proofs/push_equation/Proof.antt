@@ -11,14 +11,14 @@ returns c =
     let w = c .before .before .before .before in
     let o = w .before .before in
     let a = o .args in
-    last-pushed (a .width) (a .disks) (a .size) (a .disk) (a .number) (o .pre .numbered) (w .if1 .taken) (u .ensures .0)
+    last-pushed (a .width) (a .disks) (a .size) (a .disk) (a .number) (o .pre .2) (w .if1 .taken) (u .ensures .0)
 
 returns-2 : tie.Need-returns-2
 returns-2 c =
     let u = c .before .before .before .push-set2 in
     let o = c .before .before .before .before .before .before .before in
     let a = o .args in
-    row-parity-pushed (a .width) (a .disks) (a .size) (a .disk) (a .number) (o .pre .numbered) (c .if2 .taken) (u .ensures .0)
+    row-parity-pushed (a .width) (a .disks) (a .size) (a .disk) (a .number) (o .pre .2) (c .if2 .taken) (u .ensures .0)
 
 returns-3 : tie.Need-returns-3
 returns-3 c =
@@ -27,7 +27,7 @@ returns-3 c =
     let u = e .before .before .before .push-set2 in
     let o = e .before .before .before .before .before .before .before in
     let a = o .args in
-    data-pushed (a .width) (a .disks) (a .size) (a .disk) (a .number) (o .pre .numbered) (omega (arith, e .before .before .before .before .before .if1 .left)) (u .ensures .0) (v .ensures)
+    data-pushed (a .width) (a .disks) (a .size) (a .disk) (a .number) (o .pre .2) (omega (arith, e .before .before .before .before .before .if1 .left)) (u .ensures .0) (v .ensures)
 
 pub push-equation-spec : {M : Type 1} → statement M
 push-equation-spec =

@@ -16,11 +16,8 @@ push-set-requires : tie.Need-push-set-requires
 push-set-requires c κs =
     let o = c .before .before .before in
     let a = o .args in
-    let p = o .pre .0 in
-    let below : (a .number + a .disk) % a .width < a .width = mod-lt (a .number + a .disk) (omega arith) in (
-      record { widest = p .widest; disks = p .disks; small = p .small; disk = p .disk; numbered = omega (arith, row-is (c .before), below); room = p .room },
-      omega arith,
-    )
+    let below : (a .number + a .disk) % a .width < a .width = mod-lt (a .number + a .disk) (omega arith) in
+    (o .pre .0, o .pre .1, omega (arith, row-is (c .before), below), o .pre .3, omega arith, omega arith)
 
 returns : tie.Need-returns
 returns c =
@@ -28,7 +25,7 @@ returns c =
     let w = c .before .before .before .before .before in
     let o = w .before .before in
     let a = o .args in
-    rows-zero (a .width) (a .disks) (a .size) (a .disk) (a .number) (w .row-on .result) (o .pre .0 .numbered) (o .pre .1) (row-is w) (c .if1 .taken) (u .ensures .0)
+    rows-zero (a .width) (a .disks) (a .size) (a .disk) (a .number) (w .row-on .result) (o .pre .2) (o .pre .4) (row-is w) (c .if1 .taken) (u .ensures .0)
 
 returns-2 : tie.Need-returns-2
 returns-2 c =
@@ -37,7 +34,7 @@ returns-2 c =
     let w = c .before .before .before .before .before .before .before in
     let o = w .before .before in
     let a = o .args in
-    rows-apart (a .width) (a .disks) (a .size) (a .disk) (a .number) (w .row-on .result) (o .pre .0 .numbered) (o .pre .1) (row-is w) (x .result) (x .ensures) (c .if2 .taken) (u .ensures .0)
+    rows-apart (a .width) (a .disks) (a .size) (a .disk) (a .number) (w .row-on .result) (o .pre .2) (o .pre .4) (row-is w) (x .result) (x .ensures) (c .if2 .taken) (u .ensures .0)
 
 returns-3 : tie.Need-returns-3
 returns-3 c =
@@ -48,7 +45,7 @@ returns-3 c =
     let w = e .before .before .before .before .before .before .before in
     let o = w .before .before in
     let a = o .args in
-    rows-both (a .width) (a .disks) (a .size) (a .disk) (a .number) (w .row-on .result) (o .pre .0 .numbered) (o .pre .1) (row-is w) (x .result) (x .ensures) (e .if2 .left) (e .before .before .if1 .left) (u .ensures .0) (v .ensures .0)
+    rows-both (a .width) (a .disks) (a .size) (a .disk) (a .number) (w .row-on .result) (o .pre .2) (o .pre .4) (row-is w) (x .result) (x .ensures) (e .if2 .left) (e .before .before .if1 .left) (u .ensures .0) (v .ensures .0)
 
 pub push-rows-spec : {M : Type 1} → statement M
 push-rows-spec =

@@ -10,7 +10,7 @@ returns c =
     let u = c .before .before .surviving in
     let o = c .before .before .before .before .before in
     let a = o .args in
-    set-after (a .width) (a .disks) (a .size) (a .disk) (a .kind) (a .number) (a .count) (u .result) (a .at .now) (u .last .1 .1 .1 .1 .1 .1 .1 .0) (omega (arith, o .pre .0 .room)) (u .kept .1 .1 .1 .1 .1 .1 .1 .0) (u .ensures)
+    set-after (a .width) (a .disks) (a .size) (a .disk) (a .kind) (a .number) (a .count) (u .result) (a .at .now) (u .last .1 .1 .1 .1 .1 .1 .1 .0) (omega (arith, o .pre .3)) (u .kept .1 .1 .1 .1 .1 .1 .1 .0) (u .ensures)
 
 pub push-set-spec : {M : Type 1} → statement M
 push-set-spec =

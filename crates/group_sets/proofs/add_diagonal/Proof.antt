@@ -22,9 +22,10 @@ small c =
     let o = c .before .before in
     let a = o .args in
     let q = o .pre .0 .sized in
-    let f : a .disks + 1 ≤ 32 = omega (arith, q .disks, q .widest) in
-    let d : (a .disks + 1) * a .width ≤ 32 * 31 = mul-le-mul f (q .widest) in
-    let n : (a .disks + 1) * a .width + a .number ≤ 1023 = omega (arith, q .widest) in
+    let g = q .array in
+    let f : a .disks + 1 ≤ 32 = omega (arith, g .disks, g .widest) in
+    let d : (a .disks + 1) * a .width ≤ 32 * 31 = mul-le-mul f (g .widest) in
+    let n : (a .disks + 1) * a .width + a .number ≤ 1023 = omega (arith, g .widest) in
     (d, mul-le-mul n (q .small))
 
 push-own-requires : tie.Need-push-own-requires
@@ -42,7 +43,7 @@ push-diagonal-requires c κs =
     let o = u .before .before .before .before in
     let g = o .pre .0 in
     let l : length (u .push-own .last .1 .1 .0) ≡ 33 = search needs in
-    (record { widest = g .sized .widest; small = g .sized .small; numbered = o .pre .1; from = omega (arith, g .ordered, g .last, g .sized .disks); to = omega (arith, g .last, g .sized .disks); space = omega (arith, g .last, g .sized .disks, g .sized .widest, few u); few = omega arith }, omega (arith, g .last, g .sized .disks))
+    (record { widest = g .sized .array .widest; small = g .sized .small; numbered = o .pre .1; from = omega (arith, g .ordered, g .last, g .sized .array .disks); to = omega (arith, g .last, g .sized .array .disks); space = omega (arith, g .last, g .sized .array .disks, g .sized .array .widest, few u); few = omega arith }, omega (arith, g .last, g .sized .array .disks))
 
 push-extra-requires : tie.Need-push-extra-requires
 push-extra-requires c κs =
@@ -53,7 +54,7 @@ push-extra-requires c κs =
     let g = o .pre .0 in
     let l : length (v .push-diagonal .last .1 .1 .1 .1 .1 .0) ≡ 33 = search needs in
     let n = data-count (a .width) (a .disks) (a .size) 1 (a .number) (a .hi - a .lo) (a .lo) (v .push-diagonal .ensures) in
-    (g .sized .widest, g .sized .small, o .pre .1, omega (arith, g .last, g .sized .disks), omega (arith, n, few u, g .last, g .sized .disks, g .sized .widest))
+    (g .sized .array .widest, g .sized .small, o .pre .1, omega (arith, g .last, g .sized .array .disks), omega (arith, n, few u, g .last, g .sized .array .disks, g .sized .array .widest))
 
 -- the list is as long as before
 room : (w : tie.After-push-extra) → length (w .push-extra .last .1 .1 .1 .1 .1 .0) ≡ 33

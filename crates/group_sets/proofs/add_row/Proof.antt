@@ -20,9 +20,10 @@ small c =
     let o = c .before .before in
     let a = o .args in
     let q = o .pre .0 .sized in
-    let f : a .disks ≤ 31 = omega (arith, q .disks, q .widest) in
-    let d : a .disks * a .width ≤ 31 * 31 = mul-le-mul f (q .widest) in
-    let n : a .disks * a .width + a .row ≤ 1023 = omega (arith, q .widest) in
+    let g = q .array in
+    let f : a .disks ≤ 31 = omega (arith, g .disks, g .widest) in
+    let d : a .disks * a .width ≤ 31 * 31 = mul-le-mul f (g .widest) in
+    let n : a .disks * a .width + a .row ≤ 1023 = omega (arith, g .widest) in
     (d, mul-le-mul n (q .small))
 
 push-own-requires : tie.Need-push-own-requires
@@ -35,7 +36,7 @@ push-row-requires c κs =
     let a = o .args in
     let g = o .pre .0 in
     let l : length (u .push-own .last .1 .1 .0) ≡ 33 = search needs in
-    record { widest = g .sized .widest; small = g .sized .small; numbered = o .pre .1; from = omega (arith, g .ordered, g .last, g .sized .disks); to = omega (arith, g .last, g .sized .disks); space = omega (arith, g .last, g .sized .disks, g .sized .widest, own-few (a .lo) (place (a .width) (a .row) (a .disks) * a .size) (u .push-own .result) (u .push-own .ensures)); few = omega arith }
+    record { widest = g .sized .array .widest; small = g .sized .small; numbered = o .pre .1; from = omega (arith, g .ordered, g .last, g .sized .array .disks); to = omega (arith, g .last, g .sized .array .disks); space = omega (arith, g .last, g .sized .array .disks, g .sized .array .widest, own-few (a .lo) (place (a .width) (a .row) (a .disks) * a .size) (u .push-own .result) (u .push-own .ensures)); few = omega arith }
 
 -- the list is as long as before
 room : (v : tie.After-push-row) → length (v .push-row .last .1 .1 .1 .1 .1 .0) ≡ 33

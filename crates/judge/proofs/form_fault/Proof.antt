@@ -9,7 +9,6 @@ use borrow.Author.Needs.{needs}
 use Rattle.laws.specs.Choice.{when, firstOf}
 use Rattle.laws.proofs.ChoiceLaws.{first-kept}
 use Rattle.liberation.specs.Sets.{planFault}
-use Rattle.liberation.proofs.Widths.{width-most}
 use Rattle.liberation.proofs.FaultLaws.{plan-of}
 use Rattle.judge.proofs.form_fault.Statement.{statement}
 use Rattle.judge.proofs.form_fault.Tie as tie
@@ -25,7 +24,7 @@ returns c =
     first-kept _ _ (when (not (eqb (a .long) (3 * a .width))) 5) (q .plan-fault .ensures) (c .if1 .taken)
 
 mul-if2 : tie.Need-mul-if2
-mul-if2 c = let a = c .before .before .args in omega (arith, width-most (a .width) (plan-of (a .width) (a .disks) (a .lost) (none c) .0))
+mul-if2 c = let a = c .before .before .args in omega (arith, plan-of (a .width) (a .disks) (a .lost) (none c) .0 .widest)
 
 returns-2 : tie.Need-returns-2
 returns-2 c =

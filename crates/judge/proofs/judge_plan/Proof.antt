@@ -7,11 +7,10 @@ use lib.ListN.{length, take}
 use lib.Seq.{length-take-le}
 use borrow.Author.Needs.{needs}
 use Rattle.laws.proofs.ChoiceLaws.{first-none}
+use Rattle.liberation.specs.Limits.{InArray}
 use Rattle.liberation.specs.Sets.{planFault, longFault}
-use Rattle.liberation.proofs.Widths.{width-least, width-most}
 use Rattle.liberation.proofs.FaultLaws.{plan-of, long-of}
 use Rattle.liberation.proofs.MarkLists.{length-marks, take-marks, cells-most}
-use Rattle.judge_step.specs.Limits.{InArray}
 use Rattle.judge.specs.Says.{formFault}
 use Rattle.judge.proofs.FormRefusals.{form-refused, steps-decide}
 use Rattle.judge.proofs.judge_plan.Statement.{statement}
@@ -21,12 +20,11 @@ use Rattle.judge.proofs.judge_plan.Tie as tie
 none : (c : tie.Else1) → let a = c .before .before .before .args in formFault (a .width) (a .disks) (a .lost) (a .plan .now) ≡ 0
 none c = sym (c .before .form-fault .ensures) ∙ c .if1 .left
 
-within : (c : tie.Else1) → let a = c .before .before .before .args in InArray (a .width) (a .disks) (a .lost) × (length (a .plan .now) ≡ 3 * a .width)
+within : (c : tie.Else1) → let a = c .before .before .before .args in (InArray (a .width) (a .disks) × (a .lost ≤ a .disks + 1)) × (length (a .plan .now) ≡ 3 * a .width)
 within c =
     let a = c .before .before .before .args in
     let q = first-none (planFault (a .width) (a .disks) (a .lost)) (longFault (3 * a .width) (a .plan .now)) (none c) in
-    let w = plan-of (a .width) (a .disks) (a .lost) (q .0) in
-    (record { some = omega (arith, width-least (a .width) (w .0)); widest = width-most (a .width) (w .0); disks = w .3; disk = w .1 }, long-of (3 * a .width) (a .plan .now) (q .1))
+    (plan-of (a .width) (a .disks) (a .lost) (q .0), long-of (3 * a .width) (a .plan .now) (q .1))
 
 returns : tie.Need-returns
 returns c =
@@ -37,13 +35,13 @@ returns c =
 
 -- the stripe has few cells, and they have their marks
 few : (c : tie.Else1) → let a = c .before .before .before .args in a .width * (a .disks + 2) ≤ 1023
-few c = let a = c .before .before .before .args in let w = within c .0 in cells-most (a .width) (a .disks) (w .widest) (w .disks)
+few c = let a = c .before .before .before .args in let w = within c .0 .0 in cells-most (a .width) (a .disks) (w .widest) (w .disks)
 
 enough : (c : tie.After-no-marks) → let a = c .before .before .before .before .args in a .width * (a .disks + 2) ≤ length (c .no-marks .result)
 enough c = omega (arith, few (c .before), ap length (c .no-marks .ensures), length-marks 1023 0 [])
 
 add-marks : tie.Need-add-marks
-add-marks c = let w = within (c .before) .0 in omega (arith, w .widest, w .disks)
+add-marks c = let w = within (c .before) .0 .0 in omega (arith, w .widest, w .disks)
 
 mul-marks : tie.Need-mul-marks
 mul-marks c = omega (arith, few (c .before))

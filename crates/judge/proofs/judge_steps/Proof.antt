@@ -53,14 +53,14 @@ form c =
     halfway-form (a .width) (a .disks) (a .lost) (a .plan .now) (l .done) (l .marks) (read (c .before)) (l .reads) (l .i) (c .before .step-fault .result) (l .inv) (c .before .step-fault .ensures) (c .if1 .left)
 
 array-write-done : tie.Need-array-write-done Inv-loop μ-loop
-array-write-done c = omega (arith, form c .row, c .before .before .before .before .before .before .before .before .before .before .before .before .pre .0 .widest)
+array-write-done c = omega (arith, form c .row, c .before .before .before .before .before .before .before .before .before .before .before .before .pre .0 .0 .widest)
 
 mark-set-requires : tie.Need-mark-set-requires Inv-loop μ-loop
 mark-set-requires c κs =
     let a = c .before .before .before .before .before .before .before .before .before .before .before .before .before .args in
     let q = c .before .before .before .before .before .before .before .before .before .before .before .before .before .pre in
     let l = c .before .before .before .before .before .before .before .before .before .before .loop in
-    (record { widest = q .0 .widest; disks = omega (arith, q .0 .disks); numbered = form (c .before) .number }, ap length (l .inv .marks) ∙ length-marks (a .width * (a .disks + 2)) 0 (l .inv .cells))
+    ((q .0 .0, form (c .before) .number), ap length (l .inv .marks) ∙ length-marks (a .width * (a .disks + 2)) 0 (l .inv .cells))
 
 -- the loop's state after one more step
 turned : (c : tie.After-slice-known2 Inv-loop μ-loop) → let a = c .before .before .before .before .before .before .before .before .before .before .before .before .before .before .before .before .args in let l = c .before .before .before .before .before .before .before .before .before .before .before .before .before .loop in Halfway (a .width) (a .disks) (a .lost) (a .plan .now) (set (l .done) (c .before .before .before .before .before .before .before .before .before .before .wide .result) 1) (c .before .before .mark-set .last .1 .1 .1 .1 .1 .0) (l .reads + c .before .before .mark-set .result) (l .i + 1)
@@ -70,10 +70,10 @@ turned c =
     let l = c .before .before .before .before .before .before .before .before .before .before .before .before .before .loop in
     let e = c .before .before .before .before in
     let m = c .before .before .mark-set in
-    halfway-turn (a .width) (a .disks) (a .lost) (a .plan .now) (l .done) (l .marks) (m .last .1 .1 .1 .1 .1 .0) (read (e .before)) (l .reads) (l .i) (e .before .step-fault .result) (m .result) (q .0 .widest) (q .0 .disks) (c .before .before .before .before .before .before .before .before .before .before .before .before .loop-test .taken) (bytes (e .before)) (e .before .step-fault .ensures) (e .if1 .left) (l .inv) (m .ensures)
+    halfway-turn (a .width) (a .disks) (a .lost) (a .plan .now) (l .done) (l .marks) (m .last .1 .1 .1 .1 .1 .0) (read (e .before)) (l .reads) (l .i) (e .before .step-fault .result) (m .result) (q .0 .0 .widest) (q .0 .0 .disks) (c .before .before .before .before .before .before .before .before .before .before .before .before .loop-test .taken) (bytes (e .before)) (e .before .step-fault .ensures) (e .if1 .left) (l .inv) (m .ensures)
 
 add-reads : tie.Need-add-reads Inv-loop μ-loop
-add-reads c = omega (arith, turned c .few, turned c .within, c .before .before .before .before .before .before .before .before .before .before .before .before .before .before .before .before .pre .0 .widest)
+add-reads c = omega (arith, turned c .few, turned c .within, c .before .before .before .before .before .before .before .before .before .before .before .before .before .before .before .before .pre .0 .0 .widest)
 
 loop-again : tie.Need-loop-again Inv-loop μ-loop
 loop-again c = turned c

@@ -20,10 +20,10 @@ abbrev μ-loop : tie.MeasureT-loop
 μ-loop width disks lost row kind number wanted size at₀ at = size - at
 
 mul-wanted : tie.Need-mul-wanted Inv-loop μ-loop
-mul-wanted c = let a = c .args in omega (arith, place-small (a .width) (a .row) (a .lost) (c .pre .0 .widest) (c .pre .1 .0) (omega (arith, c .pre .0)))
+mul-wanted c = let a = c .args in omega (arith, place-small (a .width) (a .row) (a .lost) (c .pre .0 .0 .widest) (c .pre .1 .0) (omega (arith, c .pre .0)))
 
 add-wanted : tie.Need-add-wanted Inv-loop μ-loop
-add-wanted c = let a = c .args in omega (arith, place-small (a .width) (a .row) (a .lost) (c .pre .0 .widest) (c .pre .1 .0) (omega (arith, c .pre .0)))
+add-wanted c = let a = c .args in omega (arith, place-small (a .width) (a .row) (a .lost) (c .pre .0 .0 .widest) (c .pre .1 .0) (omega (arith, c .pre .0)))
 
 loop-holds : tie.Need-loop-holds Inv-loop μ-loop
 loop-holds c = (c .set-size .ensures, refl)

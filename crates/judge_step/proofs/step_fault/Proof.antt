@@ -49,7 +49,7 @@ returns-4 c = λ ds e.
 past : (c : tie.Else4) (ds : List ℕ) (x y : Bool) → let a = c .before .before .before .before .before .args in a .t7 ≡ marksFrom 31 0 ds → eqb (getD (a .t7) (a .row) 0) 1 ≡ x → y ≡ there (a .width) (a .lost) (a .row) ds (setOf (a .width) (a .disks) (a .kind) (a .number)) → firstOf (when x 8) (when (not y) 9) ≡ stepFault (a .width) (a .disks) (a .lost) ds (step (a .row) (a .kind) (a .number))
 past c ds x y e r t =
     let a = c .before .before .before .before .before .args in
-    sym (fault-is (a .width) (a .disks) (a .lost) ds (step (a .row) (a .kind) (a .number)) false true x y (in-form (c .before .before)) (held (c .before) true (not-false (c .before .holds-row .result) (c .if4 .left))) (sym r ∙ byte-one 31 (a .row) (a .t7) ds e (omega (arith, c .before .before .before .before .if1 .left, c .before .before .before .before .before .pre .widest))) t)
+    sym (fault-is (a .width) (a .disks) (a .lost) ds (step (a .row) (a .kind) (a .number)) false true x y (in-form (c .before .before)) (held (c .before) true (not-false (c .before .holds-row .result) (c .if4 .left))) (sym r ∙ byte-one 31 (a .row) (a .t7) ds e (omega (arith, c .before .before .before .before .if1 .left, c .before .before .before .before .before .pre .0 .widest))) t)
 
 returns-5 : tie.Need-returns-5
 returns-5 c = λ ds e. past (c .before) ds true _ e (eq-eqb _ _ (c .if5 .taken)) refl

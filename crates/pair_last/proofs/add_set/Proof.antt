@@ -20,7 +20,7 @@ push-lost-requires : tie.Need-push-lost-requires
 push-lost-requires c κs =
     let o = c .before .before .before in
     let q = o .pre .0 in
-    (q .sized .widest, q .sized .disks, q .sized .small, o .pre .1, q .one, omega arith, q .room)
+    (q .sized .array .widest, q .sized .array .disks, q .sized .small, o .pre .1, q .one, omega arith, q .room)
 
 push-lost-requires-2 : tie.Need-push-lost-requires-2
 push-lost-requires-2 c κs =
@@ -29,7 +29,7 @@ push-lost-requires-2 c κs =
     let a = o .args in
     let q = o .pre .0 in
     let l : length (v .push-lost .last .1 .1 .1 .1 .1 .1 .0) ≡ 33 = search needs in
-    (q .sized .widest, q .sized .disks, q .sized .small, o .pre .1, q .other, omega (arith, v .push-lost .ensures .count, length-scaled (a .size) (placed (a .width) (a .x) (lostIn (a .width) (a .x) (setOf (a .width) (a .disks) (a .kind) (a .number)))), lost-few (a .width) (a .disks) (a .kind) (a .number) (a .x) (o .pre .1) (q .one)), l)
+    (q .sized .array .widest, q .sized .array .disks, q .sized .small, o .pre .1, q .other, omega (arith, v .push-lost .ensures .count, length-scaled (a .size) (placed (a .width) (a .x) (lostIn (a .width) (a .x) (setOf (a .width) (a .disks) (a .kind) (a .number)))), lost-few (a .width) (a .disks) (a .kind) (a .number) (a .x) (o .pre .1) (q .one)), l)
 
 -- the list is as long as before
 room : (w : tie.After-push-lost2) → length (w .push-lost2 .last .1 .1 .1 .1 .1 .1 .0) ≡ 33
@@ -55,14 +55,14 @@ small w =
     let o = w .before .before .before .before .before .before .before .before in
     let a = o .args in
     let q = o .pre .0 in
-    let f : a .disk ≤ 31 = omega (arith, o .pre .3, q .sized .disks, q .sized .widest) in
-    mul-le-mul f (q .sized .widest)
+    let f : a .disk ≤ 31 = omega (arith, o .pre .3, q .sized .array .disks, q .sized .array .widest) in
+    mul-le-mul f (q .sized .array .widest)
 
 mul-to : tie.Need-mul-to
 mul-to c = omega (arith, small (c .before .before))
 
 add-to : tie.Need-add-to
-add-to c = omega (arith, small (c .before .before), c .before .before .before .before .before .before .before .before .before .before .pre .0 .sized .widest)
+add-to c = omega (arith, small (c .before .before), c .before .before .before .before .before .before .before .before .before .before .pre .0 .sized .array .widest)
 
 mul-to-2 : tie.Need-mul-to-2
 mul-to-2 c = omega (arith, lies (c .before .before) .fits)

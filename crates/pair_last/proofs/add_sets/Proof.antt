@@ -48,7 +48,7 @@ add-set-requires-2 c κs =
     (still-lost (v .add-set .last .1 .1 .1 .1 .1 .1 .1 .1 .1 .0) (v .add-set .last .1 .1 .1 .1 .1 .1 .1 .1 .1 .1 .0) (o .pre .0) (v .add-set .kept .1 .1 .1 .1 .1 .1 .1 .1 .1 .0 ∙ l .inv .1) (v .add-set .kept .1 .1 .1 .1 .1 .1 .1 .1 .1 .1 .0 ∙ l .inv .2), next i, next i, o .pre .0 .one)
 
 add-on : tie.Need-add-on Inv-loop μ-loop
-add-on i = omega (arith, numbered i, i .before .before .before .before .pre .0 .sized .widest)
+add-on i = omega (arith, numbered i, i .before .before .before .before .pre .0 .sized .array .widest)
 
 loop-again : tie.Need-loop-again Inv-loop μ-loop
 loop-again c =

@@ -22,10 +22,10 @@ disks-forward i =
     let g = i .before .goes-forward in
     let o = i .before .before .before in
     let a = o .args in
-    walked-forward (a .width) (a .disks) (a .a) (a .b) (o .pre .1 .0) (o .pre .1 .1) (o .pre .1 .2) (g .result) (g .ensures) (i .if1 .taken)
+    walked-forward (a .width) (a .disks) (a .a) (a .b) (o .pre .0 .array .width) (o .pre .1 .0) (o .pre .1 .1) (g .result) (g .ensures) (i .if1 .taken)
 
 disks-back : (i : tie.Else1) (y : ℕ) → let a = i .before .before .before .args in y < a .b → Walked (a .width) (a .disks) (a .b) y
-disks-back i = let o = i .before .before .before in walked-back (o .args .width) (o .args .disks) (o .args .a) (o .args .b) (o .pre .1 .0) (o .pre .1 .1) (o .pre .1 .2)
+disks-back i = let o = i .before .before .before in walked-back (o .args .width) (o .args .disks) (o .args .a) (o .args .b) (o .pre .0 .array .width) (o .pre .1 .0) (o .pre .1 .1)
 
 walk-sums-requires : tie.Need-walk-sums-requires
 walk-sums-requires c κs = let i = c .before in (i .before .before .before .pre .0, (disks-forward i, omega arith))
@@ -37,10 +37,10 @@ returns c =
     let g = i .before .goes-forward in
     let o = i .before .before .before in
     let a = o .args in
-    sums-forward (a .width) (a .disks) (a .size) (a .a) (a .b) (a .stripe .now) (w .walk-sums .last .1 .1 .1 .1 .1 .0) (o .pre .1 .0) (o .pre .0) (bytes (i .before .before)) (o .pre .1 .1) (o .pre .1 .2) (g .result) (g .ensures) (i .if1 .taken) (w .walk-sums .ensures)
+    sums-forward (a .width) (a .disks) (a .size) (a .a) (a .b) (a .stripe .now) (w .walk-sums .last .1 .1 .1 .1 .1 .0) (o .pre .0) (bytes (i .before .before)) (o .pre .1 .0) (o .pre .1 .1) (g .result) (g .ensures) (i .if1 .taken) (w .walk-sums .ensures)
 
 walk-sums-requires-2 : tie.Need-walk-sums-requires-2
-walk-sums-requires-2 c κs = let i = c .before in (i .before .before .before .before .pre .0, (disks-back (i .before) (i .before .before .before .before .args .a) (i .before .before .before .before .pre .1 .1), i .if2 .taken))
+walk-sums-requires-2 c κs = let i = c .before in (i .before .before .before .before .pre .0, (disks-back (i .before) (i .before .before .before .before .args .a) (i .before .before .before .before .pre .1 .0), i .if2 .taken))
 
 returns-2 : tie.Need-returns-2
 returns-2 c =
@@ -50,7 +50,7 @@ returns-2 c =
     let g = i .before .goes-forward in
     let o = i .before .before .before in
     let a = o .args in
-    sums-back (a .width) (a .disks) (a .size) (a .a) (a .b) (a .stripe .now) (w .walk-sums2 .last .1 .1 .1 .1 .1 .0) (o .pre .1 .0) (o .pre .0) (bytes (i .before .before)) (o .pre .1 .1) (o .pre .1 .2) (g .result) (g .ensures) (i .if1 .left) (j .if2 .taken) (w .walk-sums2 .ensures)
+    sums-back (a .width) (a .disks) (a .size) (a .a) (a .b) (a .stripe .now) (w .walk-sums2 .last .1 .1 .1 .1 .1 .0) (o .pre .0) (bytes (i .before .before)) (o .pre .1 .0) (o .pre .1 .1) (g .result) (g .ensures) (i .if1 .left) (j .if2 .taken) (w .walk-sums2 .ensures)
 
 start-requires : tie.Need-start-requires
 start-requires c κs = let i = c .before .before in (i .before .before .before .pre .0, disks-back i 0 (omega arith))

@@ -1,7 +1,6 @@
 -- `solve_ordered`: by the higher disk, which is a data disk, P or Q.
 use native.Mathlib.Omega.{arith}
 use borrow.Author.Needs.{needs}
-use Rattle.liberation.proofs.Widths.{width-least}
 use Rattle.pair_rebuild.proofs.DiskLaws.{ordered-data, ordered-row, ordered-diagonal}
 use Rattle.pair_rebuild.proofs.solve_ordered.Statement.{statement}
 use Rattle.pair_rebuild.proofs.solve_ordered.Tie as tie
@@ -21,7 +20,7 @@ returns-2 c =
     ordered-row (a .width) (a .disks) (a .size) (a .a) (a .b) (a .stripe .now) (w .with-row-parity .last .1 .1 .1 .1 .0) (i .before .if1 .left) (i .if2 .taken) (w .with-row-parity .ensures)
 
 with-diagonal-parity-requires : tie.Need-with-diagonal-parity-requires
-with-diagonal-parity-requires c κs = let o = c .before .before .before .before in (o .pre .0, (omega (arith, width-least (o .args .width) (o .pre .1 .0)), omega arith))
+with-diagonal-parity-requires c κs = let o = c .before .before .before .before in (o .pre .0, omega arith)
 
 returns-3 : tie.Need-returns-3
 returns-3 c =

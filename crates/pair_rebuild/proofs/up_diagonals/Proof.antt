@@ -10,7 +10,7 @@ use Rattle.liberation.proofs.RowSteps.{ordinary-row}
 use Rattle.liberation_stripes.specs.Stripes.{followed}
 use Rattle.liberation_pairs.specs.Pairs.{upDiagonals}
 use Rattle.stripes.proofs.OrdinaryLaws.{diagonal-own}
-use Rattle.pair_steps.proofs.WalkClauses.{sized-kept}
+use Rattle.liberation_stripes.proofs.SizedLaws.{sized-kept}
 use Rattle.pair_rebuild.proofs.UpLaws.{upRest, up-first, up-turn, up-last}
 use Rattle.pair_rebuild.proofs.up_diagonals.Statement.{statement}
 use Rattle.pair_rebuild.proofs.up_diagonals.Tie as tie

@@ -1,8 +1,17 @@
 -- `with_row_parity`: one disk after the other.
+use native.Mathlib.Omega.{arith}
 use borrow.Author.Needs.{needs}
+use Rattle.liberation_stripes.proofs.SizedLaws.{sized-kept}
 use Rattle.pair_rebuild.proofs.DiskLaws.{row-done}
 use Rattle.pair_rebuild.proofs.with_row_parity.Statement.{statement}
 use Rattle.pair_rebuild.proofs.with_row_parity.Tie as tie
+
+solve-rows-requires : tie.Need-solve-rows-requires
+solve-rows-requires c κs =
+    let v = c .before .before .before in
+    let o = v .before .before .before in
+    let a = o .args in
+    (sized-kept (a .width) (a .disks) (a .size) (a .stripe .now) (v .up-diagonals .last .1 .1 .1 .1 .0) (o .pre .0) (v .up-diagonals .kept .1 .1 .1 .1 .0), omega arith)
 
 returns : tie.Need-returns
 returns c =
@@ -12,4 +21,4 @@ returns c =
     row-done (a .width) (a .disks) (a .size) (a .disk) (a .stripe .now) (v .up-diagonals .last .1 .1 .1 .1 .0) (w .solve-rows .last .1 .1 .1 .1 .0) (v .up-diagonals .ensures) (w .solve-rows .ensures)
 
 pub with-row-parity-spec : {M : Type 1} → statement M
-with-row-parity-spec = tie.close (tie.spec (λ c κs. search needs) (λ c κs. search needs) (λ c. search needs) returns)
+with-row-parity-spec = tie.close (tie.spec (λ c κs. search needs) solve-rows-requires (λ c. search needs) returns)

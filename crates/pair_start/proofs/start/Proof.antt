@@ -18,7 +18,7 @@ use Rattle.pair_start.proofs.start.Tie as tie
 
 -- the stripe has few cells
 few : (c : tie.After-extra-row) → let a = c .before .before .args in a .width * (a .disks + 2) ≤ 1023
-few c = let z = c .before .before in cells-most (z .args .width) (z .args .disks) (z .pre .0 .widest) (z .pre .0 .disks)
+few c = let z = c .before .before in cells-most (z .args .width) (z .args .disks) (z .pre .0 .array .widest) (z .pre .0 .array .disks)
 
 mul-cells : tie.Need-mul-cells
 mul-cells c = omega (arith, few c)
@@ -45,7 +45,7 @@ toggle-sets-requires : tie.Need-toggle-sets-requires
 toggle-sets-requires c κs =
     let k = c .before .before .before .before in
     let o = k .before .before in
-    (record { widest = o .pre .0 .widest; disks = o .pre .0 .disks; one = o .pre .1 .high; marks = marks-long (c .before .before .before); room = search needs }, k .extra-row .ensures .1)
+    (o .pre .0 .array, k .extra-row .ensures .1, o .pre .1 .high, marks-long (c .before .before .before), search needs)
 
 -- the marks of all cells of the stripe, after the start's sets
 abbrev marks : (v : tie.After-toggle-sets) → List ℕ
@@ -74,14 +74,14 @@ ready v =
     let r = k .extra-row in
     let o = k .before .before in
     let a = o .args in
-    start-marked (a .width) (a .disks) (a .x) (o .pre .1) (o .pre .0 .disks) (a .size) (r .result) (marks v) (a .stripe .now) (o .pre .0) (r .ensures .0) (made v) (few k)
+    start-marked (a .width) (a .disks) (a .x) (o .pre .1) (o .pre .0 .array .disks) (a .size) (r .result) (marks v) (a .stripe .now) (o .pre .0) (r .ensures .0) (made v) (few k)
 
 -- the first cell's place is a small number
 low : (k : tie.After-extra-row) → let a = k .before .before .args in a .x * a .width ≤ 31 * 31
 low k =
     let o = k .before .before in
-    let h : o .args .x ≤ 31 = omega (arith, o .pre .1 .high, o .pre .0 .disks, o .pre .0 .widest) in
-    mul-le-mul h (o .pre .0 .widest)
+    let h : o .args .x ≤ 31 = omega (arith, o .pre .1 .high, o .pre .0 .array .disks, o .pre .0 .array .widest) in
+    mul-le-mul h (o .pre .0 .array .widest)
 
 mul-to : tie.Need-mul-to
 mul-to c = omega (arith, low (c .before .before .before .before .before .before .before))
@@ -89,7 +89,7 @@ mul-to c = omega (arith, low (c .before .before .before .before .before .before 
 add-to : tie.Need-add-to
 add-to c =
     let k = c .before .before .before .before .before .before .before in
-    omega (arith, low k, k .extra-row .ensures .1, k .before .before .pre .0 .widest)
+    omega (arith, low k, k .extra-row .ensures .1, k .before .before .pre .0 .array .widest)
 
 array-share-prefix-marks : tie.Need-array-share-prefix-marks
 array-share-prefix-marks c = simp length-append (omega (arith, toggled-long (c .before .before .before .before)))
@@ -117,7 +117,7 @@ returns c =
     let r = k .extra-row in
     let o = k .before .before in
     let a = o .args in
-    start-done (a .width) (a .disks) (a .x) (o .pre .1) (o .pre .0 .disks) (a .size) (r .result) (marks v) (a .stripe .now) (o .pre .0) (r .ensures .0) (made v) (g .last .0) (g .ensures)
+    start-done (a .width) (a .disks) (a .x) (o .pre .1) (o .pre .0 .array .disks) (a .size) (r .result) (marks v) (a .stripe .now) (o .pre .0) (r .ensures .0) (made v) (g .last .0) (g .ensures)
 
 pub start-spec : {M : Type 1} → statement M
 start-spec =

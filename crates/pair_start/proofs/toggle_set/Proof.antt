@@ -17,9 +17,8 @@ use Rattle.pair_start.proofs.toggle_set.Tie as tie
 
 surviving-requires : tie.Need-surviving-requires
 surviving-requires c κs =
-    let o = c .before .before .before in
-    let q = o .pre .0 in
-    record { widest = q .widest; disks = q .disks; numbered = o .pre .1; small = omega arith; ordered = omega arith; last = omega (arith, q .one, q .disks); room = q .room }
+    let q = c .before .before .before .pre in
+    record { array = q .0; numbered = q .1; small = omega arith; ordered = omega arith; last = omega (arith, q .2, q .0 .disks); room = q .4 }
 
 -- the list is as long as before
 room : (c : tie.After-surviving) → length (c .surviving .last .1 .1 .1 .1 .1 .1 .1 .0) ≡ 33
@@ -42,8 +41,8 @@ toggle-all-requires c κs =
     let a = o .args in
     let xs = setOf (a .width) (a .disks) (a .kind) (a .number) in
     let n = a .width * (a .disks + 2) in
-    let b = ap (allBelow n) (survivors-swap (a .width) (a .x) 0 xs) ∙ survivors-below (a .width) (a .disks) 1 (a .kind) (a .number) 0 (a .x) (u .surviving .result) (a .at .now) (u .surviving .last .1 .1 .1 .1 .1 .1 .1 .0) (a .marks .now) (o .pre .1) (room u) (o .pre .0 .marks ∙ omega arith) (u .surviving .ensures) in
-    (omega (arith, room u, u .surviving .ensures .fits, long u), λ i h. omega (arith, places-marked n (take (u .surviving .result) (u .surviving .last .1 .1 .1 .1 .1 .1 .1 .0)) (survivors (a .width) (a .x) 0 xs) (places u) b i h, o .pre .0 .marks))
+    let b = ap (allBelow n) (survivors-swap (a .width) (a .x) 0 xs) ∙ survivors-below (a .width) (a .disks) 1 (a .kind) (a .number) 0 (a .x) (u .surviving .result) (a .at .now) (u .surviving .last .1 .1 .1 .1 .1 .1 .1 .0) (a .marks .now) (o .pre .1) (room u) (o .pre .3 ∙ omega arith) (u .surviving .ensures) in
+    (omega (arith, room u, u .surviving .ensures .fits, long u), λ i h. omega (arith, places-marked n (take (u .surviving .result) (u .surviving .last .1 .1 .1 .1 .1 .1 .1 .0)) (survivors (a .width) (a .x) 0 xs) (places u) b i h, o .pre .3))
 
 returns : tie.Need-returns
 returns c =

@@ -6,7 +6,7 @@ use native.Mathlib.Omega.{arith}
 use lib.ListN.{length}
 use borrow.Author.Needs.{needs}
 use Rattle.liberation.specs.Plans.{diagonalOf}
-use Rattle.pair_start.proofs.ToggleLaws.{rowsRest, rows-turn, rows-last, still-toggling}
+use Rattle.pair_start.proofs.ToggleLaws.{rowsRest, rows-turn, rows-last}
 use Rattle.pair_start.proofs.toggle_sets.Statement.{statement}
 use Rattle.pair_start.proofs.toggle_sets.Tie as tie
 
@@ -23,7 +23,7 @@ toggle-set-requires : tie.Need-toggle-set-requires Inv-loop μ-loop
 toggle-set-requires c κs =
     let l = c .before .before .before .loop in
     let o = c .before .before .before .before .before .before in
-    (still-toggling (l .marks) (l .at) (o .pre .0) (l .inv .1) (l .inv .2), l .inv .0)
+    (o .pre .0, l .inv .0, o .pre .2, l .inv .1 ∙ o .pre .3, l .inv .2 ∙ o .pre .4)
 
 -- the diagonal's number
 numbered : (c : tie.In-loop Inv-loop μ-loop) → let a = c .before .before .before .before .args in diagonalOf (a .width) (a .x) (c .before .loop .on) < a .width
@@ -35,7 +35,7 @@ toggle-set-requires-2 c κs =
     let i = v .before .before .before in
     let l = i .before .loop in
     let o = i .before .before .before .before in
-    (still-toggling (v .toggle-set .last .1 .1 .1 .1 .1 .0) (v .toggle-set .last .1 .1 .1 .1 .1 .1 .0) (o .pre .0) (v .toggle-set .kept .1 .1 .1 .1 .1 .0 ∙ l .inv .1) (v .toggle-set .kept .1 .1 .1 .1 .1 .1 .0 ∙ l .inv .2), numbered i)
+    (o .pre .0, numbered i, o .pre .2, v .toggle-set .kept .1 .1 .1 .1 .1 .0 ∙ l .inv .1 ∙ o .pre .3, v .toggle-set .kept .1 .1 .1 .1 .1 .1 .0 ∙ l .inv .2 ∙ o .pre .4)
 
 loop-again : tie.Need-loop-again Inv-loop μ-loop
 loop-again c =

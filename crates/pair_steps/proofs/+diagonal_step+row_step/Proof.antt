@@ -10,7 +10,8 @@ use Rattle.liberation.specs.Plans.{diagonalOf}
 use Rattle.liberation_pairs.specs.Pairs.{nextRow}
 use Rattle.stripes.proofs.OrdinaryLaws.{row-own, diagonal-own}
 use Rattle.stripes.proofs.solve_by.Reads as solve-by-reads
-use Rattle.pair_steps.proofs.WalkClauses.{sized-kept, diagonal-none, diagonal-more, row-none, row-more}
+use Rattle.liberation_stripes.proofs.SizedLaws.{sized-kept}
+use Rattle.pair_steps.proofs.WalkClauses.{diagonal-none, diagonal-more, row-none, row-more}
 use Rattle.pair_steps.proofs.diagonal_step.Reads as diagonal-step
 use Rattle.pair_steps.proofs.diagonal_step.Kinds as diagonal-step-kinds
 use Rattle.pair_steps.proofs.+diagonal_step+row_step.Lts-diagonal_step as diagonal-step-lts
@@ -65,7 +66,7 @@ diagonal-step-add-next t c =
     let z = c .before .before .before in
     let a = z .args in
     let h : 0 < a .width = omega arith in
-    omega (arith, z .pre .1 .0 .widest, mod-lt (a .row + a .width - a .x) h)
+    omega (arith, z .pre .1 .0 .array .widest, mod-lt (a .row + a .width - a .x) h)
 
 diagonal-step-solve-by-requires : (t : ℕ) → diagonal-step-lts.Need-solve-by-requires (
   solve-by-reads.Asked,
@@ -125,6 +126,18 @@ row-step-solve-by-requires t c κs =
     let a = z .args in
     ((z .pre .1 .0, row-own (a .width) (a .disks) (a .row) (a .x) (omega arith) (omega arith)), z .pre .1 .1 .1)
 
+row-step-diagonal-step-requires : (t : ℕ) → row-step-lts.Need-diagonal-step-requires (
+  solve-by-reads.Asked,
+  solve-by-reads.Learnt,
+  diagonal-step-below t,
+  diagonal-step.Post,
+) (row-step-at t) row-step.Post
+row-step-diagonal-step-requires t c κs =
+    let v = c .before .before .before .before .before .before in
+    let z = v .before .before .before .before .before .before in
+    let a = z .args in
+    (omega arith, (sized-kept (a .width) (a .disks) (a .size) (a .stripe .now) (v .solve-by .last .1 .1 .1 .1 .1 .1 .1 .0) (z .pre .1 .0) (v .solve-by .kept .1 .1 .1 .1 .1 .1 .1 .0), ((omega arith, omega arith, omega arith), search needs)))
+
 row-step-returns-2 : (t : ℕ) → row-step-lts.Need-returns-2 (
   solve-by-reads.Asked,
   solve-by-reads.Learnt,
@@ -166,7 +179,7 @@ pub +diagonal-step+row-step-spec : {M : Type 1} → statement M
     (row-step-returns t)
     (row-step-solve-by-requires t)
     (λ c. search needs)
-    (λ c κs. search needs)
+    (row-step-diagonal-step-requires t)
     (λ c. search needs)
     (λ c. search needs)
     (row-step-returns-2 t)

@@ -33,8 +33,8 @@ small : (w : tie.After-push-sums) → let a = w .before .before .before .before 
 small w =
     let o = w .before .before .before .before .before .before .before .before .before .before .before .before .before in
     let q = o .pre .0 in
-    let f : o .args .y ≤ 31 = omega (arith, q .other, q .sized .disks, q .sized .widest) in
-    mul-le-mul f (q .sized .widest)
+    let f : o .args .y ≤ 31 = omega (arith, q .other, q .sized .array .disks, q .sized .array .widest) in
+    mul-le-mul f (q .sized .array .widest)
 
 mul-to : tie.Need-mul-to
 mul-to c = omega (arith, small (c .before .before))
@@ -43,7 +43,7 @@ add-to : tie.Need-add-to
 add-to c =
     let w = c .before .before in
     let v = w .before .before .before .before .before .before in
-    omega (arith, small w, v .before .before .before .extra-row2 .ensures .1, v .before .before .before .before .before .before .before .pre .0 .sized .widest)
+    omega (arith, small w, v .before .before .before .extra-row2 .ensures .1, v .before .before .before .before .before .before .before .pre .0 .sized .array .widest)
 
 mul-to-2 : tie.Need-mul-to-2
 mul-to-2 c = omega (arith, lies (c .before .before) .fits)

@@ -26,7 +26,7 @@ surviving-requires c κs =
     let a = o .args in
     let w = in-order (a .width) (a .x) (a .y) (m .result) (m .ensures) in
     let q = o .pre .0 in
-    record { widest = q .sized .widest; disks = q .sized .disks; numbered = o .pre .1; small = q .sized .small; ordered = w .0; last = omega (arith, m .ensures, q .one, q .other, q .sized .disks); room = q .room }
+    record { array = q .sized .array; numbered = o .pre .1; small = q .sized .small; ordered = w .0; last = omega (arith, m .ensures, q .one, q .other, q .sized .array .disks); room = q .room }
 
 -- the list is as long as before
 room : (u : tie.After-surviving) → length (u .surviving .last .1 .1 .1 .1 .1 .1 .1 .0) ≡ 33
@@ -51,14 +51,14 @@ small u =
     let o = u .before .before .before .before .before in
     let a = o .args in
     let q = o .pre .0 in
-    let f : a .disk ≤ 31 = ⊎-elim (λ e. omega (arith, q .one, q .sized .disks, q .sized .widest)) (λ e. omega (arith, q .other, q .sized .disks, q .sized .widest)) (o .pre .3) in
-    mul-le-mul f (q .sized .widest)
+    let f : a .disk ≤ 31 = ⊎-elim (λ e. omega (arith, q .one, q .sized .array .disks, q .sized .array .widest)) (λ e. omega (arith, q .other, q .sized .array .disks, q .sized .array .widest)) (o .pre .3) in
+    mul-le-mul f (q .sized .array .widest)
 
 mul-to : tie.Need-mul-to
 mul-to c = omega (arith, small (c .before .before))
 
 add-to : tie.Need-add-to
-add-to c = omega (arith, small (c .before .before), c .before .before .before .before .before .before .before .pre .0 .sized .widest)
+add-to c = omega (arith, small (c .before .before), c .before .before .before .before .before .before .before .pre .0 .sized .array .widest)
 
 mul-to-2 : tie.Need-mul-to-2
 mul-to-2 c = omega (arith, lies (c .before .before) .fits)

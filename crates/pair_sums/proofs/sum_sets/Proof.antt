@@ -49,7 +49,7 @@ sum-set-requires-2 c κs =
 add-next : tie.Need-add-next Inv-loop μ-loop
 add-next c =
     let i = c .before .before .before .before .before .before .before in
-    omega (arith, numbered i, i .before .before .before .before .pre .0 .sized .widest)
+    omega (arith, numbered i, i .before .before .before .before .pre .0 .sized .array .widest)
 
 loop-again : tie.Need-loop-again Inv-loop μ-loop
 loop-again c =

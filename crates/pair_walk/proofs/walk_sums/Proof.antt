@@ -2,9 +2,9 @@
 use mathlib.Core.Path.{_∙_}
 use native.Mathlib.Omega.{arith}
 use borrow.Author.Needs.{needs}
-use Rattle.stripes.specs.Cells.{Sized}
+use Rattle.liberation_stripes.specs.Limits.{Sized}
 use Rattle.stripes.proofs.OrdinaryLaws.{row-own}
-use Rattle.pair_steps.proofs.WalkClauses.{sized-kept}
+use Rattle.liberation_stripes.proofs.SizedLaws.{sized-kept}
 use Rattle.pair_walk.proofs.WalkLaws.{sums-done}
 use Rattle.pair_walk.proofs.walk_sums.Statement.{statement}
 use Rattle.pair_walk.proofs.walk_sums.Tie as tie
@@ -28,8 +28,17 @@ solve-by-requires c κs =
     let a = o .args in
     ((started u, row-own (a .width) (a .disks) (r .result) (a .x) (r .ensures .1) (omega (arith, o .pre .1 .0 .high))), search needs)
 
+diagonal-step-requires : tie.Need-diagonal-step-requires
+diagonal-step-requires c κs =
+    let v = c .before .before .before .before .before in
+    let u = v .before .before .before .before .before .before in
+    let r = u .before .before .before .before .before .extra-row in
+    let o = u .before .before .before .before .before .before .before in
+    let a = o .args in
+    (sized-kept (a .width) (a .disks) (a .size) (u .start-sums .last .1 .1 .1 .1 .1 .0) (v .solve-by .last .1 .1 .1 .1 .1 .1 .1 .0) (started u) (v .solve-by .kept .1 .1 .1 .1 .1 .1 .1 .0), ((o .pre .1 .0 .high, o .pre .1 .0 .other, r .ensures .1), search needs))
+
 sub-rows-2 : tie.Need-sub-rows-2
-sub-rows-2 c = let o = c .before .before .before .before .before .before .before .before .before .before .before .before .before .before .before .before .before .before .before .before .before .before in omega (arith, o .pre .0 .disks, o .pre .1 .0 .odd, o .pre .1 .0 .low, o .pre .1 .0 .high)
+sub-rows-2 c = let o = c .before .before .before .before .before .before .before .before .before .before .before .before .before .before .before .before .before .before .before .before .before .before in omega (arith, o .pre .0 .array .disks, o .pre .1 .0 .odd, o .pre .1 .0 .low, o .pre .1 .0 .high)
 
 add-last-requires : tie.Need-add-last-requires
 add-last-requires c κs =
@@ -60,7 +69,7 @@ walk-sums-spec =
     (λ c. search needs)
     solve-by-requires
     (λ c. search needs)
-    (λ c κs. search needs)
+    diagonal-step-requires
     (λ c. search needs)
     sub-rows-2
     (λ c. search needs)

@@ -5,7 +5,7 @@ use native.Mathlib.Nat.{mod-lt, mul-le-mul}
 use native.Mathlib.Omega.{arith}
 use borrow.Author.Needs.{needs}
 use Rattle.stripes.proofs.OrdinaryLaws.{row-own}
-use Rattle.pair_steps.proofs.WalkClauses.{sized-kept}
+use Rattle.liberation_stripes.proofs.SizedLaws.{sized-kept}
 use Rattle.pair_walk.proofs.WalkLaws.{walk-done}
 use Rattle.pair_walk.proofs.walk_to_zero.Statement.{statement}
 use Rattle.pair_walk.proofs.walk_to_zero.Tie as tie
@@ -22,8 +22,8 @@ way : (u : tie.After-solve-by) → let a = u .before .before .before .before .be
 way u =
     let z = u .before .before .before .before .before .before in
     let a = z .args in
-    let d : a .width - a .x ≤ 31 = omega (arith, z .pre .0 .widest) in
-    let h : (a .width - 1) / 2 ≤ 31 = omega (arith, z .pre .0 .widest) in
+    let d : a .width - a .x ≤ 31 = omega (arith, z .pre .0 .array .widest) in
+    let h : (a .width - 1) / 2 ≤ 31 = omega (arith, z .pre .0 .array .widest) in
     mul-le-mul d h
 
 mul-middle : tie.Need-mul-middle
@@ -33,7 +33,15 @@ add-middle : tie.Need-add-middle
 add-middle c =
     let u = c .before .before .before in
     let k = u .before .before .before .before in
-    omega (arith, way u, k .extra-row .ensures .1, k .before .before .pre .0 .widest)
+    omega (arith, way u, k .extra-row .ensures .1, k .before .before .pre .0 .array .widest)
+
+diagonal-step-requires : tie.Need-diagonal-step-requires
+diagonal-step-requires c κs =
+    let u = c .before .before .before .before .before in
+    let k = u .before .before .before .before in
+    let z = k .before .before in
+    let a = z .args in
+    (sized-kept (a .width) (a .disks) (a .size) (a .stripe .now) (u .solve-by .last .1 .1 .1 .1 .1 .1 .1 .0) (z .pre .0) (u .solve-by .kept .1 .1 .1 .1 .1 .1 .1 .0), ((z .pre .1 .high, z .pre .1 .other, k .extra-row .ensures .1), search needs))
 
 diagonal-step-requires-2 : tie.Need-diagonal-step-requires-2
 diagonal-step-requires-2 c κs =
@@ -42,7 +50,7 @@ diagonal-step-requires-2 c κs =
     let k = u .before .before .before .before in
     let z = k .before .before in
     let a = z .args in
-    (sized-kept (a .width) (a .disks) (a .size) (a .stripe .now) (w .diagonal-step .last .1 .1 .1 .1 .1 .1 .1 .0) (z .pre .0) (w .diagonal-step .kept .1 .1 .1 .1 .1 .1 .1 .0 ∙ u .solve-by .kept .1 .1 .1 .1 .1 .1 .1 .0), ((z .pre .1 .high, z .pre .1 .other, mod-lt (k .extra-row .result + (a .width - a .x) * ((a .width - 1) / 2)) (omega (arith, z .pre .0 .disks, z .pre .1 .high))), search needs))
+    (sized-kept (a .width) (a .disks) (a .size) (a .stripe .now) (w .diagonal-step .last .1 .1 .1 .1 .1 .1 .1 .0) (z .pre .0) (w .diagonal-step .kept .1 .1 .1 .1 .1 .1 .1 .0 ∙ u .solve-by .kept .1 .1 .1 .1 .1 .1 .1 .0), ((z .pre .1 .high, z .pre .1 .other, mod-lt (k .extra-row .result + (a .width - a .x) * ((a .width - 1) / 2)) (omega (arith, z .pre .0 .array .disks, z .pre .1 .high))), search needs))
 
 returns : tie.Need-returns
 returns c =
@@ -53,7 +61,7 @@ returns c =
     let z = k .before .before in
     let a = z .args in
     let r = k .extra-row in
-    walk-done (a .width) (a .disks) (a .size) (a .x) (r .result) (a .stripe .now) (u .solve-by .last .1 .1 .1 .1 .1 .1 .1 .0) (w .diagonal-step .last .1 .1 .1 .1 .1 .1 .1 .0) (v .diagonal-step2 .last .1 .1 .1 .1 .1 .1 .1 .0) (z .pre .1 .odd) (z .pre .1 .low) (omega (arith, z .pre .0 .disks, z .pre .1 .high)) (r .ensures .1) (r .ensures .0) (u .solve-by .ensures) (w .diagonal-step .ensures) (v .diagonal-step2 .ensures)
+    walk-done (a .width) (a .disks) (a .size) (a .x) (r .result) (a .stripe .now) (u .solve-by .last .1 .1 .1 .1 .1 .1 .1 .0) (w .diagonal-step .last .1 .1 .1 .1 .1 .1 .1 .0) (v .diagonal-step2 .last .1 .1 .1 .1 .1 .1 .1 .0) (z .pre .1 .odd) (z .pre .1 .low) (omega (arith, z .pre .0 .array .disks, z .pre .1 .high)) (r .ensures .1) (r .ensures .0) (u .solve-by .ensures) (w .diagonal-step .ensures) (v .diagonal-step2 .ensures)
 
 pub walk-to-zero-spec : {M : Type 1} → statement M
 walk-to-zero-spec =
@@ -70,7 +78,7 @@ walk-to-zero-spec =
     (λ c. search needs)
     (λ c. search needs)
     (λ c. search needs)
-    (λ c κs. search needs)
+    diagonal-step-requires
     (λ c. search needs)
     (λ c. search needs)
     diagonal-step-requires-2

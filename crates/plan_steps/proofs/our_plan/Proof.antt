@@ -2,16 +2,15 @@
 use mathlib.Core.Path.{_∙_}
 use native.Mathlib.Omega.{arith}
 use borrow.Author.Needs.{needs}
-use Rattle.liberation.proofs.Widths.{width-most}
 use Rattle.plan_steps.proofs.PlannedLaws.{data-steps-are, data-word, parity-steps, row-parity-word, diagonal-parity-word, our-plan-is}
 use Rattle.plan_steps.proofs.our_plan.Statement.{statement}
 use Rattle.plan_steps.proofs.our_plan.Tie as tie
 
 all-routes-requires : tie.Need-all-routes-requires
-all-routes-requires c κs = (width-most (c .before .args .width) (c .before .pre .0), omega arith)
+all-routes-requires c κs = let q = c .before .pre .0 in (q .widest, omega (arith, q .disks))
 
 data-steps-requires : tie.Need-data-steps-requires
-data-steps-requires c κs = let t = c .before .before in (width-most (t .before .args .width) (t .before .pre .0), omega arith)
+data-steps-requires c κs = let q = c .before .before .before .pre .0 in (q .widest, omega (arith, q .disks))
 
 returns : tie.Need-returns
 returns c =
@@ -21,21 +20,12 @@ returns c =
     let a = t .before .args in
     our-plan-is (a .width) (a .disks) (a .lost) _ (d .data-steps .result) (c .accepted-plan .result) (data-steps-are (a .width) (a .disks) (a .lost) _ _ (d .data-steps .result) (t .if1 .taken) (r .all-routes .ensures) (d .data-steps .ensures)) (data-word (a .width) (a .disks) (a .lost) _ _ (t .if1 .taken) (r .all-routes .ensures)) (c .accepted-plan .ensures)
 
-all-steps-requires : tie.Need-all-steps-requires
-all-steps-requires c κs = width-most (c .before .before .args .width) (c .before .before .pre .0)
-
 returns-2 : tie.Need-returns-2
 returns-2 c =
     let d = c .before in
     let e = d .before .if2 .taken in
     let a = d .before .before .before .args in
     our-plan-is (a .width) (a .disks) (a .lost) 0 (d .all-steps .result) (c .accepted-plan2 .result) (parity-steps (a .width) (a .disks) (a .lost) 0 (d .all-steps .result) (omega arith) (omega arith) (d .all-steps .ensures)) (row-parity-word (a .width) (a .disks) (a .lost) e) (c .accepted-plan2 .ensures)
-
-all-steps-requires-2 : tie.Need-all-steps-requires-2
-all-steps-requires-2 c κs = width-most (c .before .before .args .width) (c .before .before .pre .0)
-
-all-bits-requires : tie.Need-all-bits-requires
-all-bits-requires c κs = let q = c .before .before .before in omega (arith, width-most (q .args .width) (q .pre .0))
 
 returns-3 : tie.Need-returns-3
 returns-3 c =
@@ -44,7 +34,7 @@ returns-3 c =
     let e = d .before in
     let q = e .before .before in
     let a = q .args in
-    our-plan-is (a .width) (a .disks) (a .lost) (b .all-bits .result) (d .all-steps2 .result) (c .accepted-plan3 .result) (parity-steps (a .width) (a .disks) (a .lost) 1 (d .all-steps2 .result) (e .before .if1 .left) (omega (arith, q .pre .2, e .if2 .left)) (d .all-steps2 .ensures)) (b .all-bits .ensures ∙ diagonal-parity-word (a .width) (a .disks) (a .lost) (e .before .if1 .left) (e .if2 .left)) (c .accepted-plan3 .ensures)
+    our-plan-is (a .width) (a .disks) (a .lost) (b .all-bits .result) (d .all-steps2 .result) (c .accepted-plan3 .result) (parity-steps (a .width) (a .disks) (a .lost) 1 (d .all-steps2 .result) (e .before .if1 .left) (omega (arith, q .pre .1, e .if2 .left)) (d .all-steps2 .ensures)) (b .all-bits .ensures ∙ diagonal-parity-word (a .width) (a .disks) (a .lost) (e .before .if1 .left) (e .if2 .left)) (c .accepted-plan3 .ensures)
 
 pub our-plan-spec : {M : Type 1} → statement M
 our-plan-spec =
@@ -54,10 +44,10 @@ our-plan-spec =
     data-steps-requires
     (λ c κs. search needs)
     returns
-    all-steps-requires
+    (λ c κs. search needs)
     (λ c κs. search needs)
     returns-2
-    all-steps-requires-2
-    all-bits-requires
+    (λ c κs. search needs)
+    (λ c κs. search needs)
     (λ c κs. search needs)
     returns-3)

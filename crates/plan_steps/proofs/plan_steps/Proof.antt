@@ -15,7 +15,7 @@ returns : tie.Need-returns
 returns c = let t = c .before in let q = t .before in let a = q .before .args in refusal-says (a .width) (a .disks) (a .lost) (q .plan-fault .result) (c .refused-plan .result) (q .plan-fault .ensures) (t .if1 .taken) (c .refused-plan .ensures)
 
 our-plan-requires : tie.Need-our-plan-requires
-our-plan-requires c κs = let a = c .before .before .args in let w = plan-of (a .width) (a .disks) (a .lost) (none c) in (w .0, w .3, w .1)
+our-plan-requires c κs = let a = c .before .before .args in plan-of (a .width) (a .disks) (a .lost) (none c)
 
 returns-2 : tie.Need-returns-2
 returns-2 c = let a = c .before .before .before .args in planned-says (a .width) (a .disks) (a .lost) (c .our-plan .result) (none (c .before)) (c .our-plan .ensures)

@@ -6,7 +6,6 @@ use native.Mathlib.Omega.{arith}
 use lib.ListN.{length, take}
 use lib.Seq.{length-take-le}
 use borrow.Author.Needs.{needs}
-use Rattle.liberation.proofs.Widths.{width-most}
 use Rattle.liberation.proofs.MarkLists.{length-marks, take-marks, cells-most}
 use Rattle.plan_text.specs.Text.{planText}
 use Rattle.text.proofs.WriteLaws.{wrote-more, wrote-long}
@@ -16,7 +15,7 @@ use Rattle.plan_text.proofs.put_plan.Statement.{statement}
 -- the widest array has 1,023 cells
 cells : (c : tie.Start) → (c .args .width ≤ 31) × (c .args .width * (c .args .width + 2) ≤ 1023)
 cells c =
-    let w = width-most (c .args .width) (c .pre .0) in
+    let w = c .pre .0 .widest in
     (w, cells-most (c .args .width) (c .args .width) w (omega arith))
 
 all-marks : (c : tie.After-no-marks) → length (c .no-marks .result) ≡ 1023

@@ -6,7 +6,6 @@ use native.Mathlib.Omega.{arith}
 use lib.ListN.{length, getD}
 use borrow.Author.Needs.{needs}
 use Rattle.liberation.specs.Plans.{planOf}
-use Rattle.liberation.proofs.Widths.{width-most}
 use Rattle.liberation.proofs.MarkLists.{length-marks}
 use Rattle.liberation.proofs.RecordLaws.{plan-length}
 use Rattle.text.proofs.WriteLaws.{wrote-long}
@@ -22,13 +21,13 @@ abbrev μ-loop : tie.MeasureT-loop
 μ-loop out₀ at width disk marks₀ rows kinds numbers next₀ i₀ out marks next i = width - i
 
 small : (c : tie.In-loop Inv-loop μ-loop) → c .before .before .before .before .before .before .before .args .width ≤ 31
-small c = width-most _ (c .before .before .before .before .before .before .before .pre .0)
+small c = c .before .before .before .before .before .before .before .pre .0 .widest
 
 -- the step of this turn, and where the record has it
 this : (c : tie.In-loop Inv-loop μ-loop) → let a = c .before .before .before .before .before .before .before .args in PlanStep (a .width) (a .disk) (c .before .loop .i) (a .steps)
 this c =
     let q = c .before .before .before .before .before .before .before in
-    plan-step (q .args .width) (q .args .disk) (c .before .loop .i) (q .args .steps) (q .pre .0) (q .pre .1) (q .pre .2) (c .loop-test .taken)
+    plan-step (q .args .width) (q .args .disk) (c .before .loop .i) (q .args .steps) (q .pre .0 .width) (q .pre .1) (q .pre .2) (c .loop-test .taken)
 
 -- marks are as many as cells
 marked : (c : tie.At-loop Inv-loop μ-loop) → let a = c .before .before .before .before .before .before .args in (length (c .loop .marks) ≡ a .width * (a .width + 2)) × (length (a .marks .now) ≡ a .width * (a .width + 2))
@@ -49,7 +48,7 @@ array-read-number : tie.Need-array-read-number Inv-loop μ-loop
 array-read-number c = omega (arith, small c)
 
 mark-set-requires : tie.Need-mark-set-requires Inv-loop μ-loop
-mark-set-requires c κs = (record { widest = small (c .before); disks = omega arith; numbered = omega (arith, this (c .before) .number, this (c .before) .number-below) }, marked (c .before .before) .0)
+mark-set-requires c κs = ((c .before .before .before .before .before .before .before .before .pre .0, omega (arith, this (c .before) .number, this (c .before) .number-below)), marked (c .before .before) .0)
 
 array-read-put-line : tie.Need-array-read-put-line Inv-loop μ-loop
 array-read-put-line c = omega (arith, small (c .before .before .before .before .before))
@@ -90,7 +89,7 @@ returns : tie.Need-returns Inv-loop μ-loop
 returns c =
     let q = c .before .before .before .before .before .before .before in
     let l = c .before .loop in
-    printing-end (omega (arith, plan-length (q .args .width) (q .args .width) (q .args .disk) (q .pre .0) (omega arith) (q .pre .1))) (l .inv)
+    printing-end (omega (arith, plan-length (q .args .width) (q .args .width) (q .args .disk) (q .pre .0 .width) (omega arith) (q .pre .1))) (l .inv)
 
 pub put-steps-spec : {M : Type 1} → statement M
 put-steps-spec =

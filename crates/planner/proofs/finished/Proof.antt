@@ -6,7 +6,6 @@ use native.Mathlib.Omega.{arith}
 use lib.ListN.{length, take}
 use lib.Seq.{length-take-le}
 use Rattle.liberation.proofs.MarkLists.{length-marks, take-marks, cells-most}
-use Rattle.liberation.proofs.Widths.{width-most}
 use Rattle.liberation.proofs.FaultLaws.{plan-of}
 use Rattle.planner.proofs.PlanAnswers.{plan-says}
 use borrow.Author.Needs.{needs}
@@ -17,9 +16,8 @@ use Rattle.planner.proofs.finished.Tie as tie
 cells : (c : tie.After-s) → (c .before .args .disks ≤ 31) × (c .before .args .width * (c .before .args .disks + 2) ≤ 1023)
 cells c =
     let a = c .before .args in
-    let v = plan-of (a .width) (a .disks) (a .lost) (c .before .pre .0) in
-    let w = width-most (a .width) (v .0) in
-    (omega (arith, w, v .3), cells-most (a .width) (a .disks) w (v .3))
+    let v = plan-of (a .width) (a .disks) (a .lost) (c .before .pre .0) .0 in
+    (omega (arith, v .widest, v .disks), cells-most (a .width) (a .disks) (v .widest) (v .disks))
 
 all-marks : (c : tie.After-no-marks) → length (c .no-marks .result) ≡ 1023
 all-marks c = ap (λ (x : List ℕ). length x) (c .no-marks .ensures) ∙ length-marks 1023 0 []
@@ -41,7 +39,7 @@ mark-steps-requires c κs =
     let q = c .before .before .before in
     let w = plan-of (q .args .width) (q .args .disks) (q .args .lost) (q .pre .0) in
     let n = q .args .width * (q .args .disks + 2) in
-    (w .0, w .3, w .1, q .pre .1 .steps, ap (take n) (c .before .no-marks .ensures) ∙ take-marks n 1023 0 [] (omega (arith, cells (c .before .before))))
+    (w .0, w .1, q .pre .1 .steps, ap (take n) (c .before .no-marks .ensures) ∙ take-marks n 1023 0 [] (omega (arith, cells (c .before .before))))
 
 returns : tie.Need-returns
 returns c =

@@ -7,7 +7,6 @@ use native.Mathlib.Omega.{arith}
 use lib.ListN.{length, getD}
 use Rattle.liberation.proofs.MarkLists.{length-marks}
 use Rattle.liberation.specs.Plans.{planOf}
-use Rattle.liberation.proofs.Widths.{width-most}
 use Rattle.planner.proofs.MarkingLoop.{Reading, reading-start, reading-turn, reading-end}
 use Rattle.liberation.proofs.RecordLaws.{StepAt, step-at, plan-length, plan-number}
 use borrow.Author.Needs.{needs}
@@ -21,21 +20,21 @@ abbrev μ-loop : tie.MeasureT-loop
 μ-loop width disks lost marks₀ kinds numbers reads₀ i₀ marks reads i = width - i
 
 small : (c : tie.In-loop Inv-loop μ-loop) → c .before .before .before .before .before .args .width ≤ 31
-small c = width-most _ (c .before .before .before .before .before .pre .0)
+small c = c .before .before .before .before .before .pre .0 .widest
 
 -- the step of this turn, and where the record has it
 this : (c : tie.In-loop Inv-loop μ-loop) → let a = c .before .before .before .before .before .args in StepAt (planOf (a .width) (a .disks) (a .lost)) (c .before .loop .i)
 this c =
     let q = c .before .before .before .before .before in
-    step-at _ _ (omega (arith, plan-length (q .args .width) (q .args .disks) (q .args .lost) (q .pre .0) (q .pre .1) (q .pre .2)))
+    step-at _ _ (omega (arith, plan-length (q .args .width) (q .args .disks) (q .args .lost) (q .pre .0 .width) (q .pre .0 .disks) (q .pre .1)))
 
 kind : (c : tie.In-loop Inv-loop μ-loop) → getD (c .before .before .before .before .before .args .s .kinds) (c .before .loop .i) 0 ≡ this c .this .kind
-kind c = ap (λ (x : List ℕ). getD x (c .before .loop .i) 0) (c .before .before .before .before .before .pre .3 .kinds) ∙ this c .held (λ s. s .kind)
+kind c = ap (λ (x : List ℕ). getD x (c .before .loop .i) 0) (c .before .before .before .before .before .pre .2 .kinds) ∙ this c .held (λ s. s .kind)
 
 number : (c : tie.In-loop Inv-loop μ-loop) → (getD (c .before .before .before .before .before .args .s .numbers) (c .before .loop .i) 0 ≡ this c .this .number) × (this c .this .number < c .before .before .before .before .before .args .width)
 number c =
     let q = c .before .before .before .before .before in
-    (ap (λ (x : List ℕ). getD x (c .before .loop .i) 0) (q .pre .3 .numbers) ∙ this c .held (λ s. s .number), plan-number (q .args .width) (q .args .disks) (q .args .lost) (c .before .loop .i) (q .pre .0) (q .pre .1) (q .pre .2) (this c) (c .loop-test .taken))
+    (ap (λ (x : List ℕ). getD x (c .before .loop .i) 0) (q .pre .2 .numbers) ∙ this c .held (λ s. s .number), plan-number (q .args .width) (q .args .disks) (q .args .lost) (c .before .loop .i) (q .pre .0 .width) (q .pre .0 .disks) (q .pre .1) (this c) (c .loop-test .taken))
 
 -- the loop's state after one more step
 turned : (c : tie.After-slice-known2 Inv-loop μ-loop) → let a = c .before .before .before .before .before .before .before .before .before .args in let l = c .before .before .before .before .before .loop in Reading (a .width) (a .disks) (a .lost) (planOf (a .width) (a .disks) (a .lost)) (c .before .before .mark-set .last .1 .1 .1 .1 .1 .0) (l .reads + c .before .before .mark-set .result) (l .i + 1)
@@ -44,10 +43,10 @@ turned c =
     let q = t .before .before .before .before .before in
     let l = t .before .loop in
     let m = c .before .before .mark-set in
-    reading-turn (q .args .width) (q .args .disks) (q .args .lost) _ (l .marks) (m .last .1 .1 .1 .1 .1 .0) (l .reads) (l .i) (m .result) (this t) (omega (arith, plan-length (q .args .width) (q .args .disks) (q .args .lost) (q .pre .0) (q .pre .1) (q .pre .2))) (number t .1) (l .inv .0) (rw (kind t, number t .0) at (m .ensures))
+    reading-turn (q .args .width) (q .args .disks) (q .args .lost) _ (l .marks) (m .last .1 .1 .1 .1 .1 .0) (l .reads) (l .i) (m .result) (this t) (omega (arith, plan-length (q .args .width) (q .args .disks) (q .args .lost) (q .pre .0 .width) (q .pre .0 .disks) (q .pre .1))) (number t .1) (l .inv .0) (rw (kind t, number t .0) at (m .ensures))
 
 loop-holds : tie.Need-loop-holds Inv-loop μ-loop
-loop-holds c = (reading-start _ _ _ _ _ (c .before .before .before .pre .4), refl)
+loop-holds c = (reading-start _ _ _ _ _ (c .before .before .before .pre .3), refl)
 
 array-read-kind : tie.Need-array-read-kind Inv-loop μ-loop
 array-read-kind c = omega (arith, small c)
@@ -61,7 +60,7 @@ mark-set-requires c κs =
     let a = q .args in
     let l = c .before .before .loop in
     let n : getD (a .s .numbers) (l .i) 0 < a .width = omega (arith, number (c .before)) in
-    (record { widest = small (c .before); disks = q .pre .1; numbered = n }, omega (arith, l .inv .1, ap (λ (x : List ℕ). length x) (q .pre .4), length-marks (a .width * (a .disks + 2)) 0 []))
+    ((q .pre .0, n), omega (arith, l .inv .1, ap (λ (x : List ℕ). length x) (q .pre .3), length-marks (a .width * (a .disks + 2)) 0 []))
 
 add-reads : tie.Need-add-reads Inv-loop μ-loop
 add-reads c =
@@ -80,7 +79,7 @@ returns : tie.Need-returns Inv-loop μ-loop
 returns c =
     let q = c .before .before .before .before .before in
     let l = c .before .loop in
-    reading-end _ _ _ _ _ (l .reads) (l .i) (omega (arith, plan-length (q .args .width) (q .args .disks) (q .args .lost) (q .pre .0) (q .pre .1) (q .pre .2))) (l .inv .0)
+    reading-end _ _ _ _ _ (l .reads) (l .i) (omega (arith, plan-length (q .args .width) (q .args .disks) (q .args .lost) (q .pre .0 .width) (q .pre .0 .disks) (q .pre .1))) (l .inv .0)
 
 pub mark-steps-spec : {M : Type 1} → statement M
 mark-steps-spec =

@@ -15,7 +15,7 @@ returns : tie.Need-returns
 returns c = let n = c .before in let t = n .before in let q = t .before in let a = q .before .args in plan-refused (a .width) (a .disks) (a .lost) (q .plan-fault .result) _ (q .plan-fault .ensures) (t .if1 .taken) (c .answered .ensures) (n .no-steps .ensures) refl refl
 
 our-plan-requires : tie.Need-our-plan-requires
-our-plan-requires c κs = let a = c .before .before .args in let w = plan-of (a .width) (a .disks) (a .lost) (none c) in (w .0, w .3, w .1)
+our-plan-requires c κs = let a = c .before .before .args in plan-of (a .width) (a .disks) (a .lost) (none c)
 
 finished-requires : tie.Need-finished-requires
 finished-requires c κs = (none (c .before), c .our-plan .ensures)

@@ -1,11 +1,10 @@
 -- `read_list`: refusals 1, 13, 3 and 5 in this order leave the list as it was; else it is cleared, and the cells that our plan reads are marked.
 use mathlib.Core.Path.{_≡_, sym, ap, _∙_}
-use mathlib.Core.Bool.{true}
 use Prim.Native.Nat.{ℕ, _+_, _≤_}
 use native.Mathlib.Omega.{arith}
 use lib.ListN.{replicate}
-use Rattle.liberation.specs.Sets.{isWidth, planFault}
-use Rattle.liberation.proofs.Widths.{width-most}
+use Rattle.liberation.specs.Limits.{InArray}
+use Rattle.liberation.specs.Sets.{planFault}
 use Rattle.liberation.proofs.FaultLaws.{plan-of}
 use Rattle.liberation.proofs.MarkLists.{no-cells, cells-most}
 use Rattle.planner.proofs.PlanAnswers.{list-refused, list-first, list-long, list-says}
@@ -17,7 +16,7 @@ use Rattle.planner.proofs.read_list.Tie as tie
 none : (c : tie.Else1) → let a = c .before .before .before .args in planFault (a .width) (a .disks) (a .lost) ≡ 0
 none c = sym (c .before .plan-fault .ensures) ∙ c .if1 .left
 
-wide : (c : tie.Else1) → let a = c .before .before .before .args in (isWidth (a .width) ≡ true) × (a .lost ≤ a .disks + 1) × (2 ≤ a .disks) × (a .disks ≤ a .width)
+wide : (c : tie.Else1) → let a = c .before .before .before .args in InArray (a .width) (a .disks) × (a .lost ≤ a .disks + 1)
 wide c = let a = c .before .before .before .args in plan-of (a .width) (a .disks) (a .lost) (none c)
 
 returns : tie.Need-returns
@@ -29,10 +28,10 @@ returns c =
     list-refused (a .width) (a .disks) (a .lost) (f .result) (a .list .now) (c .answered .result) (list-first (a .width) (a .disks) (a .lost) (f .result) (a .list .now) (f .ensures) (t .if1 .taken)) (t .if1 .taken) (c .answered .ensures)
 
 add-if2 : tie.Need-add-if2
-add-if2 c = omega (arith, width-most (c .before .before .before .args .width) (wide c .0), wide c .3)
+add-if2 c = omega (arith, wide c .0)
 
 mul-if2 : tie.Need-mul-if2
-mul-if2 c = let a = c .before .before .before .args in omega (arith, cells-most (a .width) (a .disks) (width-most (a .width) (wide c .0)) (wide c .3))
+mul-if2 c = let a = c .before .before .before .args in omega (arith, cells-most (a .width) (a .disks) (wide c .0 .widest) (wide c .0 .disks))
 
 returns-2 : tie.Need-returns-2
 returns-2 c =
@@ -41,7 +40,7 @@ returns-2 c =
     list-refused (a .width) (a .disks) (a .lost) 5 (a .list .now) (c .answered2 .result) (list-long (a .width) (a .disks) (a .lost) (a .list .now) (none (t .before)) (t .if2 .taken)) (λ e. omega arith) (c .answered2 .ensures)
 
 our-plan-requires : tie.Need-our-plan-requires
-our-plan-requires c κs = let w = wide (c .before .before .before .before .before) in (w .0, w .3, w .1)
+our-plan-requires c κs = wide (c .before .before .before .before .before)
 
 mark-steps-requires : tie.Need-mark-steps-requires
 mark-steps-requires c κs =
@@ -49,7 +48,7 @@ mark-steps-requires c κs =
     let k = o .before .before .before in
     let e = k .before .before in
     let w = wide (e .before) in
-    (w .0, w .3, w .1, o .our-plan .ensures .steps, k .clear .ensures ∙ ap (λ (n : ℕ). replicate n 0) (e .if2 .left) ∙ no-cells _ 0)
+    (w .0, w .1, o .our-plan .ensures .steps, k .clear .ensures ∙ ap (λ (n : ℕ). replicate n 0) (e .if2 .left) ∙ no-cells _ 0)
 
 returns-3 : tie.Need-returns-3
 returns-3 c =

@@ -12,7 +12,7 @@ use Rattle.rebuild_cell.proofs.rebuild_cell.Tie as tie
 
 -- the row lies in the column
 fits : (c : tie.After-surviving) → let a = c .before .before .before .before .before .args in a .row * a .size + a .size ≤ length (a .column .now)
-fits c = let o = c .before .before .before .before .before in let a = o .args in row-fits (a .width) (a .disks) (a .size) (a .disk) (a .row) (a .kind) (a .number) (a .stripe .now) (a .column .now) (o .pre)
+fits c = let o = c .before .before .before .before .before in let a = o .args in row-fits (a .width) (a .disks) (a .size) (a .disk) (a .row) (a .kind) (a .number) (a .stripe .now) (a .column .now) (o .pre .0 .long) (o .pre .1 .0) (o .pre .1 .1) (o .pre .1 .2) (o .pre .1 .3)
 
 -- the list is as long as before
 room : (c : tie.After-surviving) → length (c .surviving .last .1 .1 .1 .1 .1 .1 .1 .0) ≡ 33
@@ -21,7 +21,7 @@ room c = search needs
 surviving-requires : tie.Need-surviving-requires
 surviving-requires c κs =
     let q = c .before .before .before .before .pre in
-    record { widest = q .within .widest; disks = q .within .disks; numbered = q .within .numbered; small = q .size; ordered = omega arith; last = omega (arith, q .disk, q .within .disks); room = search needs }
+    record { array = q .0 .array; numbered = q .1 .2; small = q .0 .small; ordered = omega arith; last = omega (arith, q .1 .0, q .0 .array .disks); room = search needs }
 
 mul-start : tie.Need-mul-start
 mul-start c = omega (arith, fits (c .before))
@@ -40,19 +40,19 @@ gather-requires c κs =
     let u = c .before .before .before in
     let o = u .before .before .before .before .before in
     let a = o .args in
-    sources-fit (a .width) (a .disks) (a .size) (a .disk) (a .row) (a .kind) (a .number) (a .stripe .now) (a .column .now) (o .pre) (u .surviving .result) (u .before .before .no-offsets .result) (u .surviving .last .1 .1 .1 .1 .1 .1 .1 .0) (room u) (u .surviving .ensures)
+    sources-fit (a .width) (a .disks) (a .size) (a .disk) (a .row) (a .kind) (a .number) (a .stripe .now) (a .column .now) (o .pre .0 .long) (o .pre .1 .0) (o .pre .1 .1) (o .pre .1 .2) (o .pre .1 .3) (u .surviving .result) (u .before .before .no-offsets .result) (u .surviving .last .1 .1 .1 .1 .1 .1 .1 .0) (room u) (u .surviving .ensures)
 
 other-row-requires : tie.Need-other-row-requires
 other-row-requires c κs =
     let q = c .before .before .before .before .before .before .before .before .before .before .before .pre in
-    (q .within, q .rows, q .own)
+    (q .0 .array, q .1 .2, q .1 .3, q .1 .4)
 
 mul-at : tie.Need-mul-at
 mul-at c =
     let r = c .before in
     let o = r .before .before .before .before .before .before .before .before .before .before .before .before in
     let a = o .args in
-    omega (arith, cell-fits (a .width) (a .size) (r .other-row .result) (c .if1 .taken), o .pre .column)
+    omega (arith, cell-fits (a .width) (a .size) (r .other-row .result) (c .if1 .taken), o .pre .1 .1)
 
 array-share-prefix-at-2 : tie.Need-array-share-prefix-at-2
 array-share-prefix-at-2 c = simp length-set (omega (arith, room (c .before .before .before .before .before .before .before .before .before)))
@@ -72,7 +72,7 @@ gather-within-requires c κs =
     let o = u .before .before .before .before .before in
     let a = o .args in
     let at = u .surviving .last .1 .1 .1 .1 .1 .1 .1 .0 in
-    pair-beside (a .width) (a .disks) (a .size) (a .disk) (a .row) (a .kind) (a .number) (a .stripe .now) (a .column .now) (o .pre) (u .surviving .result) (u .before .before .no-offsets .result) (u .surviving .last .1 .1 .1 .1 .1 .1 .1 .0) (room u) (u .surviving .ensures) (g .gather .last .0) (g .gather .ensures) (r .other-row .result) (c .before .before .if1 .taken) (r .other-row .ensures) (take 2 (set (set at 0 (a .row * a .size)) 1 (r .other-row .result * a .size))) (two-put at (a .row * a .size) (r .other-row .result * a .size) (omega (arith, room u)))
+    pair-beside (a .width) (a .disks) (a .size) (a .disk) (a .row) (a .kind) (a .number) (a .stripe .now) (a .column .now) (o .pre .0 .long) (o .pre .1 .0) (o .pre .1 .1) (o .pre .1 .2) (o .pre .1 .3) (u .surviving .result) (u .before .before .no-offsets .result) (u .surviving .last .1 .1 .1 .1 .1 .1 .1 .0) (room u) (u .surviving .ensures) (g .gather .last .0) (g .gather .ensures) (r .other-row .result) (c .before .before .if1 .taken) (r .other-row .ensures) (take 2 (set (set at 0 (a .row * a .size)) 1 (r .other-row .result * a .size))) (two-put at (a .row * a .size) (r .other-row .result * a .size) (omega (arith, room u)))
 
 returns : tie.Need-returns
 returns c =
@@ -83,7 +83,7 @@ returns c =
     let o = u .before .before .before .before .before in
     let a = o .args in
     let at = u .surviving .last .1 .1 .1 .1 .1 .1 .1 .0 in
-    step-added (a .width) (a .disks) (a .size) (a .disk) (a .row) (a .kind) (a .number) (a .stripe .now) (a .column .now) (o .pre) (u .surviving .result) (u .before .before .no-offsets .result) (u .surviving .last .1 .1 .1 .1 .1 .1 .1 .0) (room u) (u .surviving .ensures) (g .gather .last .0) (g .gather .ensures) (r .other-row .result) (w .before .before .before .if1 .taken) (r .other-row .ensures) (take 2 (set (set at 0 (a .row * a .size)) 1 (r .other-row .result * a .size))) (two-put at (a .row * a .size) (r .other-row .result * a .size) (omega (arith, room u)))
+    step-added (a .width) (a .disks) (a .size) (a .disk) (a .row) (a .kind) (a .number) (a .stripe .now) (a .column .now) (o .pre .0 .long) (o .pre .1 .0) (o .pre .1 .1) (o .pre .1 .2) (o .pre .1 .3) (u .surviving .result) (u .before .before .no-offsets .result) (u .surviving .last .1 .1 .1 .1 .1 .1 .1 .0) (room u) (u .surviving .ensures) (g .gather .last .0) (g .gather .ensures) (r .other-row .result) (w .before .before .before .if1 .taken) (r .other-row .ensures) (take 2 (set (set at 0 (a .row * a .size)) 1 (r .other-row .result * a .size))) (two-put at (a .row * a .size) (r .other-row .result * a .size) (omega (arith, room u)))
     (w .gather-within .last .0) (w .gather-within .ensures)
 
 returns-2 : tie.Need-returns-2
@@ -93,7 +93,7 @@ returns-2 c =
     let u = g .before .before .before .before in
     let o = u .before .before .before .before .before in
     let a = o .args in
-    step-alone (a .width) (a .disks) (a .size) (a .disk) (a .row) (a .kind) (a .number) (a .stripe .now) (a .column .now) (o .pre) (u .surviving .result) (u .before .before .no-offsets .result) (u .surviving .last .1 .1 .1 .1 .1 .1 .1 .0) (room u) (u .surviving .ensures) (g .gather .last .0) (g .gather .ensures) (r .other-row .result) (c .if1 .left) (r .other-row .ensures)
+    step-alone (a .width) (a .disks) (a .size) (a .disk) (a .row) (a .kind) (a .number) (a .stripe .now) (a .column .now) (o .pre .0 .long) (o .pre .1 .0) (o .pre .1 .1) (o .pre .1 .2) (o .pre .1 .3) (u .surviving .result) (u .before .before .no-offsets .result) (u .surviving .last .1 .1 .1 .1 .1 .1 .1 .0) (room u) (u .surviving .ensures) (g .gather .last .0) (g .gather .ensures) (r .other-row .result) (c .if1 .left) (r .other-row .ensures)
 
 pub rebuild-cell-spec : {M : Type 1} → statement M
 rebuild-cell-spec =

@@ -6,7 +6,6 @@ use native.Mathlib.Omega.{arith}
 use lib.ListN.{getD}
 use borrow.Author.Needs.{needs}
 use Rattle.liberation.specs.Plans.{planOf}
-use Rattle.liberation.proofs.Widths.{width-most}
 use Rattle.liberation.proofs.RecordLaws.{StepAt, step-at, plan-length, plan-passed}
 use Rattle.xor.proofs.SourceLaws.{bytes-all}
 use Rattle.rebuild_steps.proofs.FollowLaws.{Stepping, stepping-start, stepping-turn, stepping-end}
@@ -20,23 +19,23 @@ abbrev μ-loop : tie.MeasureT-loop
 μ-loop width disks size disk stripe column₀ rows kinds numbers i₀ column i = width - i
 
 small : (c : tie.In-loop Inv-loop μ-loop) → let z = c .before .before .before .before .before .before .before in z .args .width ≤ 31
-small c = let z = c .before .before .before .before .before .before .before in width-most (z .args .width) (z .pre .0 .0 .width)
+small c = c .before .before .before .before .before .before .before .pre .0 .array .widest
 
 -- the step of this turn
 this : (c : tie.In-loop Inv-loop μ-loop) → let a = c .before .before .before .before .before .before .before .args in StepAt (planOf (a .width) (a .disks) (a .disk)) (c .before .loop .i)
 this c =
     let z = c .before .before .before .before .before .before .before in
-    step-at _ _ (omega (arith, plan-length (z .args .width) (z .args .disks) (z .args .disk) (z .pre .0 .0 .width) (z .pre .0 .0 .disks) (z .pre .0 .0 .disk)))
+    step-at _ _ (omega (arith, plan-length (z .args .width) (z .args .disks) (z .args .disk) (z .pre .0 .array .width) (z .pre .0 .array .disks) (z .pre .1 .0)))
 
 -- and where the arrays have it
 row : (c : tie.In-loop Inv-loop μ-loop) → getD (c .before .before .before .before .before .before .before .args .steps .rows) (c .before .loop .i) 0 ≡ this c .this .row
-row c = ap (λ (x : List ℕ). getD x (c .before .loop .i) 0) (c .before .before .before .before .before .before .before .pre .0 .0 .held .rows) ∙ this c .held (λ s. s .row)
+row c = ap (λ (x : List ℕ). getD x (c .before .loop .i) 0) (c .before .before .before .before .before .before .before .pre .1 .2 .rows) ∙ this c .held (λ s. s .row)
 
 kind : (c : tie.In-loop Inv-loop μ-loop) → getD (c .before .before .before .before .before .before .before .args .steps .kinds) (c .before .loop .i) 0 ≡ this c .this .kind
-kind c = ap (λ (x : List ℕ). getD x (c .before .loop .i) 0) (c .before .before .before .before .before .before .before .pre .0 .0 .held .kinds) ∙ this c .held (λ s. s .kind)
+kind c = ap (λ (x : List ℕ). getD x (c .before .loop .i) 0) (c .before .before .before .before .before .before .before .pre .1 .2 .kinds) ∙ this c .held (λ s. s .kind)
 
 number : (c : tie.In-loop Inv-loop μ-loop) → getD (c .before .before .before .before .before .before .before .args .steps .numbers) (c .before .loop .i) 0 ≡ this c .this .number
-number c = ap (λ (x : List ℕ). getD x (c .before .loop .i) 0) (c .before .before .before .before .before .before .before .pre .0 .0 .held .numbers) ∙ this c .held (λ s. s .number)
+number c = ap (λ (x : List ℕ). getD x (c .before .loop .i) 0) (c .before .before .before .before .before .before .before .pre .1 .2 .numbers) ∙ this c .held (λ s. s .number)
 
 loop-holds : tie.Need-loop-holds Inv-loop μ-loop
 loop-holds c = stepping-start _ _ _ _ _ _ (c .before .before .before .before .before .pre .1 .1)
@@ -55,19 +54,9 @@ rebuild-cell-requires c κs =
     let t = c .before in
     let z = t .before .before .before .before .before .before .before in
     let a = z .args in
-    let w = z .pre .0 .0 .width in
-    let most = z .pre .0 .0 .disks in
-    let d = z .pre .0 .0 .disk in
-    let passed = plan-passed (a .width) (a .disks) (a .disk) (t .before .loop .i) w most d (this t) (t .loop-test .taken) .1 in
-    record {
-      within = record { widest = small t; disks = most; numbered = omega (arith, number t, passed .number-below) };
-      rows = omega (arith, row t, passed .row-below);
-      own = rw (row t, kind t, number t) (passed .lost);
-      disk = d;
-      size = z .pre .0 .1;
-      stripe = z .pre .1 .0;
-      column = t .before .loop .inv .long;
-    }
+    let d = z .pre .1 .0 in
+    let passed = plan-passed (a .width) (a .disks) (a .disk) (t .before .loop .i) (z .pre .0 .array .width) (z .pre .0 .array .disks) d (this t) (t .loop-test .taken) .1 in
+    (z .pre .0, (d, t .before .loop .inv .long, omega (arith, number t, passed .number-below), omega (arith, row t, passed .row-below), rw (row t, kind t, number t) (passed .lost)))
 
 loop-again : tie.Need-loop-again Inv-loop μ-loop
 loop-again c =
@@ -86,7 +75,7 @@ returns c =
     let k = c .before .before .before .before .before in
     let z = k .before .before in
     let a = z .args in
-    stepping-end (a .width) (a .disks) (a .size) (a .disk) (z .pre .0 .0 .width) (z .pre .0 .0 .disks) (z .pre .0 .0 .disk) (a .stripe .now) (a .column .now) (l .column) (l .i) (omega arith) (z .pre .1 .0) (z .pre .1 .1)
+    stepping-end (a .width) (a .disks) (a .size) (a .disk) (z .pre .0 .array .width) (z .pre .0 .array .disks) (z .pre .1 .0) (a .stripe .now) (a .column .now) (l .column) (l .i) (omega arith) (z .pre .0 .long) (z .pre .1 .1)
     (bytes-all (a .stripe .now) (k .before .shared-slice-known .given)) (bytes-all (a .column .now) (k .slice-known .given)) (l .inv)
 
 pub follow-spec : {M : Type 1} → statement M

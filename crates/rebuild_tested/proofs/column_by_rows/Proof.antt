@@ -25,7 +25,7 @@ push-row-requires c κs =
     let u = c .before .before in
     let o = u .before .before .before .before .before in
     let q = o .pre .0 in
-    record { widest = q .widest; small = q .small; numbered = o .pre .1; from = omega arith; to = omega arith; space = omega (arith, first u); few = omega arith }
+    record { widest = q .array .widest; small = q .small; numbered = q .array .some; from = omega arith; to = omega arith; space = omega (arith, first u); few = omega arith }
 
 -- the numbers of the list that are in use after the second push
 long : (c : tie.After-push-row) → length (take (c .push-row .result) (c .push-row .last .1 .1 .1 .1 .1 .0)) ≡ c .push-row .result
@@ -39,7 +39,7 @@ list c =
     let u = c .before .before .before in
     let o = u .before .before .before .before .before in
     let a = o .args in
-    row-pushed (a .width) (a .disks) (a .size) (a .disk) (o .pre .1) (o .pre .2) (u .push .ensures) (c .push-row .ensures) .list
+    row-pushed (a .width) (a .disks) (a .size) (a .disk) (o .pre .0 .array .some) (o .pre .1) (u .push .ensures) (c .push-row .ensures) .list
 
 slice-aggregate-gather-stretches : tie.Need-slice-aggregate-gather-stretches
 slice-aggregate-gather-stretches c = sym (long (c .before .before .before))
@@ -50,8 +50,8 @@ gather-stretches-requires c κs =
     let o = v .before .before .before .before .before .before .before .before in
     let a = o .args in
     let l : 0 < a .disks + 2 = omega arith in (
-      omega (arith, o .pre .0 .long, o .pre .3, cell-fits (a .disks + 2) (a .width * a .size) 0 l),
-      others-reached (a .width) (a .disks) (a .size) (a .disk) (length (a .column .now)) (a .stripe .now) (o .pre .1) (o .pre .2) (o .pre .0 .long) (o .pre .3) (list v) (few v),
+      omega (arith, o .pre .0 .long, o .pre .2, cell-fits (a .disks + 2) (a .width * a .size) 0 l),
+      others-reached (a .width) (a .disks) (a .size) (a .disk) (length (a .column .now)) (a .stripe .now) (o .pre .0 .array .some) (o .pre .1) (o .pre .0 .long) (o .pre .2) (list v) (few v),
     )
 
 returns : tie.Need-returns
@@ -60,7 +60,7 @@ returns c =
     let v = c .before .before .before .before .before .before in
     let o = v .before .before .before .before .before .before .before .before in
     let a = o .args in
-    rows-gathered (a .width) (a .disks) (a .size) (a .disk) (length (a .column .now)) (a .stripe .now) (o .pre .1) (o .pre .2) (o .pre .0 .long) (o .pre .3) (list v) (few v) (g .last .0) (g .ensures)
+    rows-gathered (a .width) (a .disks) (a .size) (a .disk) (length (a .column .now)) (a .stripe .now) (o .pre .0 .array .some) (o .pre .1) (o .pre .0 .long) (o .pre .2) (list v) (few v) (g .last .0) (g .ensures)
 
 pub column-by-rows-spec : {M : Type 1} → statement M
 column-by-rows-spec =

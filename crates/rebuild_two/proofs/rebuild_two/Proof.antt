@@ -29,7 +29,7 @@ solve-pair-requires c κs =
     let i = c .before in
     let a = i .before .before .before .args in
     let q = fault-none (a .shape .width) (a .shape .disks) (a .shape .«cell_size») (a .first) (a .second) (a .stripe .now) (passed i) in
-    (q .sized, (q .width, q .first, q .second, q .apart))
+    (q .0, (q .1, q .2, q .3))
 
 returns-2 : tie.Need-returns-2
 returns-2 c =

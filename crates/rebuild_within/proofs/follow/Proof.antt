@@ -9,6 +9,7 @@ use Rattle.liberation.specs.Plans.{planOf}
 use Rattle.liberation.proofs.RecordLaws.{StepAt, step-at, plan-length}
 use Rattle.liberation_stripes.specs.Stripes.{followed}
 use Rattle.rebuild_within.proofs.StepLaws.{plan-ordinary, stepsRest, steps-turn, steps-last}
+use Rattle.liberation_stripes.proofs.SizedLaws.{sized-kept}
 use Rattle.rebuild_within.proofs.follow.Statement.{statement}
 use Rattle.rebuild_within.proofs.follow.Tie as tie
 
@@ -23,23 +24,23 @@ loop-holds : tie.Need-loop-holds Inv-loop μ-loop
 loop-holds c = (omega arith, refl, refl)
 
 small : (c : tie.In-loop Inv-loop μ-loop) → c .before .before .before .before .before .before .args .width ≤ 31
-small c = c .before .before .before .before .before .before .pre .0 .widest
+small c = c .before .before .before .before .before .before .pre .0 .array .widest
 
 -- the step of this turn
 this : (c : tie.In-loop Inv-loop μ-loop) → let a = c .before .before .before .before .before .before .args in StepAt (planOf (a .width) (a .disks) (a .disk)) (c .before .loop .i)
 this c =
     let z = c .before .before .before .before .before .before in
-    step-at _ _ (omega (arith, plan-length (z .args .width) (z .args .disks) (z .args .disk) (z .pre .1 .0) (z .pre .0 .disks) (z .pre .1 .1)))
+    step-at _ _ (omega (arith, plan-length (z .args .width) (z .args .disks) (z .args .disk) (z .pre .0 .array .width) (z .pre .0 .array .disks) (z .pre .1 .0)))
 
 -- and where the arrays have it
 row : (c : tie.In-loop Inv-loop μ-loop) → getD (c .before .before .before .before .before .before .args .steps .rows) (c .before .loop .i) 0 ≡ this c .this .row
-row c = ap (λ (x : List ℕ). getD x (c .before .loop .i) 0) (c .before .before .before .before .before .before .pre .1 .2 .rows) ∙ this c .held (λ s. s .row)
+row c = ap (λ (x : List ℕ). getD x (c .before .loop .i) 0) (c .before .before .before .before .before .before .pre .1 .1 .rows) ∙ this c .held (λ s. s .row)
 
 kind : (c : tie.In-loop Inv-loop μ-loop) → getD (c .before .before .before .before .before .before .args .steps .kinds) (c .before .loop .i) 0 ≡ this c .this .kind
-kind c = ap (λ (x : List ℕ). getD x (c .before .loop .i) 0) (c .before .before .before .before .before .before .pre .1 .2 .kinds) ∙ this c .held (λ s. s .kind)
+kind c = ap (λ (x : List ℕ). getD x (c .before .loop .i) 0) (c .before .before .before .before .before .before .pre .1 .1 .kinds) ∙ this c .held (λ s. s .kind)
 
 number : (c : tie.In-loop Inv-loop μ-loop) → getD (c .before .before .before .before .before .before .args .steps .numbers) (c .before .loop .i) 0 ≡ this c .this .number
-number c = ap (λ (x : List ℕ). getD x (c .before .loop .i) 0) (c .before .before .before .before .before .before .pre .1 .2 .numbers) ∙ this c .held (λ s. s .number)
+number c = ap (λ (x : List ℕ). getD x (c .before .loop .i) 0) (c .before .before .before .before .before .before .pre .1 .1 .numbers) ∙ this c .held (λ s. s .number)
 
 array-read-row : tie.Need-array-read-row Inv-loop μ-loop
 array-read-row c = omega (arith, small c)
@@ -57,7 +58,7 @@ solve-requires c κs =
     let a = z .args in
     let l = t .before .loop in
     let q = z .pre .0 in
-    (record { widest = q .widest; disks = q .disks; small = q .small; long = l .inv .1 ∙ q .long }, rw (row t, kind t, number t) (plan-ordinary (a .width) (a .disks) (a .disk) (z .pre .1 .0) (q .disks) (z .pre .1 .1) (l .i) (this t) (t .loop-test .taken)))
+    (sized-kept _ _ _ _ (l .stripe) q (l .inv .1), rw (row t, kind t, number t) (plan-ordinary (a .width) (a .disks) (a .disk) (q .array .width) (q .array .disks) (z .pre .1 .0) (l .i) (this t) (t .loop-test .taken)))
 
 loop-again : tie.Need-loop-again Inv-loop μ-loop
 loop-again c =
@@ -75,7 +76,7 @@ returns c =
     let l = c .before .loop in
     let z = c .before .before .before .before .before .before in
     let a = z .args in
-    sym (steps-last (a .width) (a .disks) (a .disk) (z .pre .1 .0) (z .pre .0 .disks) (z .pre .1 .1) (a .size) (l .i) (l .stripe) (omega arith)) ∙ l .inv .2
+    sym (steps-last (a .width) (a .disks) (a .disk) (z .pre .0 .array .width) (z .pre .0 .array .disks) (z .pre .1 .0) (a .size) (l .i) (l .stripe) (omega arith)) ∙ l .inv .2
 
 pub follow-spec : {M : Type 1} → statement M
 follow-spec =

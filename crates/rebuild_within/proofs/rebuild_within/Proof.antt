@@ -5,7 +5,7 @@ use borrow.Author.Needs.{needs}
 use Rattle.laws.proofs.ChoiceLaws.{pick-done}
 use Rattle.liberation.specs.Sets.{planFault}
 use Rattle.liberation.specs.Plans.{Step, planOf}
-use Rattle.liberation.proofs.FaultLaws.{plan-of}
+use Rattle.liberation.proofs.FaultLaws.{plan-none}
 use Rattle.step_records.specs.Records.{Holds}
 use Rattle.rebuild_within.proofs.rebuild_within.Statement.{statement}
 use Rattle.rebuild_within.proofs.rebuild_within.Tie as tie
@@ -15,10 +15,9 @@ follow-requires c κs =
     let d = c .before .before in
     let z = d .before .before in
     let a = z .args in
-    let q = plan-of (a .width) (a .disks) (a .disk) (z .pre .1) in
     let ours : List Step = planOf (a .width) (a .disks) (a .disk) in
-    let planned = sym (pick-done (planFault (a .width) (a .disks) (a .disk)) ours [] (z .pre .1)) in
-    (z .pre .0, (q .0, q .1, subst (λ (ss : List Step). Holds ss (d .plan-steps .result .steps)) planned (d .plan-steps .ensures .steps)))
+    let planned = sym (pick-done (planFault (a .width) (a .disks) (a .disk)) ours [] (plan-none (a .width) (a .disks) (a .disk) (z .pre .0 .array) (z .pre .1))) in
+    (z .pre .0, (z .pre .1, subst (λ (ss : List Step). Holds ss (d .plan-steps .result .steps)) planned (d .plan-steps .ensures .steps)))
 
 pub rebuild-within-spec : {M : Type 1} → statement M
 rebuild-within-spec = tie.close (tie.spec (λ c κs. search needs) follow-requires (λ c. search needs) (λ c. search needs))

@@ -19,13 +19,13 @@ abbrev μ-loop : tie.MeasureT-loop
 μ-loop width disks size dirty stripe at₀ extra₀ disk₀ at extra disk = disks + 2 - disk
 
 loop-holds : tie.Need-loop-holds Inv-loop μ-loop
-loop-holds c = let o = c .before .before in let a = o .args in (omega arith, o .pre .4, first-all (a .width) (a .disks) (a .size) (a .stripe .now))
+loop-holds c = let o = c .before .before in let a = o .args in (omega arith, o .pre .2, first-all (a .width) (a .disks) (a .size) (a .stripe .now))
 
 equations-passed-requires : tie.Need-equations-passed-requires Inv-loop μ-loop
 equations-passed-requires c κs =
     let w = c .before in
     let o = w .before .before .before .before .before in
-    (o .pre .0, o .pre .1, omega arith, w .first-number .ensures, w .before .before .loop .inv .1)
+    (o .pre .0, omega arith, w .first-number .ensures, w .before .before .loop .inv .1)
 
 returns : tie.Need-returns Inv-loop μ-loop
 returns c =

@@ -3,10 +3,10 @@ use mathlib.Core.Path.{_≡_, sym, _∙_}
 use Prim.Native.Nat.{_<_}
 use native.Mathlib.Omega.{arith}
 use borrow.Author.Needs.{needs}
-use Rattle.stripes.specs.Cells.{Sized}
+use Rattle.liberation_stripes.specs.Limits.{Sized}
 use Rattle.stripes.specs.Says.{stripeFault}
 use Rattle.stripes.proofs.StripeRefusals.{fault-none}
-use Rattle.scrub.proofs.ScrubRefusals.{width-is, scrub-refused, scrub-clean, scrub-one, scrub-more}
+use Rattle.scrub.proofs.ScrubRefusals.{scrub-refused, scrub-clean, scrub-one, scrub-more}
 use Rattle.scrub.proofs.scrub_stripe.Statement.{statement}
 use Rattle.scrub.proofs.scrub_stripe.Tie as tie
 
@@ -14,7 +14,7 @@ use Rattle.scrub.proofs.scrub_stripe.Tie as tie
 passed : (c : tie.Else1) → let a = c .before .before .before .before .args in stripeFault (a .shape .width) (a .shape .disks) (a .shape .«cell_size») (a .stripe .now) ≡ 0
 passed c = sym (c .before .before .check-stripe .ensures .answer .refusal) ∙ c .if1 .left
 
-sized : (c : tie.Else1) → let a = c .before .before .before .before .args in Sized (a .shape .width) (a .shape .disks) (a .shape .«cell_size») (a .stripe .now) × (0 < a .shape .width)
+sized : (c : tie.Else1) → let a = c .before .before .before .before .args in Sized (a .shape .width) (a .shape .disks) (a .shape .«cell_size») (a .stripe .now)
 sized c = let a = c .before .before .before .before .args in fault-none (a .shape .width) (a .shape .disks) (a .shape .«cell_size») (a .stripe .now) (passed c)
 
 returns : tie.Need-returns
@@ -32,13 +32,10 @@ returns-2 c =
     scrub-clean (a .shape .width) (a .shape .disks) (a .shape .«cell_size») (a .stripe .now) (c .found2 .result) (k .ensures .bytes) (k .result .clean) (passed e) (k .ensures .clean) (c .before .if2 .taken) (c .found2 .ensures)
 
 suspected-requires : tie.Need-suspected-requires
-suspected-requires c κs =
-    let e = c .before in
-    let a = e .before .before .before .before .args in
-    (sized e .0, width-is (a .shape .width) (a .shape .disks) (a .shape .«cell_size») (a .stripe .now) (passed e), sized e .1)
+suspected-requires c κs = sized (c .before)
 
 add-if3 : tie.Need-add-if3
-add-if3 c = let z = sized (c .before .before) .0 in omega (arith, z .widest, z .disks)
+add-if3 c = omega (arith, sized (c .before .before) .array)
 
 returns-3 : tie.Need-returns-3
 returns-3 c =

@@ -1,7 +1,7 @@
 -- `mend_server`: the one lost disk by our plan; where there is no such one, two by the walk, or none. A disk that is lost is one of the array.
 use mathlib.Core.Path.{_≡_}
 use borrow.Author.Needs.{needs}
-use Rattle.server_mends.proofs.Turning.{none-lost, both-lost, second-none, second-too, only-plan, only-mended, both-disks}
+use Rattle.server_mends.proofs.Turning.{none-lost, both-lost, second-none, second-too, only-disk, only-mended, both-disks}
 use Rattle.server_mends.proofs.mend_server.Statement.{statement}
 use Rattle.server_mends.proofs.mend_server.Tie as tie
 
@@ -10,7 +10,7 @@ rebuild-within-requires c κs =
     let r = c .before .before .only-loss in
     let o = c .before .before .before .before in
     let a = o .args in
-    (o .pre .0, only-plan (a .first) (a .second) (r .result) (r .ensures) (a .width) (a .disks) (o .pre .1 .0) (o .pre .1 .1) (c .before .if1 .taken))
+    (o .pre .0, only-disk (a .first) (a .second) (r .result) (r .ensures) (a .disks) (o .pre .1) (c .before .if1 .taken))
 
 returns : tie.Need-returns
 returns c =
@@ -39,7 +39,7 @@ solve-pair-requires c κs =
     let e = c .before in
     let o = e .before .before .before .before in
     let a = o .args in
-    (o .pre .0, both-disks (a .width) (a .disks) (a .first) (a .second) (o .pre .1 .0) (o .pre .1 .1) (e .if2 .left) (second e))
+    (o .pre .0, both-disks (a .disks) (a .first) (a .second) (o .pre .1) (e .if2 .left) (second e))
 
 returns-3 : tie.Need-returns-3
 returns-3 c =

@@ -9,7 +9,7 @@ use Rattle.liberation_stripes.specs.Stripes.{stripeLong}
 use Rattle.liberation_stripes.proofs.CellLaws.{cell-long}
 use Rattle.liberation_servers.specs.Servers.{firstLoss, secondLoss, mended}
 use Rattle.xor.proofs.PartLaws.{put-part}
-use Rattle.server_mends.proofs.Turning.{turn-lost, turn-other, turn-small}
+use Rattle.server_mends.proofs.Turning.{turn-lost, turn-other}
 use Rattle.server_mends.proofs.mend_turn.Statement.{statement}
 use Rattle.server_mends.proofs.mend_turn.Tie as tie
 
@@ -19,10 +19,7 @@ returns c =
     turn-lost (a .width) (a .disks) (a .size) (a .lost) (a .i) (a .losses .now) (a .stripes .now) (c .if1 .taken)
 
 add-long : tie.Need-add-long
-add-long c =
-    let o = c .before .before .before in
-    let a = o .args in
-    omega (arith, turn-small (a .width) (a .disks) (a .size) (a .lost) (a .i) (a .losses .now) (a .stripes .now) (o .pre))
+add-long c = omega (arith, c .before .before .before .pre .array)
 
 cast-first : tie.Need-cast-first
 cast-first c = omega (arith, c .shared-slice-known2 .given (2 * c .before .before .before .before .args .i))
@@ -36,9 +33,8 @@ mend-server-requires c κs =
     let o = e .before .before .before in
     let a = o .args in
     let long = stripeLong (a .width) (a .disks) (a .size) in
-    let small = turn-small (a .width) (a .disks) (a .size) (a .lost) (a .i) (a .losses .now) (a .stripes .now) (o .pre) in
     let same : a .i * long + long - a .i * long ≡ long = omega arith in
-    (record { widest = small .0; disks = small .1; small = o .pre .small; long = ap (λ (n : ℕ). length (take n (drop (a .i * long) (a .stripes .now)))) same ∙ cell-long long (a .i) (a .stripes .now) (o .pre .stripe) }, (o .pre .array, o .pre .losses (e .if1 .left)))
+    (record { array = o .pre .array; small = o .pre .small; long = ap (λ (n : ℕ). length (take n (drop (a .i * long) (a .stripes .now)))) same ∙ cell-long long (a .i) (a .stripes .now) (o .pre .stripe) }, o .pre .losses (e .if1 .left))
 
 returns-2 : tie.Need-returns-2
 returns-2 c =

@@ -12,7 +12,7 @@ push-requires-2 c κs =
     let o = u .before .before .before .before in
     let a = o .args in
     let n = data-count (a .width) (a .disks) (a .size) (a .kind) (a .number) (u .before .before .least .result - 0) 0 (u .push .ensures) in
-    (record { widest = o .pre .widest; small = o .pre .small; numbered = o .pre .numbered; from = omega arith; to = omega arith; space = omega (arith, n); few = omega arith }, omega arith)
+    (record { widest = o .pre .array .widest; small = o .pre .small; numbered = o .pre .numbered; from = omega arith; to = omega arith; space = omega (arith, n); few = omega arith }, omega arith)
 
 push-requires-3 : tie.Need-push-requires-3
 push-requires-3 c κs =
@@ -25,7 +25,7 @@ push-requires-3 c κs =
     let f = u .before .before .least in
     let g = v .before .before .least2 in
     let room = room-after (a .disks) (a .x) (a .y) (f .result) (g .result) (u .push .result) (v .push2 .result) (f .ensures) (g .ensures) (o .pre .ordered) n m in
-    (record { widest = o .pre .widest; small = o .pre .small; numbered = o .pre .numbered; from = omega arith; to = omega arith; space = omega (arith, room); few = omega arith }, omega arith)
+    (record { widest = o .pre .array .widest; small = o .pre .small; numbered = o .pre .numbered; from = omega arith; to = omega arith; space = omega (arith, room); few = omega arith }, omega arith)
 
 returns : tie.Need-returns
 returns c =

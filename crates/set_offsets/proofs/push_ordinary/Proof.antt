@@ -12,7 +12,7 @@ push-cell-requires c κs =
     let o = u .before .before .before in
     let a = o .args in
     let n = data-most (a .width) (a .disks) (a .size) (a .kind) (a .number) (a .x) (a .y) (u .push-data .ensures) in
-    (o .pre .widest, o .pre .numbered, omega (arith, q .ensures, parity-most (a .width) (a .disks) (a .kind) (a .number)), o .pre .small, omega (arith, n))
+    (o .pre .array .widest, o .pre .numbered, omega (arith, q .ensures, parity-most (a .width) (a .disks) (a .kind) (a .number)), o .pre .small, omega (arith, n))
 
 returns : tie.Need-returns
 returns c =

@@ -11,7 +11,7 @@ push-extra-requires c κs =
     let o = u .before .before .before in
     let a = o .args in
     let n = ordinary-most (a .width) (a .disks) (a .size) (a .kind) (a .number) (a .x) (a .y) (u .push-ordinary .ensures) in
-    (record { widest = o .pre .widest; disks = o .pre .disks; numbered = o .pre .numbered }, o .pre .small, omega (arith, n))
+    (o .pre .array, o .pre .numbered, o .pre .small, omega (arith, n))
 
 returns : tie.Need-returns
 returns c =

@@ -18,7 +18,7 @@ others-requires c κs =
     let a = o .args in
     let q = o .pre .0 .0 in
     let d = own-disk (a .width) (a .disks) (a .kind) (a .number) (a .disk) (a .row) (o .pre .0 .1) in
-    record { widest = q .widest; disks = q .disks; numbered = o .pre .0 .1 .numbered; small = q .small; ordered = omega arith; last = omega (arith, d); room = o .pre .1 }
+    record { array = q .array; numbered = o .pre .0 .1 .numbered; small = q .small; ordered = omega arith; last = omega (arith, d); room = o .pre .1 }
 
 -- the list is as long as before
 room : (c : tie.After-others) → length (c .others .last .1 .1 .1 .1 .1 .1 .0) ≡ 33
@@ -36,7 +36,7 @@ small c =
     let o = c .before .before .before .before in
     let a = o .args in
     let d : a .disk ≤ 32 = omega (arith, own-disk (a .width) (a .disks) (a .kind) (a .number) (a .disk) (a .row) (o .pre .0 .1)) in
-    mul-le-mul d (o .pre .0 .0 .widest)
+    mul-le-mul d (o .pre .0 .0 .array .widest)
 
 mul-to : tie.Need-mul-to
 mul-to c = omega (arith, small (c .before .before))

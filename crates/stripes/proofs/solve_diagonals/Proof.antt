@@ -28,7 +28,7 @@ solve-by-requires c κs =
     let o = c .before .before .before .before .before .before in
     let a = o .args in
     let q = o .pre in
-    ((record { widest = q .widest; disks = q .disks; small = q .small; long = l .inv .2 ∙ q .long }, parity-own (a .width) (a .disks) (l .i) (omega arith)), l .inv .1)
+    ((record { array = q .array; small = q .small; long = l .inv .2 ∙ q .long }, parity-own (a .width) (a .disks) (l .i) (omega arith)), l .inv .1)
 
 loop-again : tie.Need-loop-again Inv-loop μ-loop
 loop-again c =

@@ -25,7 +25,7 @@ push-row-requires c κs =
     let u = c .before .before in
     let o = u .before .before .before .before in
     let q = o .pre .0 in
-    record { widest = q .widest; small = q .small; numbered = o .pre .1; from = omega arith; to = omega arith; space = omega (arith, first u); few = omega arith }
+    record { widest = q .array .widest; small = q .small; numbered = q .array .some; from = omega arith; to = omega arith; space = omega (arith, first u); few = omega arith }
 
 -- the numbers of the list that are in use after the second push
 long : (c : tie.After-push-row) → length (take (c .push-row .result) (c .push-row .last .1 .1 .1 .1 .1 .0)) ≡ c .push-row .result
@@ -36,14 +36,14 @@ list c =
     let u = c .before .before .before in
     let o = u .before .before .before .before in
     let a = o .args in
-    row-pushed (a .width) (a .disks) (a .size) (a .disk) (o .pre .1) (o .pre .2) (u .push .ensures) (c .push-row .ensures) .list
+    row-pushed (a .width) (a .disks) (a .size) (a .disk) (o .pre .0 .array .some) (o .pre .1) (u .push .ensures) (c .push-row .ensures) .list
 
 lies : (c : tie.After-push-row) → let a = c .before .before .before .before .before .before .before .args in Apart (a .disk * (a .width * a .size)) (a .width * a .size) (length (a .stripe .now)) (take (c .push-row .result) (c .push-row .last .1 .1 .1 .1 .1 .0))
 lies c =
     let o = c .before .before .before .before .before .before .before in
     let a = o .args in
     let room : length (c .push-row .last .1 .1 .1 .1 .1 .0) ≡ 33 = search needs in
-    columns-apart (a .width) (a .disks) (a .size) (a .disk) (o .pre .1) (list c) (omega (arith, long c, c .push-row .ensures .fits)) (omega (arith, o .pre .0 .long)) (o .pre .2)
+    columns-apart (a .width) (a .disks) (a .size) (a .disk) (o .pre .0 .array .some) (list c) (omega (arith, long c, c .push-row .ensures .fits)) (omega (arith, o .pre .0 .long)) (o .pre .1)
 
 mul-gather-lists : tie.Need-mul-gather-lists
 mul-gather-lists c = omega (arith, lies (c .before .before) .fits)
@@ -60,7 +60,7 @@ returns c =
     let v = c .before .before .before .before .before .before .before in
     let o = v .before .before .before .before .before .before .before in
     let a = o .args in
-    rows-solved (a .width) (a .disks) (a .size) (a .disk) (a .stripe .now) (o .pre .1) (o .pre .2) (o .pre .0 .long) (subst (Reached (a .width * a .size) (length (a .stripe .now))) (list v) (lies v .sources))
+    rows-solved (a .width) (a .disks) (a .size) (a .disk) (a .stripe .now) (o .pre .0 .array .some) (o .pre .1) (o .pre .0 .long) (subst (Reached (a .width * a .size) (length (a .stripe .now))) (list v) (lies v .sources))
     (take (v .push-row .result) (v .push-row .last .1 .1 .1 .1 .1 .0)) (g .last .0) (list v) (g .ensures)
 
 pub solve-rows-spec : {M : Type 1} → statement M

@@ -1,8 +1,6 @@
 -- `disk_fits`: all equations hold exactly if the disk fits.
 use mathlib.Core.Path.{_≡_}
-use native.Mathlib.Omega.{arith}
 use borrow.Author.Needs.{needs}
-use Rattle.liberation.proofs.Widths.{width-least}
 use Rattle.survivors.proofs.disk_fits.Statement.{statement}
 use Rattle.survivors.proofs.disk_fits.Tie as tie
 
@@ -10,7 +8,7 @@ equations-passed-requires : tie.Need-equations-passed-requires
 equations-passed-requires c κs =
     let z = c .before .no-offsets in
     let o = c .before .before .before in
-    (o .pre .0, o .pre .1, o .pre .2, omega (arith, width-least (o .args .width) (o .pre .1)), z .ensures)
+    (o .pre .0, o .pre .1, o .pre .0 .array .some, z .ensures)
 
 pub disk-fits-spec : {M : Type 1} → statement M
 disk-fits-spec = tie.close (tie.spec (λ c κs. search needs) (λ c. search needs) equations-passed-requires (λ c. search needs))

@@ -24,7 +24,7 @@ loop-holds : tie.Need-loop-holds Inv-loop μ-loop
 loop-holds c =
     let o = c .before .before in
     let a = o .args in
-    (omega arith, o .pre .4, all-start (λ j. equationHolds (a .width) (a .disks) (a .size) (a .disk) (a .stripe .now) ((a .from + j) % a .width)))
+    (omega arith, o .pre .3, all-start (λ j. equationHolds (a .width) (a .disks) (a .size) (a .disk) (a .stripe .now) ((a .from + j) % a .width)))
 
 -- the number that is tested
 number-is : (c : tie.After-row-on Inv-loop μ-loop) → let o = c .before .before .before .before .before in c .row-on .result ≡ (o .args .from + c .before .before .loop .passed) % o .args .width
@@ -35,7 +35,7 @@ equation-holds-requires c κs =
     let w = c .before in
     let l = w .before .before .loop in
     let o = w .before .before .before .before .before in
-    (o .pre .0, o .pre .2, row-below (o .args .width) (o .args .from) (l .passed) (w .row-on .result) (o .pre .3) (number-is w), l .inv .1)
+    (o .pre .0, o .pre .1, row-below (o .args .width) (o .args .from) (l .passed) (w .row-on .result) (o .pre .2) (number-is w), l .inv .1)
 
 returns : tie.Need-returns Inv-loop μ-loop
 returns c =
@@ -45,7 +45,7 @@ returns c =
     let g = w .before .before .before .before in
     let o = g .before in
     let a = o .args in
-    one-refuses (a .width) (a .disks) (a .size) (a .disk) (a .from) (a .stripe .now) (o .pre .1) (o .pre .0 .disks) (o .pre .2) (o .pre .0 .long) (bytes-all (a .stripe .now) (g .shared-slice-known .given)) (o .pre .3)
+    one-refuses (a .width) (a .disks) (a .size) (a .disk) (a .from) (a .stripe .now) (o .pre .0 .array .width) (o .pre .0 .array .disks) (o .pre .1) (o .pre .0 .long) (bytes-all (a .stripe .now) (g .shared-slice-known .given)) (o .pre .2)
     (l .passed) (v .result) (omega arith) (v .ensures ∙ ap (equationHolds (a .width) (a .disks) (a .size) (a .disk) (a .stripe .now)) (number-is w)) (c .if1 .taken)
 
 loop-again : tie.Need-loop-again Inv-loop μ-loop
@@ -66,7 +66,7 @@ returns-2 c =
     let g = c .before .before .before in
     let o = g .before in
     let a = o .args in
-    none-refuses (a .width) (a .disks) (a .size) (a .disk) (a .from) (a .stripe .now) (o .pre .1) (o .pre .0 .disks) (o .pre .2) (o .pre .0 .long) (bytes-all (a .stripe .now) (g .shared-slice-known .given)) (o .pre .3)
+    none-refuses (a .width) (a .disks) (a .size) (a .disk) (a .from) (a .stripe .now) (o .pre .0 .array .width) (o .pre .0 .array .disks) (o .pre .1) (o .pre .0 .long) (bytes-all (a .stripe .now) (g .shared-slice-known .given)) (o .pre .2)
     (l .passed) (l .inv .0) (omega arith) (l .inv .2)
 
 pub equations-passed-spec : {M : Type 1} → statement M

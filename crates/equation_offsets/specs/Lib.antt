@@ -1,2 +1,0 @@
--- What a push of an equation's survivors asks.
-pub mod Lists

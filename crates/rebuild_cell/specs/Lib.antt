@@ -1,2 +1,0 @@
--- One step of a rebuild.
-pub mod Cells

@@ -1,2 +1,0 @@
--- What following a plan promises.
-pub mod Plans
