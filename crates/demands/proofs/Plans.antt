@@ -20,7 +20,7 @@ use Rattle.liberation_stripes.specs.Stripes.{isStripe, followed}
 use Rattle.liberation_stripes.proofs.Rearranging.{bytes-same}
 use Rattle.planner.specs.declared.Plan.{Plan}
 use Rattle.refusals.specs.declared.Answer.{Answer}
-use Rattle.planner.specs.Says.{PlanSays, listFault, ListSays}
+use Rattle.planner.specs.Says.{PlanSays, readListFault, ListSays}
 use Rattle.planner.proofs.FormLaws.{formOf, length-of, plan-form}
 use Rattle.planner.proofs.MeansLaws.{plan-means}
 use Rattle.judge.specs.declared.Judged.{Judged}
@@ -102,7 +102,7 @@ parity-count p k f r l d z = plan-means p k f r d z .parity l
 -- the list that an accepted call writes
 our-list : (p k f : ℕ) (o o′ : List ℕ) (a : Answer) → ListSays p k f o o′ a → a .refusal ≡ 0 → (planFault p k f ≡ 0) × (o′ ≡ readList p k f)
 our-list p k f o o′ a d z =
-    let e : listFault p k f o ≡ 0 = sym (d .answer .refusal) ∙ z in
+    let e : readListFault p k f o ≡ 0 = sym (d .answer .refusal) ∙ z in
     (first-none (planFault p k f) (longFault (p * (k + 2)) o) e .0, d .list ∙ ap (λ (n : ℕ). pick (eqb n 0) (readList p k f) o) e)
 
 -- Ask 1: our plan reads "only cells the full cabinet would read, P and Q cells being compared with P and Q cells of the same row", and all of those on the disks present: the two lists that `read_list` writes agree there.

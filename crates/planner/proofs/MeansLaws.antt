@@ -22,7 +22,7 @@ use Rattle.liberation.proofs.ParityReads.{data-ones, row-parity-ones, diagonal-
 use Rattle.refusals.specs.declared.Answer.{Answer}
 use Rattle.refusals.proofs.AnswerLaws.{answers-none}
 use Rattle.planner.specs.declared.Plan.{Plan}
-use Rattle.planner.specs.Says.{PlanSays, listFault, ListSays}
+use Rattle.planner.specs.Says.{PlanSays, readListFault, ListSays}
 use Rattle.planner.proofs.FormLaws.{stepsHeld, plan-held, list-ones}
 
 word-ones : (p k f : ℕ) → isWidth p ≡ true → k ≤ p → f ≤ k + 1 → ones (routeWord p k f) ≡ diagonalsUsed p (planOf p k f)
@@ -75,7 +75,7 @@ marks-ones (suc n) x ys = ap (λ (i : ℕ). when (eqb (when (isIn x ys) 1) 1) 1 
 -- "so the ones are as many as the count says": those of the list o′ that `read_list` wrote, and the reads of the plan for the same disk
 pub list-means : (p k f : ℕ) (o o′ : List ℕ) (a : Answer) (r : Plan) → ListSays p k f o o′ a → a .refusal ≡ 0 → PlanSays p k f r → onesIn o′ ≡ r .reads
 list-means p k f o o′ a r l z q =
-    let n : listFault p k f o ≡ 0 = answers-none (listFault p k f o) a (l .answer) z in
+    let n : readListFault p k f o ≡ 0 = answers-none (readListFault p k f o) a (l .answer) z in
     let m : planFault p k f ≡ 0 = first-none (planFault p k f) (longFault (p * (k + 2)) o) n .0 in
     let w = plan-of p k f m in
     ap onesIn (l .list ∙ ap (λ (x : ℕ). pick (eqb x 0) (readList p k f) o) n)

@@ -19,9 +19,9 @@ pub record PlanSays (p k f : ℕ) (r : Plan) : Type 0 where
   pub reads : r .reads ≡ pick (eqb (planFault p k f) 0) (readCount p k f (planOf p k f)) 0
 
 -- the read list refuses by 1, 13, 3 and 5
-abbrev pub listFault : ℕ → ℕ → ℕ → List ℕ → ℕ
-listFault p k f o = firstOf (planFault p k f) (longFault (p * (k + 2)) o)
+abbrev pub readListFault : ℕ → ℕ → ℕ → List ℕ → ℕ
+readListFault p k f o = firstOf (planFault p k f) (longFault (p * (k + 2)) o)
 
 pub record ListSays (p k f : ℕ) (o o′ : List ℕ) (r : Answer) : Type 0 where
-  pub answer : Answers (listFault p k f o) r
-  pub list : o′ ≡ pick (eqb (listFault p k f o) 0) (readList p k f) o
+  pub answer : Answers (readListFault p k f o) r
+  pub list : o′ ≡ pick (eqb (readListFault p k f o) 0) (readList p k f) o

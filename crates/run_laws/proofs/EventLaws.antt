@@ -13,7 +13,7 @@ use Rattle.liberation_stripes.specs.Stripes.{stripeLong}
 use Rattle.refusals.proofs.AnswerLaws.{answers-none}
 use Rattle.runs.specs.declared.Run.{Run}
 use Rattle.runs.specs.Runs.{runFault, readFault, nextFault, skipFault, movedBy, SkipSays}
-use Rattle.run_steps.specs.Says.{stepFault, runColumn, StepSays}
+use Rattle.run_steps.specs.Says.{runStepFault, runColumn, StepSays}
 use Rattle.runs.proofs.RunRefusals.{skipped-few, read-passed, skip-passed}
 use Rattle.run_steps.proofs.StepRefusals.{step-passed}
 use Rattle.run_laws.specs.Claims.{MadeStep, MadeSkip, Event, step-of, skip-of, whichOf, refusalOf, runOf, isLong, stepsAmong, skipsAmong, columnsOf, rebuiltEach}
@@ -73,7 +73,7 @@ in-turn x i w l = ap₂ (λ (a b : Bool). when (a || not b) 10) (lt-leb (x .stri
 pub step-turn : (x : Run) (c : MadeStep) → StepSays x (c .run) (c .which) (c .stripe) (c .column) (c .left) (c .answer) → Turn x (step-of c)
 unfolding stepsAmong columnsOf rebuiltEach
 step-turn x c k =
-    let fault = stepFault x (c .which) (c .stripe) (c .column) in
+    let fault = runStepFault x (c .which) (c .stripe) (c .column) in
     let next : (n : ℕ) → Run = λ n. pick (eqb n 0) (movedBy x 0) x in
     record {
       taken = λ z.

@@ -19,11 +19,11 @@ abbrev pub stepLengthsFault : Run → ℕ → ℕ → ℕ → ℕ
 stepLengthsFault x i n m = firstOf (lengthsFault (x .shape .width) (x .shape .disks) (x .shape .«cell_size») (x .lost) n m) (firstOf (skippedFault x) (nextFault x i))
 
 -- t is the stripe, o the column
-abbrev pub stepFault : Run → ℕ → List ℕ → List ℕ → ℕ
-stepFault x i t o = stepLengthsFault x i (length t) (length o)
+abbrev pub runStepFault : Run → ℕ → List ℕ → List ℕ → ℕ
+runStepFault x i t o = stepLengthsFault x i (length t) (length o)
 
 abbrev pub stepOk : Run → ℕ → List ℕ → List ℕ → Bool
-stepOk x i t o = eqb (stepFault x i t o) 0
+stepOk x i t o = eqb (runStepFault x i t o) 0
 
 -- "rebuilds that stripe"
 abbrev pub runColumn : Run → List ℕ → List ℕ
@@ -31,7 +31,7 @@ runColumn x t = rebuilt (x .shape .width) (x .shape .disks) (x .shape .«cell_si
 
 -- a step for stripe i: x, o before it and x′, o′ after it
 pub record StepSays (x x′ : Run) (i : ℕ) (t o o′ : List ℕ) (r : Answer) : Type 0 where
-  pub answer : Answers (stepFault x i t o) r
+  pub answer : Answers (runStepFault x i t o) r
   pub run : x′ ≡ pick (stepOk x i t o) (movedBy x 0) x
   pub column : o′ ≡ pick (stepOk x i t o) (runColumn x t) o
   -- what was lent are bytes

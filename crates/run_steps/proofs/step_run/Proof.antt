@@ -3,13 +3,13 @@ use mathlib.Core.Path.{_≡_, sym, _∙_}
 use native.Mathlib.Omega.{arith}
 use borrow.Author.Needs.{needs}
 use Rattle.xor.proofs.SourceLaws.{bytes-all}
-use Rattle.run_steps.specs.Says.{stepFault}
+use Rattle.run_steps.specs.Says.{runStepFault}
 use Rattle.run_steps.proofs.StepRefusals.{step-passed, step-refused, step-done}
 use Rattle.run_steps.proofs.step_run.Statement.{statement}
 use Rattle.run_steps.proofs.step_run.Tie as tie
 
 -- past the refusals
-passed : (c : tie.Else1) → let a = c .before .before .before .before .args in stepFault (a .run) (a .which) (a .stripe .now) (a .column .now) ≡ 0
+passed : (c : tie.Else1) → let a = c .before .before .before .before .args in runStepFault (a .run) (a .which) (a .stripe .now) (a .column .now) ≡ 0
 passed c = sym (c .before .step-fault .ensures) ∙ c .if1 .left
 
 returns : tie.Need-returns
