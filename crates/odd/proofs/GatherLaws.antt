@@ -21,7 +21,7 @@ use Rattle.xor_within.specs.Beside.{Beside}
 use Rattle.xor_within.proofs.WithinLaws.{part-with, with-with, part-kept, offsets-same}
 use Rattle.offsets.specs.Offsets.{scaled}
 use Rattle.odd.specs.Toggled.{isOdd, oddFrom}
-use Rattle.odd.specs.Listed.{oddOffsets, OddPushed, Marked, Start, OddAdded}
+use Rattle.odd.specs.Listed.{oddOffsets, OddPushed, MarkedStripe, Start, OddAdded}
 use Rattle.odd.specs.declared.Listed.{Listed}
 
 -- every number of a list has a property
@@ -51,7 +51,7 @@ odd-have : (P : ℕ → Type 0) (s x : ℕ) (ms : List ℕ) → ((y : ℕ) → y
 odd-have P s x ms f =
     odd-all P s x (drop x ms) (λ j h e. f (x + j) (omega (arith, length-drop x ms)) (ap isOdd (sym (getD-drop x ms j 0)) ∙ e))
 
-module _ (s d : ℕ) (ms t : List ℕ) (m : Marked s d ms t) where
+module _ (s d : ℕ) (ms t : List ℕ) (m : MarkedStripe s d ms t) where
   -- cell d, and the odd cells, are in the stripe; the odd cells are apart from cell d
   own-within : d * s + s ≤ length t
   own-within = omega (arith, cell-fits (length ms) s d (m .place), m .cells)
@@ -148,7 +148,7 @@ start-own {s} {d} at e h k = record { from = e; room = simp length-set (omega ar
     own zero l = getD-set-same at 0 (d * s) 0 (omega arith)
     own (suc i) l = absurd (omega arith)
 
-module _ {s d : ℕ} {ms t₀ : List ℕ} (m : Marked s d ms t₀) where
+module _ {s d : ℕ} {ms t₀ : List ℕ} (m : MarkedStripe s d ms t₀) where
   -- the odd cells as they were
   odd-kept : {t : List ℕ} → length (part s (d * s) t) ≡ s → t ≡ withPart s (d * s) (part s (d * s) t) t₀ → (x : ℕ) → xorOffsets s t (oddOffsets s ms x) ≡ xorOffsets s t₀ (oddOffsets s ms x)
   odd-kept {t} l e x =
@@ -203,9 +203,9 @@ module _ {s d : ℕ} {ms t₀ : List ℕ} (m : Marked s d ms t₀) where
       ∙ ap (λ (l : List ℕ). withPart s (d * s) l t₀) (ap (xorL (part s (d * s) t)) (odd-kept (a .long) (a .kept) x) ∙ a .sum)
 
 -- a stripe as long
-pub still-marked : {s d : ℕ} {ms t : List ℕ} (u : List ℕ) → length u ≡ length t → Marked s d ms t → Marked s d ms u
+pub still-marked : {s d : ℕ} {ms t : List ℕ} (u : List ℕ) → length u ≡ length t → MarkedStripe s d ms t → MarkedStripe s d ms u
 still-marked u e m = record { few = m .few; small = m .small; cells = omega arith; place = m .place; even = m .even }
 
 -- the offset of cell d is a small number
-pub own-small : {s d : ℕ} {ms t : List ℕ} → Marked s d ms t → d * s ≤ 1023 * 4096
+pub own-small : {s d : ℕ} {ms t : List ℕ} → MarkedStripe s d ms t → d * s ≤ 1023 * 4096
 own-small {s} {d} m = let h : d ≤ 1023 = omega arith in mul-le-mul h (m .small)

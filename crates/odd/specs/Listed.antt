@@ -24,7 +24,7 @@ pub record OddPushed (s : ℕ) (ms old new : List ℕ) (x n : ℕ) (r : Listed) 
   pub full : (r .next ≡ length ms) ⊎ (r .count ≡ length new)
 
 -- what a caller of the gather shows: few and small cells, a stripe that has a cell for every mark, and a destination among them that is not odd
-pub record Marked (s d : ℕ) (ms t : List ℕ) : Type 0 where
+pub record MarkedStripe (s d : ℕ) (ms t : List ℕ) : Type 0 where
   pub few : length ms ≤ 1023
   pub small : s ≤ 4096
   pub cells : length ms * s ≤ length t

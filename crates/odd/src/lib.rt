@@ -6,7 +6,7 @@ ghost use Rattle.laws.specs.Xor.{xorL};
 ghost use Rattle.offsets.specs.Offsets.{scaled};
 ghost use Rattle.xor.specs.Parts.{part, withPart, xorOffsets};
 ghost use Rattle.odd.specs.Toggled.{oddFrom, toggledAll};
-ghost use Rattle.odd.specs.Listed.{oddOffsets, OddPushed, Marked, Start, OddAdded};
+ghost use Rattle.odd.specs.Listed.{oddOffsets, OddPushed, MarkedStripe, Start, OddAdded};
 
 // Toggles the marks of the places of a list.
 pub fn toggle_all(marks: &mut [u8], places: &[usize])
@@ -60,7 +60,7 @@ fn gather_list(
     at: &mut [usize],
     count: usize,
 ) -> usize
-    requires { ⌜ Marked size to (now marks) (now stripe) × Start size to (length (now marks)) (now at) from count ⌝ }
+    requires { ⌜ MarkedStripe size to (now marks) (now stripe) × Start size to (length (now marks)) (now at) from count ⌝ }
     ensures { λ r. ⌜ OddAdded size to (now (marks .entry)) (now (stripe .entry)) (now (stripe .exit)) (now (at .entry)) from count r ⌝ }
 {
     let listed = push_odd(marks, size, from, at, count);
@@ -71,7 +71,7 @@ fn gather_list(
 
 // The cell `to` ^= the odd cells from `from` on, list by list; the cell itself is in front of each list.
 fn add_odd(stripe: &mut [u8], size: usize, to: usize, marks: &[u8], from: usize, at: &mut [usize])
-    requires { ⌜ Marked size to (now marks) (now stripe) × (from ≤ length (now marks)) × (2 ≤ length (now at)) × (length (now at) ≤ 100) ⌝ }
+    requires { ⌜ MarkedStripe size to (now marks) (now stripe) × (from ≤ length (now marks)) × (2 ≤ length (now at)) × (length (now at) ≤ 100) ⌝ }
     ensures { λ _. ⌜ now (stripe .exit) ≡ withPart size (to * size) (xorL (part size (to * size) (now (stripe .entry))) (xorOffsets size (now (stripe .entry)) (oddOffsets size (now (marks .entry)) from))) (now (stripe .entry)) ⌝ }
 {
     let all = marks.len();
@@ -84,7 +84,7 @@ fn add_odd(stripe: &mut [u8], size: usize, to: usize, marks: &[u8], from: usize,
 
 // The cell `to` becomes the XOR of the odd cells, by lists in a lent slice. What that slice then holds is left free.
 pub fn gather_odd(stripe: &mut [u8], size: usize, to: usize, marks: &[u8], at: &mut [usize])
-    requires { ⌜ Marked size to (now marks) (now stripe) × (2 ≤ length (now at)) × (length (now at) ≤ 100) ⌝ }
+    requires { ⌜ MarkedStripe size to (now marks) (now stripe) × (2 ≤ length (now at)) × (length (now at) ≤ 100) ⌝ }
     ensures { λ _. ⌜ now (stripe .exit) ≡ withPart size (to * size) (xorOffsets size (now (stripe .entry)) (scaled size (oddFrom 0 (now (marks .entry))))) (now (stripe .entry)) ⌝ }
 {
     let next = gather_list(stripe, size, to, marks, 0, at, 0);

@@ -21,7 +21,7 @@ use Rattle.xor.specs.Parts.{withPart, xorOffsets}
 use Rattle.offsets.specs.Offsets.{scaled}
 use Rattle.offsets.proofs.OffsetLaws.{over-offsets}
 use Rattle.odd.specs.Toggled.{isOdd, oddFrom, toggledAll}
-use Rattle.odd.specs.Listed.{Marked}
+use Rattle.odd.specs.Listed.{MarkedStripe}
 use Rattle.odd.proofs.OddLaws.{odd-offsets}
 use Rattle.set_offsets.specs.Cells.{survivors}
 use Rattle.liberation_stripes.specs.Limits.{Sized}
@@ -54,9 +54,9 @@ module _ (p k x : ℕ) (g : Walked p k x 0) (disks : k ≤ p) where
     pub marks-long : length ms ≡ p * (k + 2)
     marks-long = ap length marked ∙ toggled-long (startCells p k x 0) (replicate (p * (k + 2)) 0) ∙ length-replicate (p * (k + 2)) 0
 
-    pub start-marked : p * (k + 2) ≤ 1023 → Marked s (x * p + r) ms t
+    pub start-marked : p * (k + 2) ≤ 1023 → MarkedStripe s (x * p + r) ms t
     start-marked few =
-        subst (λ (d : ℕ). Marked s d ms t) (sym first-place)
+        subst (λ (d : ℕ). MarkedStripe s d ms t) (sym first-place)
         (record {
           few = omega (arith, marks-long);
           small = z .small;

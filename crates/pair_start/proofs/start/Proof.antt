@@ -10,7 +10,7 @@ use borrow.Author.Needs.{needs}
 use Rattle.liberation_pairs.specs.Pairs.{startSets}
 use Rattle.liberation.proofs.MarkLists.{take-marks, no-cells, cells-most}
 use Rattle.odd.specs.Toggled.{toggledAll}
-use Rattle.odd.specs.Listed.{Marked}
+use Rattle.odd.specs.Listed.{MarkedStripe}
 use Rattle.set_offsets.specs.Cells.{survivors}
 use Rattle.pair_start.proofs.StartLaws.{start-marked, start-done}
 use Rattle.pair_start.proofs.start.Statement.{statement}
@@ -68,7 +68,7 @@ made v =
     ∙ v .toggle-sets .ensures
     ∙ ap (toggledAll (survivors (a .width) (a .x) 0 (startSets (a .width) (a .width) (a .disks) (a .x) 0 (k .extra-row .result)))) (none m)
 
-ready : (v : tie.After-toggle-sets) → let k = v .before .before .before .before .before in let a = k .before .before .args in Marked (a .size) (a .x * a .width + k .extra-row .result) (marks v) (a .stripe .now)
+ready : (v : tie.After-toggle-sets) → let k = v .before .before .before .before .before in let a = k .before .before .args in MarkedStripe (a .size) (a .x * a .width + k .extra-row .result) (marks v) (a .stripe .now)
 ready v =
     let k = v .before .before .before .before .before in
     let r = k .extra-row in
