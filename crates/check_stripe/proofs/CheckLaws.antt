@@ -23,7 +23,7 @@ use Rattle.offsets.proofs.RunLaws.{run-zero}
 use Rattle.set_offsets.specs.Cells.{survivors}
 use Rattle.set_offsets.proofs.SetLists.{survivors-past, surviving-past}
 use Rattle.stripes.specs.Says.{stripeFault}
-use Rattle.stripes.proofs.LoopLaws.{all-same}
+use Rattle.laws.proofs.AllLaws.{all-same}
 use Rattle.check_stripe.specs.Says.{CheckSays}
 
 -- the row sets of a stripe as one test: there is no disk past Q, so no cell is left out

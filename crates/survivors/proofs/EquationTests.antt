@@ -11,7 +11,7 @@ use borrow.Author.Tests.{eq-eqb, ne-eqb}
 use Rattle.laws.specs.Lists.{same}
 use Rattle.laws.specs.Xor.{allBytes}
 use Rattle.laws.specs.Sums.{allTo}
-use Rattle.laws.proofs.AllLaws.{all-at, all-of}
+use Rattle.laws.proofs.AllLaws.{all-at, all-of, all-fails}
 use Rattle.liberation.specs.Sets.{isWidth, place, survivingIn}
 use Rattle.liberation.proofs.SetLaws.{surviving-below, place-below}
 use Rattle.liberation_stripes.specs.Stripes.{stripeLong}
@@ -24,7 +24,6 @@ use Rattle.xor.specs.Parts.{xorOffsets}
 use Rattle.xor.specs.Reach.{Reached}
 use Rattle.offsets.specs.Offsets.{scaled, Pushed}
 use Rattle.offsets.proofs.OffsetLaws.{length-scaled, over-offsets, cells-reached}
-use Rattle.stripes.proofs.LoopLaws.{all-fails}
 
 -- the list of an equation's survivors in a stripe t, and the test of their XOR
 module _ (p k s d i n : ℕ) (old at t : List ℕ) (numbered : i < p) (disk : d < k + 2) (room : length at ≡ 99) (long : length t ≡ stripeLong p k s) (pushed : Pushed old at 0 n (scaled s (survivingIn p d (equation p k d i)))) where

@@ -7,7 +7,7 @@ use lib.ListN.{length}
 use borrow.Author.Needs.{needs}
 use Rattle.laws.specs.Sums.{allTo}
 use Rattle.liberation_stripes.specs.Stripes.{setClean}
-use Rattle.stripes.proofs.LoopLaws.{all-start, all-more, all-fails, all-seen}
+use Rattle.laws.proofs.AllLaws.{all-start, all-more, all-fails, all-seen}
 use Rattle.check_stripe.proofs.diagonals_are_clean.Statement.{statement}
 use Rattle.check_stripe.proofs.diagonals_are_clean.Tie as tie
 

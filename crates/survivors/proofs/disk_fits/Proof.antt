@@ -1,5 +1,4 @@
 -- `disk_fits`: all equations hold exactly if the disk fits.
-use mathlib.Core.Path.{_≡_}
 use borrow.Author.Needs.{needs}
 use Rattle.survivors.proofs.disk_fits.Statement.{statement}
 use Rattle.survivors.proofs.disk_fits.Tie as tie

@@ -9,7 +9,7 @@ use Rattle.laws.specs.Sums.{allTo}
 use Rattle.liberation.proofs.DiagonalRows.{row-below}
 use Rattle.liberation_survivors.specs.Survivors.{equationHolds}
 use Rattle.xor.proofs.SourceLaws.{bytes-all}
-use Rattle.stripes.proofs.LoopLaws.{all-start, all-more}
+use Rattle.laws.proofs.AllLaws.{all-start, all-more}
 use Rattle.survivors.proofs.EquationTests.{one-refuses, none-refuses}
 use Rattle.survivors.proofs.equations_passed.Statement.{statement}
 use Rattle.survivors.proofs.equations_passed.Tie as tie
