@@ -6,7 +6,7 @@ use lib.ListN.{length}
 use Rattle.liberation.specs.Limits.{InArray}
 use Rattle.liberation_stripes.specs.Stripes.{stripeLong}
 
--- what refusals 1, 13, 2 and 5 leave: t has the length of a stripe of p rows and k data disks with cells of s bytes
+-- what refusals 1, 13, 2 and 5 leave, but that s is not 0, which no function needs: t has the length of a stripe of p rows and k data disks with cells of s bytes
 pub record Sized (p k s : ℕ) (t : List ℕ) : Type 0 where
   pub array : InArray p k
   pub small : s ≤ 4096
