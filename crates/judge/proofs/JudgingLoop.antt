@@ -1,6 +1,6 @@
 -- The steps of a plan in order. After i steps without a refusal, the rows rebuilt and the cells read so far, with the steps still to come, give the answer of the whole plan.
 use mathlib.Core.Path.{_≡_, refl, sym, ap, ap₂, _∙_}
-use mathlib.Core.Bool.{Bool, true, false, _||_, not}
+use mathlib.Core.Bool.{Bool, true, false, not}
 use mathlib.Core.Logic.{⊎-elim}
 use mathlib.Core.List.{List, [], _∷_}
 use Prim.Native.Nat.{ℕ, suc, _+_, _-_, _*_, _≤_, _<_}
@@ -9,10 +9,10 @@ use native.Mathlib.Omega.{arith}
 use lib.Dec.{eqb}
 use lib.ListN.{length, getD, set, drop}
 use lib.Seq.{getD-drop, drop-drop}
-use borrow.Author.Tests.{eq-eqb, ne-eqb, eqb-true, eqb-false, leb-false}
+use borrow.Author.Tests.{ne-eqb, eqb-true, eqb-false}
 use Rattle.laws.specs.Choice.{pick, when, firstOf}
 use Rattle.laws.specs.Lists.{isIn, added}
-use Rattle.laws.proofs.Flags.{flag, or-false-l, or-false-r}
+use Rattle.laws.proofs.Flags.{flag}
 use Rattle.liberation.specs.Sets.{setOf, lostIn, survivingIn}
 use Rattle.liberation.specs.Plans.{Step, step, readFrom, cellsRead, readCount, marksFrom}
 use Rattle.liberation.specs.Judging.{Judged, judged, judge, judgeFrom, othersThere, stepFault, stepsIn}

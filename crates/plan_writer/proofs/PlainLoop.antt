@@ -8,7 +8,7 @@ use lib.Dec.{ltb, leb}
 use lib.ListN.{length, drop, length-append}
 use borrow.Author.Tests.{ltb-true}
 use Rattle.laws.proofs.Flags.{and-l, and-r}
-use Rattle.liberation.specs.Plans.{Step, step}
+use Rattle.liberation.specs.Plans.{Step}
 use Rattle.liberation.specs.Judging.{stepsIn}
 use Rattle.judge.proofs.JudgingLoop.{stepsFrom, BytesOf, steps-next}
 use Rattle.text.specs.Writing.{Wrote}

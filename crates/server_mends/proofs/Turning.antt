@@ -1,6 +1,6 @@
 -- Mending: what the tests of two bytes pick, and the slice turn by turn. Each turn finds its stripe and its pair in the slices, whatever the turns before have mended.
 use mathlib.Core.Path.{_≡_, refl, sym, ap, ap₂, _∙_}
-use mathlib.Core.Bool.{Bool, true}
+use mathlib.Core.Bool.{Bool}
 use mathlib.Core.Logic.{_⊎_, ⊎-elim}
 use mathlib.Core.List.{List}
 use Prim.Native.Nat.{ℕ, suc, _+_, _≤_, _<_}
@@ -14,7 +14,7 @@ use Rattle.liberation.specs.Plans.{planOf}
 use Rattle.liberation_stripes.specs.Stripes.{withCell, stripeLong, followed}
 use Rattle.liberation_stripes.proofs.CellLaws.{cell-fits}
 use Rattle.liberation_pairs.specs.Pairs.{pairSolved}
-use Rattle.liberation_servers.specs.Servers.{lost, firstLoss, secondLoss, pairFault, mended, mendedAt, mendedTurn, mendedAll}
+use Rattle.liberation_servers.specs.Servers.{lost, pairFault, mended, mendedAt, mendedTurn, mendedAll}
 use Rattle.liberation_servers.specs.Claims.{Given, GivenLosses}
 use Rattle.liberation_servers.proofs.RefusalLaws.{losses-of}
 use Rattle.server_mends.specs.Turns.{onlyLoss, Turn}

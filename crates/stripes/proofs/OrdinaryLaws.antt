@@ -1,6 +1,6 @@
 -- The set without one of its ordinary cells: a set has one ordinary cell on a disk, and the extra cell is none of them, so it is the set without that disk, but for the extra cell. The XOR of those cells, put at the ordinary one, is the set's step.
 use mathlib.Core.Path.{_≡_, refl, sym, subst, ap, ap₂, _∙_}
-use mathlib.Core.Bool.{Bool, true, false, _&&_, not, and-false}
+use mathlib.Core.Bool.{Bool, true, false, _&&_}
 use mathlib.Core.Logic.{_⊎_, inl, inr, ⊎-elim}
 use mathlib.Core.List.{List, _++_}
 use Prim.Native.Nat.{ℕ, suc, _+_, _*_, _%_, _≤_, _<_}

@@ -1,7 +1,6 @@
 -- `check_stripe`: a refusal, or whether the stripe is clean.
 use mathlib.Core.Path.{_≡_, sym, _∙_}
 use mathlib.Core.Bool.{true}
-use Prim.Native.Nat.{_<_}
 use borrow.Author.Needs.{needs}
 use Rattle.laws.specs.Xor.{allBytes}
 use Rattle.xor.proofs.SourceLaws.{bytes-all}

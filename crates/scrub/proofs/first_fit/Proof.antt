@@ -1,6 +1,5 @@
 -- `first_fit`: no disk so far fits, and the first that does ends the loop.
 use mathlib.Core.Path.{_≡_}
-use mathlib.Core.Bool.{true, false}
 use Prim.Native.Nat.{_+_, _-_, _≤_}
 use native.Mathlib.Omega.{arith}
 use lib.Dec.{eqb}

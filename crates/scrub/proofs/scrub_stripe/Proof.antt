@@ -1,6 +1,5 @@
 -- `scrub_stripe`: the check's refusals and its clean stripes; of a dirty stripe, the first disk that fits.
 use mathlib.Core.Path.{_≡_, sym, _∙_}
-use Prim.Native.Nat.{_<_}
 use native.Mathlib.Omega.{arith}
 use borrow.Author.Needs.{needs}
 use Rattle.liberation_stripes.specs.Limits.{Sized}

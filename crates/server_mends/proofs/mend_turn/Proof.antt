@@ -1,9 +1,8 @@
 -- `mend_turn`: the lost server is passed over; of any other the part of the slice that is its stripe is mended, and the rest stands.
 use mathlib.Core.Path.{_≡_, ap, _∙_}
-use mathlib.Core.List.{List}
 use Prim.Native.Nat.{ℕ, _+_, _-_, _*_}
 use native.Mathlib.Omega.{arith}
-use lib.ListN.{length, getD, take, drop}
+use lib.ListN.{length, take, drop}
 use borrow.Author.Needs.{needs}
 use Rattle.liberation_stripes.specs.Stripes.{stripeLong}
 use Rattle.liberation_stripes.proofs.CellLaws.{cell-long}

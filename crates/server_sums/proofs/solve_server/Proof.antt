@@ -1,5 +1,5 @@
 -- `solve_server`: the offsets of the other stripes are pushed, and their XOR is put in the place of this one, apart from which they lie.
-use mathlib.Core.Path.{_≡_, sym}
+use mathlib.Core.Path.{sym}
 use Prim.Native.Nat.{_*_}
 use native.Mathlib.Omega.{arith}
 use lib.ListN.{length, take}
