@@ -1,14 +1,15 @@
 // The calls for C and Rust on a rebuild run.
 // Each hands its arguments on to the proved call and promises what that call promises.
 ghost use mathlib.Core.Path.{_≡_};
-ghost use Rattle.runs.specs.Runs.{OpenSays, SkipSays, resumed, resumedDisks};
+ghost use Rattle.runs.specs.Runs.{SkipSays};
+ghost use Rattle.run_starts.specs.Starts.{OpenSays, resumed, resumedDisks};
 ghost use Rattle.run_steps.specs.Says.{StepSays};
 ghost use Rattle.run_progress.specs.Says.{ProgressSays};
 use refusals::Answer;
 use refusals::Shape;
 use run_progress::Progress;
-use runs::DisksRun;
-use runs::FullRun;
+use run_starts::DisksRun;
+use run_starts::FullRun;
 use runs::Run;
 use runs::RunAnswer;
 
@@ -17,7 +18,7 @@ use runs::RunAnswer;
 pub extern "C" fn cuzhaveli_open_run(shape: Shape, lost: usize, stripes: u32) -> RunAnswer
     ensures { λ r. ⌜ OpenSays (shape .width) (shape .disks) (shape .«cell_size») lost stripes r ⌝ }
 {
-    runs::open_run(shape, lost, stripes)
+    run_starts::open_run(shape, lost, stripes)
 }
 
 // A run that was open when its record had no number of data disks goes on with as many as its width.
@@ -25,7 +26,7 @@ pub extern "C" fn cuzhaveli_open_run(shape: Shape, lost: usize, stripes: u32) ->
 pub extern "C" fn cuzhaveli_resume_full_run(old: FullRun) -> Run
     ensures { λ r. ⌜ r ≡ resumed old ⌝ }
 {
-    runs::resume_full_run(old)
+    run_starts::resume_full_run(old)
 }
 
 // A run that was open when no stripe could be skipped goes on with none skipped.
@@ -33,7 +34,7 @@ pub extern "C" fn cuzhaveli_resume_full_run(old: FullRun) -> Run
 pub extern "C" fn cuzhaveli_resume_disks_run(old: DisksRun) -> Run
     ensures { λ r. ⌜ r ≡ resumedDisks old ⌝ }
 {
-    runs::resume_disks_run(old)
+    run_starts::resume_disks_run(old)
 }
 
 // A step of a run over its lent record: rebuilds stripe `which` into the column and moves the record on by one.

@@ -12,7 +12,7 @@ use Rattle.planner.specs.Says.{PlanSays}
 use Rattle.runs.specs.declared.Run.{Run}
 use Rattle.runs.specs.declared.RunAnswer.{RunAnswer}
 use Rattle.run_progress.specs.declared.Progress.{Progress}
-use Rattle.runs.specs.Runs.{OpenSays}
+use Rattle.run_starts.specs.Starts.{OpenSays}
 use Rattle.run_steps.specs.Says.{StepSays}
 use Rattle.run_progress.specs.Says.{ProgressSays}
 use Rattle.run_steps.proofs.StepRefusals.{step-rebuilds}

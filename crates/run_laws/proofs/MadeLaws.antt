@@ -18,7 +18,8 @@ use Rattle.refusals.proofs.AnswerLaws.{answers-none}
 use Rattle.runs.specs.declared.Run.{Run}
 use Rattle.runs.specs.declared.RunAnswer.{RunAnswer}
 use Rattle.run_progress.specs.declared.Progress.{Progress}
-use Rattle.runs.specs.Runs.{opened, noRun, readFault, OpenSays}
+use Rattle.runs.specs.Runs.{readFault}
+use Rattle.run_starts.specs.Starts.{opened, noRun, OpenSays}
 use Rattle.run_progress.specs.Says.{isOver, readsOf, cellsSoFar, ProgressSays}
 use Rattle.runs.proofs.RunRefusals.{read-passed}
 use Rattle.run_laws.specs.Claims.{Event, whichOf, refusalOf, runOf, Made, step-made, skip-made, lastRun, acceptedIn, stepsAmong, skipsAmong, stepped, skipped, inOrder, isLong, allLong, columnsOf, rebuiltEach, RunMade, RunOn, RunRead, RunReadOn, Calls-right, Calls-on, Calls-go, Calls-go-on, Progress-right, Progress-on}

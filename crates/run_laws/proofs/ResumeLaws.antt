@@ -8,11 +8,12 @@ use Rattle.laws.specs.Choice.{pick, firstOf}
 use Rattle.laws.proofs.ChoiceLaws.{first-zero}
 use Rattle.liberation.proofs.FaultLaws.{numbers-full}
 use Rattle.runs.specs.declared.Run.{Run}
-use Rattle.runs.specs.declared.FullRun.{FullRun}
-use Rattle.runs.specs.declared.DisksRun.{DisksRun}
+use Rattle.run_starts.specs.declared.FullRun.{FullRun}
+use Rattle.run_starts.specs.declared.DisksRun.{DisksRun}
 use Rattle.run_progress.specs.declared.Progress.{Progress}
 use Rattle.run_progress.specs.Says.{isOver, readsOf, cellsSoFar, ProgressSays}
-use Rattle.runs.specs.Runs.{runFault, readFault, resumed, resumedDisks}
+use Rattle.runs.specs.Runs.{runFault, readFault}
+use Rattle.run_starts.specs.Starts.{resumed, resumedDisks}
 use Rattle.runs.proofs.RunRefusals.{skipped-few}
 use Rattle.run_laws.specs.Claims.{Full-on, Disks-on, fullFault, Full-read, disksRunFault, Disks-read}
 use Rattle.run_laws.proofs.MadeLaws.{calls-on}

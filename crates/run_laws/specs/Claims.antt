@@ -11,12 +11,13 @@ use Rattle.liberation.specs.Plans.{planOf, readCount}
 use Rattle.liberation_stripes.specs.Stripes.{stripeLong, rebuilt}
 use Rattle.refusals.specs.declared.Answer.{Answer}
 use Rattle.runs.specs.declared.Run.{Run}
-use Rattle.runs.specs.declared.FullRun.{FullRun}
-use Rattle.runs.specs.declared.DisksRun.{DisksRun}
+use Rattle.run_starts.specs.declared.FullRun.{FullRun}
+use Rattle.run_starts.specs.declared.DisksRun.{DisksRun}
 use Rattle.runs.specs.declared.RunAnswer.{RunAnswer}
 use Rattle.run_progress.specs.declared.Progress.{Progress}
 use Rattle.run_progress.specs.Says.{isOver, cellsSoFar, readsOf, ProgressSays}
-use Rattle.runs.specs.Runs.{resumed, resumedDisks, OpenSays, SkipSays}
+use Rattle.runs.specs.Runs.{SkipSays}
+use Rattle.run_starts.specs.Starts.{resumed, resumedDisks, OpenSays}
 use Rattle.run_steps.specs.Says.{StepSays}
 
 -- a step that was made: what it was given besides the record, and what it left

@@ -1,2 +1,2 @@
--- The promises of the calls on runs from what was refused or done.
+-- The promise of a skip from what was refused or done, and what holds of a record that is not refused.
 pub mod RunRefusals

@@ -1,4 +1,4 @@
--- The promises of opening and skipping, and what holds of a record that is not refused.
+-- The promise of a skip, and what holds of a record that is not refused.
 use mathlib.Core.Path.{_≡_, sym, ap, ap₂, _∙_}
 use mathlib.Core.Bool.{Bool, false, _||_, not}
 use Prim.Native.Nat.{ℕ, _≤_, _<_}
@@ -7,26 +7,11 @@ use borrow.Author.Tests.{eqb-true, leb-false, ltb-false, lt-ltb, le-ltb, not-fal
 use Rattle.laws.specs.Choice.{when, firstOf}
 use Rattle.laws.proofs.Flags.{or-false-l, or-false-r}
 use Rattle.laws.proofs.ChoiceLaws.{first-none, when-none, pick-refused, pick-done}
-use Rattle.liberation.specs.Sets.{numbersFault}
 use Rattle.refusals.specs.declared.Answer.{Answer}
 use Rattle.refusals.specs.Answers.{Answers}
 use Rattle.refusals.proofs.AnswerLaws.{answers-as}
 use Rattle.runs.specs.declared.Run.{Run}
-use Rattle.runs.specs.Runs.{opened, noRun, runFault, skippedFault, readFault, nextFault, skipFault, movedBy, OpenSays, SkipSays}
-
-pub open-refused : (p k s f n m : ℕ) (a : Answer) → m ≡ numbersFault p k s f → (m ≡ 0 → ⊥) → Answers m a → OpenSays p k s f n (record { answer = a; run = noRun })
-open-refused p k s f n m a e z h =
-    record {
-      answer = answers-as m (numbersFault p k s f) a e h;
-      run = pick-refused m (numbersFault p k s f) (opened p k s f n) noRun e z;
-    }
-
-pub open-done : (p k s f n : ℕ) (a : Answer) → numbersFault p k s f ≡ 0 → Answers 0 a → OpenSays p k s f n (record { answer = a; run = opened p k s f n })
-open-done p k s f n a z h =
-    record {
-      answer = answers-as 0 (numbersFault p k s f) a (sym z) h;
-      run = pick-done (numbersFault p k s f) (opened p k s f n) noRun z;
-    }
+use Rattle.runs.specs.Runs.{runFault, skippedFault, readFault, nextFault, skipFault, movedBy, SkipSays}
 
 -- more stripes skipped than are past, or not
 pub skipped-many : (x : Run) → x .next < x .skipped → skippedFault x ≡ 10

@@ -1,2 +1,2 @@
--- The record of a run: what opening and a skip do, and records of earlier versions.
+-- The record of a run: its refusals, how it moves on, and what a skip does.
 pub mod Runs

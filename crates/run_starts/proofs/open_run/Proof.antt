@@ -1,9 +1,9 @@
 -- `open_run`: a refusal gives the record of zeros, else the new record.
 use mathlib.Core.Path.{sym, _∙_}
 use borrow.Author.Needs.{needs}
-use Rattle.runs.proofs.RunRefusals.{open-refused, open-done}
-use Rattle.runs.proofs.open_run.Statement.{statement}
-use Rattle.runs.proofs.open_run.Tie as tie
+use Rattle.run_starts.proofs.OpenLaws.{open-refused, open-done}
+use Rattle.run_starts.proofs.open_run.Statement.{statement}
+use Rattle.run_starts.proofs.open_run.Tie as tie
 
 returns : tie.Need-returns
 returns c =

@@ -1,0 +1,2 @@
+-- The promise of opening from what was refused or done.
+pub mod OpenLaws

@@ -1,0 +1,2 @@
+-- What opening a run does, and records of earlier versions.
+pub mod Starts
