@@ -9,7 +9,8 @@ use Rattle.laws.specs.Lists.{same}
 use Rattle.liberation.specs.Plans.{Step, step, routes, planOf, readCount}
 use Rattle.liberation.specs.Judging.{judge}
 use Rattle.liberation_stripes.specs.Stripes.{encoded, rebuilt, clean}
-use Rattle.space.specs.Says.{stripesOf, needOf, spaceFault}
+use Rattle.space_tests.specs.Faults.{spaceFault}
+use Rattle.space.specs.Says.{stripesOf, needOf}
 
 pub record Row : Type 0 where
   pub computed : List ℕ

@@ -97,21 +97,13 @@ files-small d ls f =
 pub stripes-small : (d : ℕ) (ls : List ℕ) → Few d ls → total (upEach d ls) < 2 ^ 49
 stripes-small d ls f = omega (arith, files-small d ls f, mul-le-mul-left (total (upEach d ls)) (f .pos))
 
--- a loop over the lengths: none is left at the end
-pub left-none : (ls : List ℕ) (i : ℕ) → i ≡ length ls → total (drop i ls) ≡ 0
-unfolding total
-left-none ls i e = ap (λ (n : ℕ). total (drop n ls)) e ∙ ap total (drop-length ls)
-
+-- a loop over the lengths: at the end none is left that takes a stripe
 pub each-none : (d : ℕ) (ls : List ℕ) (i : ℕ) → i ≡ length ls → total (upEach d (drop i ls)) ≡ 0
 unfolding total upEach
 each-none d ls i e = ap (λ (n : ℕ). total (upEach d (drop n ls))) e ∙ ap (λ (xs : List ℕ). total (upEach d xs)) (drop-length ls)
 
--- what is left from i on is the length there and what is left after it
+-- what is left from i on takes the stripes of the length there and of what is left after it
 module _ (ls : List ℕ) (i : ℕ) (h : i < length ls) where
-  pub left-next : total (drop i ls) ≡ getD ls i 0 + total (drop (i + 1) ls)
-  unfolding total
-  left-next = ap total (drop-cons ls i 0 h) ∙ ap (λ (n : ℕ). getD ls i 0 + total (drop n ls)) (sym (add-one i))
-
   pub left-each : (d : ℕ) → total (upEach d (drop i ls)) ≡ upBy (getD ls i 0) d + total (upEach d (drop (i + 1) ls))
   unfolding total upEach
   left-each d = ap (λ (xs : List ℕ). total (upEach d xs)) (drop-cons ls i 0 h) ∙ ap (λ (n : ℕ). upBy (getD ls i 0) d + total (upEach d (drop n ls))) (sym (add-one i))

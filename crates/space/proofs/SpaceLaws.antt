@@ -1,6 +1,5 @@
 -- No product or sum of the space call wraps, by the bounds that its tests leave: the stripes hold at most 2^48 bytes and 4,096 stripes more. Accepted and refused answers keep the promise, and what an accepted answer means follows from the laws of the files.
-use mathlib.Core.Path.{_≡_, sym, ap, ap₂, _∙_}
-use mathlib.Core.Bool.{Bool}
+use mathlib.Core.Path.{_≡_, sym, ap, _∙_}
 use mathlib.Core.List.{List, [], _∷_}
 use Prim.Native.Nat.{ℕ, _+_, _*_, _^_, _≤_, _<_}
 use native.Mathlib.Nat.{mul-le-mul, mul-pos, mul-le-mul-right, mul-le-mul-left}
@@ -8,7 +7,7 @@ use native.Mathlib.Omega.{arith}
 use lib.Dec.{ltb, leb}
 use lib.ListN.{length}
 use borrow.Author.Tests.{ltb-false, leb-true, le-leb}
-use Rattle.laws.specs.Choice.{firstOf, when}
+use Rattle.laws.specs.Choice.{firstOf}
 use Rattle.laws.specs.Sums.{total}
 use Rattle.liberation.specs.Sets.{shapeFault}
 use Rattle.laws.proofs.ChoiceLaws.{first-none, when-none, pick-refused, pick-done, and-refused, and-done}
@@ -16,8 +15,9 @@ use Rattle.liberation.proofs.FaultLaws.{shape-of}
 use Rattle.refusals.specs.declared.Answer.{Answer}
 use Rattle.refusals.specs.Answers.{Answers}
 use Rattle.refusals.proofs.AnswerLaws.{answers-as, answers-none}
+use Rattle.space_tests.specs.Faults.{filesFault, packageFault, spaceFault}
 use Rattle.space.specs.declared.Space.{Space}
-use Rattle.space.specs.Says.{upBy, stripeHolds, upEach, stripesOf, needOf, fitsIn, filesFault, packageFault, spaceFault, SpaceSays, Refused, Few, SpaceMeans}
+use Rattle.space.specs.Says.{upBy, stripeHolds, upEach, stripesOf, needOf, fitsIn, SpaceSays, Refused, Few, SpaceMeans}
 use Rattle.space.proofs.FilesLaws.{each-is, each-once, files-least, files-most, files-small}
 
 -- the numbers of a call with k data disks, whose k and p are at most 31
@@ -33,11 +33,6 @@ bounds p k s ls p0 p1 k0 k1 s0 s1 n1 l1 =
     let f : Few (stripeHolds p k s) ls = record { pos = mul-pos k0 (mul-pos p0 s0); holds = t; files = n1; bytes = l1 } in
     let m : stripesOf p k s ls * (1 * (p * s)) ≤ stripesOf p k s ls * (k * (p * s)) = mul-le-mul-left (stripesOf p k s ls) (mul-le-mul-right (p * s) k0) in
     record { gives = g; few = f; need = omega (arith, m, files-small (stripeHolds p k s) ls f) }
-
--- past 1, 13 and 2 the refusal is by the number of files and their sum
-pub fault-is : (p k s : ℕ) (ls : List ℕ) (t u : Bool) → shapeFault p k s ≡ 0 → ltb 4096 (length ls) ≡ t → ltb (2 ^ 48) (total ls) ≡ u → firstOf (when t 14) (when u 11) ≡ spaceFault p k s ls
-fault-is p k s ls t u e f g =
-    sym (ap (λ (n : ℕ). firstOf n (firstOf (filesFault ls) (packageFault (total ls)))) e ∙ ap₂ (λ (x y : Bool). firstOf (when x 14) (when y 11)) f g)
 
 -- none of refusals 1, 13, 2, 14 and 11
 fault-of : (p k s : ℕ) (ls : List ℕ) → spaceFault p k s ls ≡ 0 → (shapeFault p k s ≡ 0) × ((length ls ≤ 4096) × (total ls ≤ 2 ^ 48))

@@ -5,12 +5,12 @@ use mathlib.Core.Bool.{Bool, true, false, _&&_}
 use mathlib.Core.List.{List, [], _∷_}
 use mathlib.Core.Logic.{_↔_}
 use Prim.Native.Nat.{ℕ, zero, suc, _+_, _-_, _*_, _/_, _^_, _≤_, _<_}
-use lib.Dec.{eqb, ltb, leb}
+use lib.Dec.{eqb, leb}
 use lib.ListN.{length, getD}
-use Rattle.laws.specs.Choice.{pick, firstOf, when}
+use Rattle.laws.specs.Choice.{pick}
 use Rattle.laws.specs.Sums.{total}
-use Rattle.liberation.specs.Sets.{shapeFault}
 use Rattle.refusals.specs.Answers.{Answers}
+use Rattle.space_tests.specs.Faults.{spaceFault}
 use Rattle.space.specs.declared.Space.{Space}
 
 -- the quotient of a by d, "rounded up"
@@ -41,18 +41,6 @@ needOf p k s ls = stripesOf p k s ls * diskGives p s
 -- "It fits exactly when that need is at most the free bytes of one disk"
 abbrev pub fitsIn : ℕ → ℕ → ℕ → List ℕ → ℕ → Bool
 fitsIn p k s ls free = leb (needOf p k s ls) free
-
--- refusal 14: "more than 4,096 files"
-abbrev pub filesFault : List ℕ → ℕ
-filesFault ls = when (ltb 4096 (length ls)) 14
-
--- refusal 11: "L over 2^48", L being "the sum of lengths"
-abbrev pub packageFault : ℕ → ℕ
-packageFault l = when (ltb (2 ^ 48) l) 11
-
--- the space call refuses by 1, 13, 2, 14 and 11
-abbrev pub spaceFault : ℕ → ℕ → ℕ → List ℕ → ℕ
-spaceFault p k s ls = firstOf (shapeFault p k s) (firstOf (filesFault ls) (packageFault (total ls)))
 
 -- the promise of `package_space`: free are "the free bytes of one disk"
 pub record SpaceSays (p k s : ℕ) (ls : List ℕ) (free : ℕ) (r : Space) : Type 0 where

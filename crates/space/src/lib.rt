@@ -1,9 +1,7 @@
 // The space that a package of files takes, each file on stripes of its own: the stripes, the bytes of each disk, and whether that fits.
 ghost use mathlib.Core.Path.{_≡_};
-ghost use Prim.Native.Nat.{_^_};
-ghost use lib.Dec.{ltb};
 ghost use Rattle.laws.specs.Sums.{total};
-ghost use Rattle.space.specs.Says.{upEach, spaceFault, SpaceSays, Refused, Few};
+ghost use Rattle.space.specs.Says.{upEach, SpaceSays, Refused, Few};
 use refusals::Answer;
 use refusals::Shape;
 
@@ -28,37 +26,6 @@ fn refused_space(refusal: u8) -> Space
     }
 }
 
-// Do the lengths add up to more than 2^48? Each is compared with what is left of that, so no sum wraps.
-fn too_long(lengths: &[u64]) -> bool
-    ensures { λ r. ⌜ r ≡ ltb (2 ^ 48) (total (now (lengths .entry))) ⌝ }
-{
-    let mut seen: u64 = 0;
-    let mut i = 0;
-    while i < lengths.len() {
-        let bytes = lengths[i];
-        if 281474976710656 - seen < bytes {
-            return true;
-        }
-        seen += bytes;
-        i += 1;
-    }
-    false
-}
-
-// The refusal of a package of files, 0 for none: 1, 13, 2, then 14 for more than 4,096 files, then 11 for more than 2^48 bytes.
-fn space_fault(width: usize, disks: usize, size: usize, lengths: &[u64]) -> u8
-    ensures { λ r. ⌜ r ≡ spaceFault width disks size (now (lengths .entry)) ⌝ }
-{
-    let fault = refusals::shape_fault(width, disks, size);
-    if fault != 0 {
-        return fault;
-    }
-    if 4096 < lengths.len() {
-        return 14;
-    }
-    if too_long(lengths) { 11 } else { 0 }
-}
-
 // The stripes of each file, rounded up, then added; a stripe holds `holds` bytes.
 fn sum_stripes(holds: u64, lengths: &[u64]) -> u64
     requires { ⌜ Few holds (now lengths) ⌝ }
@@ -80,7 +47,7 @@ pub fn package_space(shape: Shape, lengths: &[u64], free: u64) -> Space
     let width = shape.width;
     let disks = shape.disks;
     let size = shape.cell_size;
-    let fault = space_fault(width, disks, size, lengths);
+    let fault = space_tests::space_fault(width, disks, size, lengths);
     if fault != 0 {
         return refused_space(fault);
     }

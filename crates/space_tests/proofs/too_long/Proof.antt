@@ -5,9 +5,9 @@ use native.Mathlib.Omega.{arith}
 use lib.ListN.{length, drop}
 use borrow.Author.Tests.{lt-ltb, le-ltb}
 use Rattle.laws.specs.Sums.{total}
-use Rattle.space.proofs.FilesLaws.{left-none, left-next}
-use Rattle.space.proofs.too_long.Statement.{statement}
-use Rattle.space.proofs.too_long.Tie as tie
+use Rattle.space_tests.proofs.LeftLaws.{left-none, left-next}
+use Rattle.space_tests.proofs.too_long.Statement.{statement}
+use Rattle.space_tests.proofs.too_long.Tie as tie
 
 -- the lengths before place i add up to seen, which is at most 2^48
 abbrev Inv-loop : tie.InvT-loop

@@ -8,10 +8,10 @@ use Rattle.laws.specs.Choice.{firstOf}
 use Rattle.laws.specs.Sums.{total}
 use Rattle.laws.proofs.ChoiceLaws.{first-kept}
 use Rattle.liberation.specs.Sets.{shapeFault}
-use Rattle.space.specs.Says.{filesFault, packageFault}
-use Rattle.space.proofs.SpaceLaws.{fault-is}
-use Rattle.space.proofs.space_fault.Statement.{statement}
-use Rattle.space.proofs.space_fault.Tie as tie
+use Rattle.space_tests.specs.Faults.{filesFault, packageFault}
+use Rattle.space_tests.proofs.SpaceFaults.{fault-is}
+use Rattle.space_tests.proofs.space_fault.Statement.{statement}
+use Rattle.space_tests.proofs.space_fault.Tie as tie
 
 -- past refusals 1, 13 and 2
 passed : (c : tie.Else1) → let a = c .before .before .before .args in shapeFault (a .width) (a .disks) (a .size) ≡ 0

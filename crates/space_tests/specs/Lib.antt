@@ -1,0 +1,2 @@
+-- The refusals of the space call.
+pub mod Faults
