@@ -11,8 +11,10 @@ use borrow.Author.Tests.{ltb-true, leb-true, le-leb}
 use Rattle.laws.proofs.Flags.{and-l, and-r, and-i}
 use Rattle.laws.proofs.OrderLaws.{lt-or-le}
 use Rattle.liberation.specs.Plans.{Step}
-use Rattle.text.specs.Fields.{digitsOf, letterOf}
-use Rattle.text.proofs.FieldLaws.{one-digit, two-digits, step-most}
+use Rattle.text.specs.Digits.{digitsOf}
+use Rattle.text.proofs.DigitLaws.{one-digit, two-digits}
+use Rattle.text_steps.specs.Fields.{letterOf}
+use Rattle.text_steps.proofs.FieldLaws.{step-most}
 use Rattle.liberation_texts.specs.Reading.{isDigit, valueFrom}
 use Rattle.liberation_texts.specs.Plain.{plainLine, plainLines, plain, writable}
 use Rattle.liberation_texts.specs.Form.{NumberText, LetterText, capital-r, capital-d, lf, LineText, line, LinesText, none, next, PlanText, text}

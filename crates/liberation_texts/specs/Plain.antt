@@ -4,7 +4,7 @@ use mathlib.Core.List.{List, [], _∷_, _++_}
 use Prim.Native.Nat.{ℕ}
 use lib.Dec.{ltb, leb}
 use Rattle.liberation.specs.Plans.{Step}
-use Rattle.text.specs.Fields.{stepFields}
+use Rattle.text_steps.specs.Fields.{stepFields}
 use Rattle.liberation_texts.specs.Reading.{names}
 
 abbrev pub plainLine : Step → List ℕ

@@ -16,8 +16,9 @@ use Rattle.laws.proofs.Flags.{and-l, and-r, and-i, flag, same-flag}
 use Rattle.laws.proofs.OrderLaws.{lt-or-le}
 use Rattle.laws.proofs.MemberLaws.{same-true, same-self}
 use Rattle.liberation.specs.Sets.{widthFault, diskFault}
-use Rattle.text.specs.Fields.{digitsOf}
-use Rattle.text.proofs.FieldLaws.{one-digit, two-digits, field-most}
+use Rattle.text.specs.Digits.{digitsOf}
+use Rattle.text.proofs.DigitLaws.{one-digit, two-digits}
+use Rattle.text_steps.proofs.FieldLaws.{field-most}
 use Rattle.plan_text.specs.Text.{namesLine, inputOf, valueTo, firstValue, afterFirst, secondValue, isForm, inputFault, planText, refusedLine, printed}
 use Rattle.plan_text.proofs.TextLaws.{input-fields}
 

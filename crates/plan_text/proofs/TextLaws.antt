@@ -10,8 +10,9 @@ use lib.Seq.{getD-drop}
 use borrow.Author.Tests.{eq-eqb, ne-eqb}
 use Rattle.laws.specs.Choice.{pick}
 use Rattle.liberation.specs.Plans.{Step, step}
-use Rattle.text.specs.Fields.{digitsOf, stepFields}
-use Rattle.text.proofs.FieldLaws.{field-most, step-most}
+use Rattle.text.specs.Digits.{digitsOf}
+use Rattle.text_steps.specs.Fields.{stepFields}
+use Rattle.text_steps.proofs.FieldLaws.{field-most, step-most}
 use Rattle.plan_text.specs.Text.{lineOf, namesLine, inputOf, valueTo, secondValue}
 
 -- the fields of a line, of the input

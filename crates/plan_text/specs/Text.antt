@@ -8,7 +8,8 @@ use Rattle.laws.specs.Choice.{pick, firstOf}
 use Rattle.laws.specs.Lists.{same, added}
 use Rattle.liberation.specs.Sets.{setOf, survivingIn, widthFault, diskFault}
 use Rattle.liberation.specs.Plans.{Step, planOf}
-use Rattle.text.specs.Fields.{digitsOf, stepFields}
+use Rattle.text.specs.Digits.{digitsOf}
+use Rattle.text_steps.specs.Fields.{stepFields}
 
 -- fixed byte strings, each line ended by LF: `p,lost` and `step,row,set,number,new`; `refused,`
 abbrev pub namesLine : List ℕ

@@ -32,9 +32,9 @@ fn put_line(
     requires { ⌜ (index < 100) × (row < 100) × (number < 100) × (new < 100) × (at + 14 ≤ length (now out)) ⌝ }
     ensures { λ r. ⌜ Wrote (now (out .entry)) (now (out .exit)) at r (lineOf index (step row kind number) new) ⌝ }
 {
-    let fields = text::put_field(out, at, index, 44);
-    let last = text::put_step(out, fields, row, kind, number, 44);
-    text::put_field(out, last, new, 10)
+    let fields = text_steps::put_field(out, at, index, 44);
+    let last = text_steps::put_step(out, fields, row, kind, number, 44);
+    text_steps::put_field(out, last, new, 10)
 }
 
 // Puts the line of a refusal.
@@ -43,7 +43,7 @@ fn put_refusal(out: &mut [u8], at: usize, number: usize) -> usize
     ensures { λ r. ⌜ Wrote (now (out .entry)) (now (out .exit)) at r (refusedLine number) ⌝ }
 {
     let next = text::put(out, at, b"refused,");
-    text::put_field(out, next, number, 10)
+    text_steps::put_field(out, next, number, 10)
 }
 
 // Puts the input for two numbers.
@@ -52,8 +52,8 @@ fn put_input(out: &mut [u8], at: usize, first: usize, second: usize) -> usize
     ensures { λ r. ⌜ Wrote (now (out .entry)) (now (out .exit)) at r (inputOf first second) ⌝ }
 {
     let values = text::put(out, at, b"p,lost\n");
-    let comma = text::put_field(out, values, first, 44);
-    text::put_field(out, comma, second, 10)
+    let comma = text_steps::put_field(out, values, first, 44);
+    text_steps::put_field(out, comma, second, 10)
 }
 
 // The number from a place on, of one digit if the byte `stop` follows it, else of two.

@@ -12,9 +12,9 @@ use Rattle.liberation.specs.Plans.{Step}
 use Rattle.liberation.specs.Judging.{stepsIn}
 use Rattle.judge.proofs.JudgingLoop.{stepsFrom, BytesOf, steps-next}
 use Rattle.text.specs.Writing.{Wrote}
-use Rattle.text.specs.Fields.{stepFields}
 use Rattle.text.proofs.WriteLaws.{wrote-none, wrote-more}
-use Rattle.text.proofs.FieldLaws.{step-most}
+use Rattle.text_steps.specs.Fields.{stepFields}
+use Rattle.text_steps.proofs.FieldLaws.{step-most}
 use Rattle.liberation_texts.specs.Plain.{plainLine, plainLines, writable}
 
 -- o becomes o′, written from place `at` to place r; i lines stand

@@ -18,7 +18,7 @@ fn put_lines(out: &mut [u8], at: usize, width: usize, plan: &[u8]) -> usize
         let row = judge::wide(plan[3 * i]);
         let kind = judge::wide(plan[3 * i + 1]);
         let number = judge::wide(plan[3 * i + 2]);
-        next = text::put_step(out, next, row, kind, number, 10);
+        next = text_steps::put_step(out, next, row, kind, number, 10);
         i += 1;
     }
     next

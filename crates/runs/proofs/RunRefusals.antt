@@ -4,7 +4,7 @@ use mathlib.Core.Bool.{Bool, false, _||_, not}
 use Prim.Native.Nat.{ℕ, _≤_, _<_}
 use lib.Dec.{eqb, leb, ltb}
 use borrow.Author.Tests.{eqb-true, leb-false, ltb-false, lt-ltb, le-ltb, not-false}
-use Rattle.laws.specs.Choice.{when, firstOf}
+use Rattle.laws.specs.Choice.{when}
 use Rattle.laws.proofs.Flags.{or-false-l, or-false-r}
 use Rattle.laws.proofs.ChoiceLaws.{first-none, when-none, pick-refused, pick-done}
 use Rattle.refusals.specs.declared.Answer.{Answer}

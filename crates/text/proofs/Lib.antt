@@ -1,3 +1,3 @@
 -- Laws of written text.
 pub mod WriteLaws
-pub mod FieldLaws
+pub mod DigitLaws

@@ -1,3 +1,3 @@
 -- Text in a lent slice.
 pub mod Writing
-pub mod Fields
+pub mod Digits

@@ -1,14 +1,14 @@
-// Text in a lent slice. The writers put a piece at a place, a fixed word, a number in decimal or the fields of a plan's step, leave all other bytes as they are, and say where the piece ends.
+// Text in a lent slice. The writers put a piece at a place, a fixed word or a number in decimal, leave all other bytes as they are, and say where the piece ends.
 // The readers look at one byte.
 ghost use mathlib.Core.Path.{_≡_};
-ghost use mathlib.Core.List.{[], _∷_, _++_};
+ghost use mathlib.Core.List.{[], _∷_};
 ghost use Prim.Native.Nat.{_+_, _-_, _≤_, _<_};
 ghost use lib.ListN.{length, getD};
 ghost use Rattle.text.specs.Writing.{Wrote};
-ghost use Rattle.text.specs.Fields.{digitsOf, letterOf, stepFields};
+ghost use Rattle.text.specs.Digits.{digitsOf};
 
 // Puts one byte.
-fn put_byte(out: &mut [u8], at: usize, byte: u8) -> usize
+pub fn put_byte(out: &mut [u8], at: usize, byte: u8) -> usize
     requires { ⌜ at < length (now out) ⌝ }
     ensures { λ r. ⌜ Wrote (now (out .entry)) (now (out .exit)) at r (byte ∷ []) ⌝ }
 {
@@ -30,7 +30,7 @@ pub fn put(out: &mut [u8], at: usize, text: &[u8]) -> usize
 }
 
 // Puts a number below 100 in decimal.
-fn put_number(out: &mut [u8], at: usize, n: usize) -> usize
+pub fn put_number(out: &mut [u8], at: usize, n: usize) -> usize
     requires { ⌜ (n < 100) × (at + 2 ≤ length (now out)) ⌝ }
     ensures { λ r. ⌜ Wrote (now (out .entry)) (now (out .exit)) at r (digitsOf n) ⌝ }
 {
@@ -39,44 +39,6 @@ fn put_number(out: &mut [u8], at: usize, n: usize) -> usize
     }
     let next = put_byte(out, at, 48 + (n / 10) as u8);
     put_byte(out, next, 48 + (n % 10) as u8)
-}
-
-// Puts a number below 100 and the byte that ends its field.
-pub fn put_field(out: &mut [u8], at: usize, n: usize, stop: u8) -> usize
-    requires { ⌜ (n < 100) × (at + 3 ≤ length (now out)) ⌝ }
-    ensures { λ r. ⌜ Wrote (now (out .entry)) (now (out .exit)) at r (digitsOf n ++ (stop ∷ [])) ⌝ }
-{
-    let next = put_number(out, at, n);
-    put_byte(out, next, stop)
-}
-
-// Puts the letter of a set's kind and a comma.
-fn put_kind(out: &mut [u8], at: usize, kind: usize) -> usize
-    requires { ⌜ at + 2 ≤ length (now out) ⌝ }
-    ensures { λ r. ⌜ Wrote (now (out .entry)) (now (out .exit)) at r (letterOf kind ∷ (44 ∷ [])) ⌝ }
-{
-    if kind == 0 {
-        put(out, at, b"R,")
-    } else {
-        put(out, at, b"D,")
-    }
-}
-
-// Puts the three fields of a step, row, set and number, and the byte that ends the last.
-pub fn put_step(
-    out: &mut [u8],
-    at: usize,
-    row: usize,
-    kind: usize,
-    number: usize,
-    stop: u8,
-) -> usize
-    requires { ⌜ (row < 100) × (number < 100) × (at + 8 ≤ length (now out)) ⌝ }
-    ensures { λ r. ⌜ Wrote (now (out .entry)) (now (out .exit)) at r (stepFields row kind number stop) ⌝ }
-{
-    let second = put_field(out, at, row, 44);
-    let third = put_kind(out, second, kind);
-    put_field(out, third, number, stop)
 }
 
 // The byte at a place, 0 past the end.

@@ -2,7 +2,7 @@
 use native.Mathlib.Omega.{arith}
 use borrow.Author.Needs.{needs}
 use Rattle.text.proofs.WriteLaws.{wrote-more, wrote-same}
-use Rattle.text.proofs.FieldLaws.{field-most}
+use Rattle.text_steps.proofs.FieldLaws.{field-most}
 use Rattle.plan_text.proofs.TextLaws.{input-fields}
 use Rattle.plan_text.proofs.put_input.Tie as tie
 use Rattle.plan_text.proofs.put_input.Statement.{statement}

@@ -2,7 +2,7 @@
 use native.Mathlib.Omega.{arith}
 use borrow.Author.Needs.{needs}
 use Rattle.text.proofs.WriteLaws.{wrote-more, wrote-same}
-use Rattle.text.proofs.FieldLaws.{field-most, step-most}
+use Rattle.text_steps.proofs.FieldLaws.{field-most, step-most}
 use Rattle.plan_text.proofs.TextLaws.{line-fields}
 use Rattle.plan_text.proofs.put_line.Tie as tie
 use Rattle.plan_text.proofs.put_line.Statement.{statement}

@@ -1,7 +1,7 @@
 -- `put_number`: one digit below 10, else two, one behind the other.
 use borrow.Author.Needs.{needs}
 use Rattle.text.proofs.WriteLaws.{wrote-same, wrote-more}
-use Rattle.text.proofs.FieldLaws.{one-digit, two-digits}
+use Rattle.text.proofs.DigitLaws.{one-digit, two-digits}
 use Rattle.text.proofs.put_number.Tie as tie
 use Rattle.text.proofs.put_number.Statement.{statement}
 

@@ -1,12 +1,9 @@
--- The fields of a plan as text (document 01, "The printed plan").
+-- The fields of a plan's step as text (document 01, "The printed plan").
 use mathlib.Core.List.{List, [], _∷_, _++_}
-use Prim.Native.Nat.{ℕ, _+_, _/_, _%_}
-use lib.Dec.{eqb, ltb}
+use Prim.Native.Nat.{ℕ}
+use lib.Dec.{eqb}
 use Rattle.laws.specs.Choice.{pick}
-
--- a number below 100 in decimal, no leading zero except 0 itself
-abbrev pub digitsOf : ℕ → List ℕ
-digitsOf n = pick (ltb n 10) ((48 + n) ∷ []) ((48 + n / 10) ∷ ((48 + n % 10) ∷ []))
+use Rattle.text.specs.Digits.{digitsOf}
 
 -- "R or D"
 abbrev pub letterOf : ℕ → ℕ

@@ -1,10 +1,10 @@
 -- `put_field`: the digits, of which there are at most two, and the byte behind them.
 use native.Mathlib.Omega.{arith}
 use borrow.Author.Needs.{needs}
 use Rattle.text.proofs.WriteLaws.{wrote-more}
-use Rattle.text.proofs.FieldLaws.{digits-most}
-use Rattle.text.proofs.put_field.Tie as tie
-use Rattle.text.proofs.put_field.Statement.{statement}
+use Rattle.text_steps.proofs.FieldLaws.{digits-most}
+use Rattle.text_steps.proofs.put_field.Tie as tie
+use Rattle.text_steps.proofs.put_field.Statement.{statement}
 
 put-byte-requires : tie.Need-put-byte-requires
 put-byte-requires c κs = omega (arith, c .before .before .before .put-number .ensures .ends, digits-most (c .before .before .before .before .before .before .args .n))

@@ -2,21 +2,16 @@
 use mathlib.Core.Path.{_≡_, sym, ap}
 use mathlib.Core.Bool.{Bool, true, false}
 use mathlib.Core.List.{List, [], _∷_, _++_, append-assoc}
-use Prim.Native.Nat.{ℕ, _+_, _/_, _%_, _≤_, _<_}
+use Prim.Native.Nat.{ℕ, _+_, _/_, _%_, _≤_}
 use native.Mathlib.Omega.{arith}
 use lib.Dec.{ltb}
 use lib.ListN.{length, length-append}
-use borrow.Author.Tests.{lt-ltb, le-ltb, eq-eqb, ne-eqb}
+use borrow.Author.Tests.{eq-eqb, ne-eqb}
 use Rattle.laws.specs.Choice.{pick}
-use Rattle.text.specs.Fields.{digitsOf, letterOf, stepFields}
+use Rattle.text.specs.Digits.{digitsOf}
+use Rattle.text_steps.specs.Fields.{letterOf, stepFields}
 
 -- one digit, or two
-pub one-digit : (n : ℕ) → n < 10 → (48 + n) ∷ [] ≡ digitsOf n
-one-digit n h = sym (ap (λ (b : Bool). pick b ((48 + n) ∷ []) ((48 + n / 10) ∷ ((48 + n % 10) ∷ []))) (lt-ltb n 10 h))
-
-pub two-digits : (n : ℕ) → 10 ≤ n → (48 + n / 10) ∷ ((48 + n % 10) ∷ []) ≡ digitsOf n
-two-digits n h = sym (ap (λ (b : Bool). pick b ((48 + n) ∷ []) ((48 + n / 10) ∷ ((48 + n % 10) ∷ []))) (le-ltb n 10 h))
-
 pub digits-most : (n : ℕ) → length (digitsOf n) ≤ 2
 digits-most n = go (ltb n 10)
   where

@@ -1,9 +1,9 @@
 -- `put_kind`: `R,` for a row set, else `D,`.
 use borrow.Author.Needs.{needs}
 use Rattle.text.proofs.WriteLaws.{wrote-same}
-use Rattle.text.proofs.FieldLaws.{letter-row, letter-diagonal}
-use Rattle.text.proofs.put_kind.Tie as tie
-use Rattle.text.proofs.put_kind.Statement.{statement}
+use Rattle.text_steps.proofs.FieldLaws.{letter-row, letter-diagonal}
+use Rattle.text_steps.proofs.put_kind.Tie as tie
+use Rattle.text_steps.proofs.put_kind.Statement.{statement}
 
 returns : tie.Need-returns
 returns c = wrote-same (letter-row _ (c .before .before .before .before .before .if1 .taken)) (c .before .before .put .ensures)

@@ -1,10 +1,10 @@
 -- `put_step`: the three fields one behind the other; a number with its byte takes at most three bytes, the letter with its comma two.
 use native.Mathlib.Omega.{arith}
 use borrow.Author.Needs.{needs}
 use Rattle.text.proofs.WriteLaws.{wrote-more, wrote-same}
-use Rattle.text.proofs.FieldLaws.{step-fields, field-most}
-use Rattle.text.proofs.put_step.Tie as tie
-use Rattle.text.proofs.put_step.Statement.{statement}
+use Rattle.text_steps.proofs.FieldLaws.{step-fields, field-most}
+use Rattle.text_steps.proofs.put_step.Tie as tie
+use Rattle.text_steps.proofs.put_step.Statement.{statement}
 
 put-kind-requires : tie.Need-put-kind-requires
 put-kind-requires c κs = let a = c .before .before .before in omega (arith, a .put-field .ensures .ends, field-most (a .before .before .before .args .row) 44)

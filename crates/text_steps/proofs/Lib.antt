@@ -1,0 +1,2 @@
+-- Laws of a step's fields as text.
+pub mod FieldLaws

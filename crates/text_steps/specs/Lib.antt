@@ -1,0 +1,2 @@
+-- The fields of a plan's step as text.
+pub mod Fields
