@@ -1,5 +1,5 @@
 // The call for C and Rust on a list of the states of arrays.
-// It goes over the lent records itself and hands each to the proved steps of `state_lists` and `state_reports`.
+// It goes over the lent records itself and hands each to the proved steps of `state_lists`, `state_scans` and `state_reports`.
 ghost use Rattle.state_reports.specs.Reports.{ReportSays};
 use state_reports::Board;
 use states::ArrayState;
@@ -18,7 +18,7 @@ pub extern "C" fn cuzhaveli_report_disk(
     let mut s = state_lists::scan_start();
     let mut i = 0;
     while i < n {
-        s = state_lists::scan_record(s, which, disk, back, list[i]);
+        s = state_scans::scan_record(s, which, disk, back, list[i]);
         i += 1;
     }
     let r = state_reports::scan_answer(s, n, which);

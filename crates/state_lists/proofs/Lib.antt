@@ -1,2 +1,2 @@
--- One record of a scan.
-pub mod RecordLaws
+-- The totals of a scan.
+pub mod CountLaws

@@ -1,2 +1,2 @@
--- The scan of a list of arrays.
+-- The start of the scan of a list of arrays, and its totals.
 pub mod Scanning

@@ -1,8 +1,7 @@
-// The scan of a list of arrays, record by record, for a report on one of them: the first refusal, the named record after the report, the totals.
+// What the scan of a list of arrays finds, for a report on one of them: the first refusal, the named record after the report, the totals. How it starts, and how an array is counted; `state_scans` goes on record by record.
 ghost use mathlib.Core.Path.{_≡_};
 ghost use lib.Count.{ones};
-ghost use Rattle.laws.specs.Choice.{firstOf};
-ghost use Rattle.state_lists.specs.Scanning.{noTotals, Few, MayScan, countedOn, scanLength, scanStart, scanRecord};
+ghost use Rattle.state_lists.specs.Scanning.{noTotals, Few, countedOn, scanLength, scanStart};
 use states::ArrayState;
 
 // How many arrays of a list can bear two more losses, one more, none, and how many are past saving.
@@ -23,13 +22,6 @@ pub struct Scan {
     pub totals: Totals,
 }
 
-// The first of two refusals, 0 for none.
-pub fn first_fault(first: u8, second: u8) -> u8
-    ensures { λ r. ⌜ r ≡ firstOf first second ⌝ }
-{
-    if first != 0 { first } else { second }
-}
-
 // The totals of no array.
 pub fn no_totals() -> Totals
     ensures { λ r. ⌜ r ≡ noTotals ⌝ }
@@ -43,7 +35,7 @@ pub fn no_totals() -> Totals
 }
 
 // The totals with an array more.
-fn count_state(totals: Totals, lost: u64) -> Totals
+pub fn count_state(totals: Totals, lost: u64) -> Totals
     requires { ⌜ Few totals ⌝ }
     ensures { λ r. ⌜ r ≡ countedOn totals (ones lost) ⌝ }
 {
@@ -82,35 +74,5 @@ pub fn scan_start() -> Scan
             lost: 0,
         },
         totals: no_totals(),
-    }
-}
-
-// The scan, one record on: record `which` is counted as it is after the report.
-pub fn scan_record(s: Scan, which: usize, disk: usize, back: bool, state: ArrayState) -> Scan
-    requires { ⌜ MayScan s ⌝ }
-    ensures { λ r. ⌜ r ≡ scanRecord which disk back s state ⌝ }
-{
-    let at = s.at;
-    let totals = s.totals;
-    let here = states::state_fault(state);
-    let fault = first_fault(s.fault, here);
-    if at == which {
-        let r = states::report_state(state, disk, back);
-        let after = r.state;
-        return Scan {
-            at: at + 1,
-            fault: fault,
-            own: r.answer.refusal,
-            found: after,
-            totals: count_state(totals, after.lost),
-        };
-    }
-    let found = s.found;
-    Scan {
-        at: at + 1,
-        fault: fault,
-        own: s.own,
-        found: found,
-        totals: count_state(totals, state.lost),
     }
 }

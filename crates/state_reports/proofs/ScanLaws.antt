@@ -22,8 +22,9 @@ use Rattle.states.specs.declared.ArrayState.{ArrayState}
 use Rattle.state_lists.specs.declared.Totals.{Totals}
 use Rattle.state_lists.specs.declared.Scan.{Scan}
 use Rattle.states.specs.States.{stateFault, diskReportFault, stateReportFault, changed}
-use Rattle.state_lists.specs.Scanning.{noArray, noTotals, scanLength, scanStart, countedOn, MayScan, reported, scanRecord, scanFrom}
-use Rattle.state_lists.proofs.RecordLaws.{totals-are}
+use Rattle.state_lists.specs.Scanning.{noArray, noTotals, scanLength, scanStart, countedOn}
+use Rattle.state_lists.proofs.CountLaws.{totals-are}
+use Rattle.state_scans.specs.Records.{MayScan, reported, scanRecord, scanFrom}
 use Rattle.state_reports.specs.Reports.{listFault, numberFault, reportFault, listAfter, howMany, totalsOf, ReportSays, scanFault, scanAnswer}
 
 -- ---- how many records are scanned

@@ -19,7 +19,7 @@ fn scan_fault(s: Scan, n: usize, which: usize) -> u8
     if n <= which {
         return 20;
     }
-    state_lists::first_fault(s.fault, s.own)
+    state_scans::first_fault(s.fault, s.own)
 }
 
 // The answer when the n records are scanned.

@@ -1,7 +1,7 @@
 -- `count_state`: the number of lost disks is the number of ones of the word, and one total is one more.
 use lib.Count.{ones}
 use borrow.Author.Needs.{needs}
-use Rattle.state_lists.proofs.RecordLaws.{count-none, count-one, count-two, count-more}
+use Rattle.state_lists.proofs.CountLaws.{count-none, count-one, count-two, count-more}
 use Rattle.state_lists.proofs.count_state.Statement.{statement}
 use Rattle.state_lists.proofs.count_state.Tie as tie
 

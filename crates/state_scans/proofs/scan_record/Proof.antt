@@ -3,9 +3,9 @@ use mathlib.Core.Path.{_≡_, ap, _∙_}
 use borrow.Author.Needs.{needs}
 use Rattle.laws.specs.Choice.{firstOf}
 use Rattle.states.specs.States.{stateFault}
-use Rattle.state_lists.proofs.RecordLaws.{scan-own, scan-other}
-use Rattle.state_lists.proofs.scan_record.Statement.{statement}
-use Rattle.state_lists.proofs.scan_record.Tie as tie
+use Rattle.state_scans.proofs.RecordLaws.{scan-own, scan-other}
+use Rattle.state_scans.proofs.scan_record.Statement.{statement}
+use Rattle.state_scans.proofs.scan_record.Tie as tie
 
 -- the first refusal of a record so far
 fault : (c : tie.After-first-fault) → let a = c .before .before .before .args in c .first-fault .result ≡ firstOf (a .s .fault) (stateFault (a .state))

@@ -2,8 +2,8 @@
 use mathlib.Core.Path.{refl}
 use borrow.Author.Needs.{needs}
 use Rattle.laws.proofs.ChoiceLaws.{first-kept}
-use Rattle.state_lists.proofs.first_fault.Statement.{statement}
-use Rattle.state_lists.proofs.first_fault.Tie as tie
+use Rattle.state_scans.proofs.first_fault.Statement.{statement}
+use Rattle.state_scans.proofs.first_fault.Tie as tie
 
 returns : tie.Need-returns
 returns c = first-kept _ _ (c .before .args .second) refl (c .if1 .taken)

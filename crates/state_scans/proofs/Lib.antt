@@ -1,0 +1,2 @@
+-- One record of a scan.
+pub mod RecordLaws

@@ -1,0 +1,2 @@
+-- The scan of a list of arrays.
+pub mod Records
