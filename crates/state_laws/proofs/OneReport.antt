@@ -19,11 +19,12 @@ use Rattle.refusals.proofs.AnswerLaws.{answers-none}
 use Rattle.states.specs.declared.ArrayState.{ArrayState}
 use Rattle.state_lists.specs.declared.Totals.{Totals}
 use Rattle.state_reports.specs.declared.Board.{Board}
-use Rattle.states.specs.States.{isLost, lostAfter, changed, stateFault, againFault, diskReportFault}
+use Rattle.lost_bits.specs.Lost.{isLost, lostAfter}
+use Rattle.states.specs.States.{changed, stateFault, againFault, diskReportFault}
 use Rattle.state_lists.specs.Scanning.{noArray, noTotals}
 use Rattle.state_reports.specs.Reports.{listFault, numberFault, reportFault, listAfter, totalsOf, ReportSays}
-use Rattle.states.proofs.StateLaws.{Reportable, reportable, lost-accepted}
-use Rattle.states.proofs.LostLaws.{own-after, other-after, lost-after, after-lt, loss-one-more, return-one-fewer}
+use Rattle.lost_bits.proofs.LostLaws.{lost-accepted, own-after, other-after, lost-after, after-lt, loss-one-more, return-one-fewer}
+use Rattle.states.proofs.StateLaws.{Reportable, reportable}
 use Rattle.state_reports.proofs.TotalLaws.{totals-all}
 use Rattle.state_laws.specs.Claims.{arrayAt, lostAt, Report-means, Report-goes}
 

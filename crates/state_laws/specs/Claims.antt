@@ -10,7 +10,7 @@ use Rattle.laws.specs.Choice.{pick}
 use Rattle.states.specs.declared.ArrayState.{ArrayState}
 use Rattle.state_lists.specs.declared.Totals.{Totals}
 use Rattle.state_reports.specs.declared.Board.{Board}
-use Rattle.states.specs.States.{isLost}
+use Rattle.lost_bits.specs.Lost.{isLost}
 use Rattle.state_lists.specs.Scanning.{noArray}
 use Rattle.state_reports.specs.Reports.{listFault, totalsOf, ReportSays}
 

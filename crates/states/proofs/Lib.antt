@@ -1,3 +1,2 @@
--- The refusals of a report on one array, and lost disks as the bits of a word.
+-- The refusals of a report on one array.
 pub mod StateLaws
-pub mod LostLaws

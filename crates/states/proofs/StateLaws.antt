@@ -1,24 +1,19 @@
 -- Refusals of a report on one array: which test gives them, and what holds where there is none.
-use mathlib.Core.Path.{_≡_, refl, sym, ap, ap₂, _∙_, subst}
+use mathlib.Core.Path.{_≡_, refl, sym, ap, ap₂, _∙_}
 use mathlib.Core.Bool.{Bool, true, false, not}
 use Prim.Native.Nat.{ℕ, _+_, _^_, _≤_, _<_}
 use native.Mathlib.Omega.{arith}
 use lib.Dec.{leb}
-use borrow.Author.Tests.{le-leb, lt-leb, leb-false}
+use borrow.Author.Tests.{leb-false}
 use Rattle.laws.specs.Choice.{pick, when, firstOf}
 use Rattle.laws.proofs.ChoiceLaws.{first-none, when-none}
 use Rattle.liberation.specs.Sets.{arrayFault, diskFault}
 use Rattle.liberation.proofs.FaultLaws.{array-of, plan-of}
+use Rattle.lost_bits.specs.Lost.{isLost, lostFault}
 use Rattle.states.specs.declared.ArrayState.{ArrayState}
-use Rattle.states.specs.States.{isLost, lostFault, stateFault, againFault, diskReportFault, stateReportFault}
+use Rattle.states.specs.States.{stateFault, againFault, diskReportFault, stateReportFault}
 
--- a word with a bit past Q, and one without: q is the bit after Q
-pub lost-refused : (k w q : ℕ) → q ≡ 2 ^ (k + 2) → q ≤ w → 3 ≡ lostFault k w
-lost-refused k w q e h = sym (ap (λ (t : Bool). when t 3) (le-leb (2 ^ (k + 2)) w (subst (λ (x : ℕ). x ≤ w) e h)))
-
-pub lost-accepted : (k w q : ℕ) → q ≡ 2 ^ (k + 2) → w < q → 0 ≡ lostFault k w
-lost-accepted k w q e h = sym (ap (λ (t : Bool). when t 3) (lt-leb (2 ^ (k + 2)) w (subst (λ (x : ℕ). w < x) e h)))
-
+-- a word without a bit past Q
 pub lost-of : (k w : ℕ) → lostFault k w ≡ 0 → w < 2 ^ (k + 2)
 lost-of k w e = leb-false (2 ^ (k + 2)) w (when-none (leb (2 ^ (k + 2)) w) 2 e)
 

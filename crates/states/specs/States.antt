@@ -1,37 +1,18 @@
--- The state of one array and reports on it (document 02, ask 12, "A board of all cabinets"): its lost disks as the bits of a word, what a report changes, its refusals, and the promise of the call by value, for accepted and refused ones alike.
+-- The state of one array and reports on it (document 02, ask 12, "A board of all cabinets"): what a report changes, its refusals, and the promise of the call by value, for accepted and refused ones alike.
 use mathlib.Core.Path.{_≡_}
 use mathlib.Core.Bool.{Bool, not}
-use Prim.Native.Nat.{ℕ, _+_, _/_, _%_, _^_}
-use lib.Bits.{bitAnd, bitOr, bitXor}
-use lib.Dec.{eqb, leb}
+use Prim.Native.Nat.{ℕ}
+use lib.Dec.{eqb}
 use Rattle.laws.specs.Choice.{pick, when, firstOf}
 use Rattle.liberation.specs.Sets.{arrayFault, diskFault}
 use Rattle.refusals.specs.Answers.{Answers}
+use Rattle.lost_bits.specs.Lost.{isLost, lostAfter, lostFault}
 use Rattle.states.specs.declared.ArrayState.{ArrayState}
 use Rattle.states.specs.declared.StateAnswer.{StateAnswer}
-
--- "a 64-bit word with bit d set for lost disk d"
-abbrev pub isLost : ℕ → ℕ → Bool
-isLost w d = eqb (w / 2 ^ d % 2) 1
-
--- "a disk lost, which sets its bit"
-abbrev pub withLost : ℕ → ℕ → ℕ
-withLost w d = bitOr w (2 ^ d)
-
--- "or a disk back, which clears it"
-abbrev pub withBack : ℕ → ℕ → ℕ
-withBack w d = bitXor w (bitAnd w (2 ^ d))
-
-abbrev pub lostAfter : ℕ → ℕ → Bool → ℕ
-lostAfter w d back = pick back (withBack w d) (withLost w d)
 
 -- the array after a report on its disk d
 abbrev pub changed : ArrayState → ℕ → Bool → ArrayState
 changed c d back = record { width = c .width; disks = c .disks; lost = lostAfter (c .lost) d back }
-
--- "that holds a lost disk over k + 1, gives refusal .. 3"
-abbrev pub lostFault : ℕ → ℕ → ℕ
-lostFault k w = when (leb (2 ^ (k + 2)) w) 3
 
 -- "A record whose p or k is out of limits, or that holds a lost disk over k + 1, gives refusal 1, 13 or 3"
 abbrev pub stateFault : ArrayState → ℕ

@@ -1,7 +1,7 @@
-// The state of an array, its lost disks as the bits of a word, and reports by value that a disk of it was lost or is back.
+// The state of an array, its refusals, and reports by value that a disk of it was lost or is back.
 ghost use mathlib.Core.Path.{_≡_};
-ghost use Prim.Native.Nat.{_^_, _≤_, _<_};
-ghost use Rattle.states.specs.States.{isLost, lostAfter, lostFault, stateFault, againFault, stateReportFault, StateSays};
+ghost use Prim.Native.Nat.{_<_};
+ghost use Rattle.states.specs.States.{stateFault, againFault, stateReportFault, StateSays};
 use refusals::Answer;
 
 // An array of a list: its width p, its data disks k, and a word with bit d set for each lost disk d.
@@ -18,44 +18,6 @@ pub struct StateAnswer {
     pub state: ArrayState,
 }
 
-// The word with a disk's bit alone.
-fn bit_of(disk: usize) -> u64
-    requires { ⌜ disk < 64 ⌝ }
-    ensures { λ r. ⌜ r ≡ 2 ^ disk ⌝ }
-{
-    1u64 << disk
-}
-
-// Is this disk lost?
-fn is_lost(lost: u64, disk: usize) -> bool
-    requires { ⌜ disk < 64 ⌝ }
-    ensures { λ r. ⌜ r ≡ isLost lost disk ⌝ }
-{
-    (lost >> disk) % 2 == 1
-}
-
-// The word with a disk's bit set, or cleared.
-fn lost_after(lost: u64, disk: usize, back: bool) -> u64
-    requires { ⌜ disk < 64 ⌝ }
-    ensures { λ r. ⌜ r ≡ lostAfter lost disk back ⌝ }
-{
-    let bit = bit_of(disk);
-    if back {
-        lost ^ (lost & bit)
-    } else {
-        lost | bit
-    }
-}
-
-// The refusal of a word of lost disks by 3, for one past Q; 0 for none.
-fn lost_fault(disks: usize, lost: u64) -> u8
-    requires { ⌜ disks ≤ 31 ⌝ }
-    ensures { λ r. ⌜ r ≡ lostFault disks lost ⌝ }
-{
-    let past = bit_of(disks + 2);
-    if past <= lost { 3 } else { 0 }
-}
-
 // The refusal of a record by 1, 13 or 3, 0 for none.
 pub fn state_fault(state: ArrayState) -> u8
     ensures { λ r. ⌜ r ≡ stateFault state ⌝ }
@@ -64,7 +26,7 @@ pub fn state_fault(state: ArrayState) -> u8
     if fault != 0 {
         return fault;
     }
-    lost_fault(state.disks, state.lost)
+    lost_bits::lost_fault(state.disks, state.lost)
 }
 
 // The refusal of a loss of a lost disk, or of a return of a present one, by 21; 0 for none.
@@ -72,7 +34,7 @@ fn again_fault(lost: u64, disk: usize, back: bool) -> u8
     requires { ⌜ disk < 64 ⌝ }
     ensures { λ r. ⌜ r ≡ againFault lost disk back ⌝ }
 {
-    let now = is_lost(lost, disk);
+    let now = lost_bits::is_lost(lost, disk);
     if back {
         return if now { 0 } else { 21 };
     }
@@ -110,7 +72,7 @@ pub fn report_state(state: ArrayState, disk: usize, back: bool) -> StateAnswer
         state: ArrayState {
             width: state.width,
             disks: state.disks,
-            lost: lost_after(state.lost, disk, back),
+            lost: lost_bits::lost_after(state.lost, disk, back),
         },
     }
 }

@@ -1,7 +1,7 @@
 -- `state_fault`: refusals 1 and 13, then 3; past the first two the data disks are at most 31.
 use mathlib.Core.Path.{sym, _∙_}
 use Rattle.laws.proofs.ChoiceLaws.{first-kept, first-next}
-use Rattle.states.specs.States.{lostFault}
+use Rattle.lost_bits.specs.Lost.{lostFault}
 use Rattle.states.proofs.StateLaws.{most-disks}
 use borrow.Author.Needs.{needs}
 use Rattle.states.proofs.state_fault.Statement.{statement}

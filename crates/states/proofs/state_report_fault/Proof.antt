@@ -3,7 +3,8 @@ use mathlib.Core.Path.{_≡_, sym, _∙_}
 use native.Mathlib.Omega.{arith}
 use Rattle.laws.proofs.ChoiceLaws.{first-kept, first-next, first-none}
 use Rattle.liberation.specs.Sets.{arrayFault}
-use Rattle.states.specs.States.{lostFault, stateFault, againFault, diskReportFault}
+use Rattle.lost_bits.specs.Lost.{lostFault}
+use Rattle.states.specs.States.{stateFault, againFault, diskReportFault}
 use Rattle.states.proofs.StateLaws.{few-disks}
 use borrow.Author.Needs.{needs}
 use Rattle.states.proofs.state_report_fault.Statement.{statement}

@@ -5,8 +5,8 @@ use native.Mathlib.Omega.{arith}
 use lib.Dec.{lit<}
 use lib.Pow.{shl-exact}
 use borrow.Author.Needs.{needs}
-use Rattle.states.proofs.bit_of.Statement.{statement}
-use Rattle.states.proofs.bit_of.Tie as tie
+use Rattle.lost_bits.proofs.bit_of.Statement.{statement}
+use Rattle.lost_bits.proofs.bit_of.Tie as tie
 
 returns : tie.Need-returns
 returns c = shl-exact 1 (c .args .disk) 64 (lit< tt) (omega arith) ∙ one-mul _

@@ -10,13 +10,13 @@ use lib.Bits.{bitAnd, bitOr, bitXor, and-shr, and-mod, or-shr, or-mod, or-lt, xo
 use lib.Count.{ones, ones-step, leading-top}
 use lib.Dec.{eqb}
 use lib.Pow.{pow-pos, pow-lt, pow-mono, pow-add, shl-shr, shr-shr, shr-lt}
-use borrow.Author.Tests.{eqb-true, eqb-false}
+use borrow.Author.Tests.{eqb-true, eqb-false, le-leb, lt-leb}
 use Rattle.laws.specs.Choice.{pick, when}
 use Rattle.laws.specs.Sums.{sumTo}
 use Rattle.laws.proofs.Flags.{flag}
 use Rattle.laws.proofs.OrderLaws.{lt-or-le, lt-or-gt}
 use Rattle.laws.proofs.SumLaws.{sum-zero, sum-first, sum-ext, sum-more}
-use Rattle.states.specs.States.{isLost, withLost, withBack, lostAfter}
+use Rattle.lost_bits.specs.Lost.{isLost, withLost, withBack, lostAfter, lostFault}
 
 -- ---- digits
 -- digit d of a word
@@ -162,3 +162,10 @@ some-over k w h l =
   where
     later : {j : ℕ} → j ≤ k + 1 → suc j ≤ k + 2
     later m = omega arith
+
+-- a word with a bit past Q, and one without: q is the bit after Q
+pub lost-refused : (k w q : ℕ) → q ≡ 2 ^ (k + 2) → q ≤ w → 3 ≡ lostFault k w
+lost-refused k w q e h = sym (ap (λ (t : Bool). when t 3) (le-leb (2 ^ (k + 2)) w (subst (λ (x : ℕ). x ≤ w) e h)))
+
+pub lost-accepted : (k w q : ℕ) → q ≡ 2 ^ (k + 2) → w < q → 0 ≡ lostFault k w
+lost-accepted k w q e h = sym (ap (λ (t : Bool). when t 3) (lt-leb (2 ^ (k + 2)) w (subst (λ (x : ℕ). w < x) e h)))

@@ -1,7 +1,7 @@
 -- `lost_after`: the bit alone, put to the word or taken from it.
 use borrow.Author.Needs.{needs}
-use Rattle.states.proofs.lost_after.Statement.{statement}
-use Rattle.states.proofs.lost_after.Tie as tie
+use Rattle.lost_bits.proofs.lost_after.Statement.{statement}
+use Rattle.lost_bits.proofs.lost_after.Tie as tie
 
 returns : tie.Need-returns
 returns c = simp (c .if1 .taken, c .before .bit-of .ensures)

@@ -1,8 +1,8 @@
 -- `lost_fault`: a word has a bit past Q exactly if it is at least the bit after Q.
-use Rattle.states.proofs.StateLaws.{lost-refused, lost-accepted}
+use Rattle.lost_bits.proofs.LostLaws.{lost-refused, lost-accepted}
 use borrow.Author.Needs.{needs}
-use Rattle.states.proofs.lost_fault.Statement.{statement}
-use Rattle.states.proofs.lost_fault.Tie as tie
+use Rattle.lost_bits.proofs.lost_fault.Statement.{statement}
+use Rattle.lost_bits.proofs.lost_fault.Tie as tie
 
 returns : tie.Need-returns
 returns c = let a = c .before .before .args in lost-refused (a .disks) (a .lost) (c .before .bit-of .result) (c .before .bit-of .ensures) (c .if1 .taken)

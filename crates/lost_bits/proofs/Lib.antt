@@ -1,0 +1,2 @@
+-- Lost disks as the bits of a word.
+pub mod LostLaws
