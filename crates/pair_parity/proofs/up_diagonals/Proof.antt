@@ -11,9 +11,9 @@ use Rattle.liberation_stripes.specs.Stripes.{followed}
 use Rattle.liberation_pairs.specs.Pairs.{upDiagonals}
 use Rattle.stripes.proofs.OrdinaryLaws.{diagonal-own}
 use Rattle.liberation_stripes.proofs.SizedLaws.{sized-kept}
-use Rattle.pair_rebuild.proofs.UpLaws.{upRest, up-first, up-turn, up-last}
-use Rattle.pair_rebuild.proofs.up_diagonals.Statement.{statement}
-use Rattle.pair_rebuild.proofs.up_diagonals.Tie as tie
+use Rattle.pair_parity.proofs.UpLaws.{upRest, up-first, up-turn, up-last}
+use Rattle.pair_parity.proofs.up_diagonals.Statement.{statement}
+use Rattle.pair_parity.proofs.up_diagonals.Tie as tie
 
 abbrev Inv-loop : tie.InvT-loop
 Inv-loop width disks size disk stripe₀ i₀ stripe i =

@@ -1,9 +1,9 @@
 -- `goes_forward`: never from disk 0; else by the multiples of the gap.
 use mathlib.Core.Path.{sym, _∙_}
 use borrow.Author.Needs.{needs}
-use Rattle.pair_rebuild.proofs.RoleLaws.{forward-zero, forward-other}
-use Rattle.pair_rebuild.proofs.goes_forward.Statement.{statement}
-use Rattle.pair_rebuild.proofs.goes_forward.Tie as tie
+use Rattle.pair_data.proofs.RoleLaws.{forward-zero, forward-other}
+use Rattle.pair_data.proofs.goes_forward.Statement.{statement}
+use Rattle.pair_data.proofs.goes_forward.Tie as tie
 
 returns : tie.Need-returns
 returns c = let a = c .before .args in sym (forward-zero (a .width) (a .a) (a .b) (c .if1 .taken))

@@ -2,9 +2,9 @@
 use native.Mathlib.Omega.{arith}
 use borrow.Author.Needs.{needs}
 use Rattle.liberation_stripes.proofs.SizedLaws.{sized-kept}
-use Rattle.pair_rebuild.proofs.DiskLaws.{row-done}
-use Rattle.pair_rebuild.proofs.with_row_parity.Statement.{statement}
-use Rattle.pair_rebuild.proofs.with_row_parity.Tie as tie
+use Rattle.pair_parity.proofs.ParityLaws.{row-done}
+use Rattle.pair_parity.proofs.with_row_parity.Statement.{statement}
+use Rattle.pair_parity.proofs.with_row_parity.Tie as tie
 
 solve-rows-requires : tie.Need-solve-rows-requires
 solve-rows-requires c κs =

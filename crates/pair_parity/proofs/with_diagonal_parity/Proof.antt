@@ -1,8 +1,8 @@
 -- `with_diagonal_parity`: one disk after the other.
 use borrow.Author.Needs.{needs}
-use Rattle.pair_rebuild.proofs.DiskLaws.{diagonal-done}
-use Rattle.pair_rebuild.proofs.with_diagonal_parity.Statement.{statement}
-use Rattle.pair_rebuild.proofs.with_diagonal_parity.Tie as tie
+use Rattle.pair_parity.proofs.ParityLaws.{diagonal-done}
+use Rattle.pair_parity.proofs.with_diagonal_parity.Statement.{statement}
+use Rattle.pair_parity.proofs.with_diagonal_parity.Tie as tie
 
 returns : tie.Need-returns
 returns c =

@@ -8,9 +8,9 @@ use Rattle.laws.specs.Xor.{allBytes}
 use Rattle.xor.proofs.SourceLaws.{bytes-all}
 use Rattle.pair_start.specs.Disks.{Walked}
 use Rattle.pair_walk.proofs.WalkLaws.{walk-started}
-use Rattle.pair_rebuild.proofs.DiskLaws.{data-zero, sums-forward, sums-back, walked-forward, walked-back}
-use Rattle.pair_rebuild.proofs.solve_data.Statement.{statement}
-use Rattle.pair_rebuild.proofs.solve_data.Tie as tie
+use Rattle.pair_data.proofs.DataLaws.{data-zero, sums-forward, sums-back, walked-forward, walked-back}
+use Rattle.pair_data.proofs.solve_data.Statement.{statement}
+use Rattle.pair_data.proofs.solve_data.Tie as tie
 
 -- the lent stripe is bytes
 bytes : (c : tie.After-slice-known) → allBytes (c .before .args .stripe .now) ≡ true

@@ -5,9 +5,9 @@ use native.Mathlib.Omega.{arith}
 use native.Mathlib.Nat.{mod-lt}
 use borrow.Author.Needs.{needs}
 use Rattle.liberation_pairs.specs.Pairs.{comesToOne}
-use Rattle.pair_rebuild.proofs.RoleLaws.{one-found, one-turn, one-none}
-use Rattle.pair_rebuild.proofs.comes_to_one.Statement.{statement}
-use Rattle.pair_rebuild.proofs.comes_to_one.Tie as tie
+use Rattle.pair_data.proofs.RoleLaws.{one-found, one-turn, one-none}
+use Rattle.pair_data.proofs.comes_to_one.Statement.{statement}
+use Rattle.pair_data.proofs.comes_to_one.Tie as tie
 
 abbrev Inv-loop : tie.InvT-loop
 Inv-loop width gap left₀ at₀ left at = (at < width) × (comesToOne left width gap at ≡ comesToOne ((width - 1) / 2) width gap gap)
