@@ -1,40 +1,9 @@
 // A slice becomes the XOR of parts of another slice, block by block of 128 and 64 bytes, which stay in registers.
 ghost use mathlib.Core.Path.{_≡_};
-ghost use Prim.Native.Nat.{_+_, _-_, _≤_};
-ghost use lib.ListN.{length, drop};
-ghost use Rattle.xor.specs.Parts.{withPart, xorOffsets};
+ghost use Prim.Native.Nat.{_≤_};
+ghost use lib.ListN.{length};
+ghost use Rattle.xor.specs.Parts.{xorOffsets};
 ghost use Rattle.xor.specs.Reach.{Reached};
-
-// The 64 bytes of dst from b on = those of the XOR of the parts. The 64 is a literal at the call, so that the compiler keeps the block in registers.
-fn put_block(dst: &mut [u8], t: &[u8], at: &[usize], b: usize)
-    requires { ⌜ (b + 64 ≤ length (now dst)) × (b ≤ length (now t)) × Reached (length (now dst)) (length (now t)) (now at) ⌝ }
-    ensures { λ _. ⌜ now (dst .exit) ≡ withPart 64 b (xorOffsets 64 (drop b (now (t .entry))) (now (at .entry))) (now (dst .entry)) ⌝ }
-{
-    let e = b + 64;
-    let block = xor::block_of(&t[b..], at);
-    byte_slices::copy(&mut dst[b..e], &block[..64]);
-}
-
-// The same of 128 bytes.
-fn put_wide_block(dst: &mut [u8], t: &[u8], at: &[usize], b: usize)
-    requires { ⌜ (b + 128 ≤ length (now dst)) × (b ≤ length (now t)) × Reached (length (now dst)) (length (now t)) (now at) ⌝ }
-    ensures { λ _. ⌜ now (dst .exit) ≡ withPart 128 b (xorOffsets 128 (drop b (now (t .entry))) (now (at .entry))) (now (dst .entry)) ⌝ }
-{
-    let e = b + 128;
-    let block = xor::wide_block_of(&t[b..], at);
-    byte_slices::copy(&mut dst[b..e], &block[..128]);
-}
-
-// The bytes of dst from b on, at most 64, = those of the XOR of the parts.
-fn put_rest(dst: &mut [u8], t: &[u8], at: &[usize], b: usize)
-    requires { ⌜ (b ≤ length (now dst)) × (length (now dst) ≤ b + 64) × (b ≤ length (now t)) × Reached (length (now dst)) (length (now t)) (now at) ⌝ }
-    ensures { λ _. ⌜ now (dst .exit) ≡ withPart (length (now (dst .entry)) - b) b (xorOffsets (length (now (dst .entry)) - b) (drop b (now (t .entry))) (now (at .entry))) (now (dst .entry)) ⌝ }
-{
-    let n = dst.len();
-    let m = n - b;
-    let block = xor::rest_of(&t[b..], at, m);
-    byte_slices::copy(&mut dst[b..n], &block[..m]);
-}
 
 // dst = the XOR of the parts of t at the offsets, in blocks of 64 bytes.
 fn gather_small(dst: &mut [u8], t: &[u8], at: &[usize])
@@ -44,11 +13,11 @@ fn gather_small(dst: &mut [u8], t: &[u8], at: &[usize])
     let n = dst.len();
     let mut b = 0;
     while 64 <= n - b {
-        put_block(dst, t, at, b);
+        xor_blocks::put_block(dst, t, at, b);
         b += 64;
     }
     if b < n {
-        put_rest(dst, t, at, b);
+        xor_blocks::put_rest(dst, t, at, b);
     }
 }
 
@@ -60,7 +29,7 @@ fn gather_blocks(dst: &mut [u8], t: &[u8], at: &[usize])
     let n = dst.len();
     let mut b = 0;
     while 128 <= n - b {
-        put_wide_block(dst, t, at, b);
+        xor_blocks::put_wide_block(dst, t, at, b);
         b += 128;
     }
     gather_small(&mut dst[b..], &t[b..], at);

@@ -9,8 +9,8 @@ use borrow.Author.Needs.{needs}
 use Rattle.xor.specs.Parts.{xorOffsets}
 use Rattle.xor.proofs.StoreLaws.{part-long}
 use Rattle.xor.proofs.BlockLaws.{tail-is, reach-tail}
-use Rattle.xor_gather.proofs.put_rest.Statement.{statement}
-use Rattle.xor_gather.proofs.put_rest.Tie as tie
+use Rattle.xor_blocks.proofs.put_rest.Statement.{statement}
+use Rattle.xor_blocks.proofs.put_rest.Tie as tie
 
 rest-of-requires : tie.Need-rest-of-requires
 rest-of-requires c κs =
