@@ -3,7 +3,6 @@ use mathlib.Core.Path.{_≡_, refl, ap, ap₂, _∙_}
 use mathlib.Core.List.{List, _∷_}
 use Prim.Native.Nat.{ℕ, zero, suc, _-_, _≤_, _<_}
 use native.Mathlib.Omega.{arith}
-use lib.ListN.{set}
 use Rattle.liberation.specs.Sets.{place}
 use Rattle.liberation.specs.Plans.{diagonalOf}
 use Rattle.liberation_stripes.specs.Steps.{cellStep}

@@ -22,7 +22,7 @@ use Rattle.laws.proofs.Walks.{walk-long}
 use Rattle.offsets.proofs.KeptLaws.{cell-walk}
 use Rattle.offsets.proofs.OffsetLaws.{over-offsets}
 use Rattle.set_offsets.proofs.SetLists.{one-pushed, both-pushed, data-count}
-use Rattle.pair_sums.specs.Disks.{Lost}
+use Rattle.set_sums.specs.Disks.{Lost}
 use Rattle.stripes.proofs.OrdinaryLaws.{cells-beside}
 
 -- a set's cells on a lost disk: that of the row or the diagonal, and the extra cell if it is there

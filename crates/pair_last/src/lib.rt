@@ -1,14 +1,14 @@
 // The last steps of the walk from sums, over two lost data disks: a lost cell that holds the XOR of its set's surviving cells gets the set's other lost cells added.
 ghost use mathlib.Core.Path.{_≡_};
 ghost use mathlib.Core.List.{_∷_};
-ghost use Prim.Native.Nat.{_+_, _-_, _*_, _%_, _≤_, _<_};
+ghost use Prim.Native.Nat.{_≤_, _<_};
 ghost use lib.ListN.{length};
 ghost use Rattle.liberation.specs.Sets.{place, setOf, lostIn};
 ghost use Rattle.liberation_stripes.specs.Steps.{cellStep};
 ghost use Rattle.liberation_pairs.specs.PairSteps.{walkSteps};
 ghost use Rattle.liberation_sums.specs.Sums.{placed, added, addedAll};
 ghost use Rattle.offsets.specs.Offsets.{scaled, Pushed};
-ghost use Rattle.pair_sums.specs.Disks.{Lost};
+ghost use Rattle.set_sums.specs.Disks.{Lost};
 
 // The offsets of a set's cells on a lost disk, after the first `count` numbers; the new count.
 fn push_lost(

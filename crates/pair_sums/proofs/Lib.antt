@@ -1,3 +1,2 @@
--- The laws behind the functions: cells as lists, and the loop over the rows of the start.
-pub mod SumLists
-pub mod SumLoops
+-- The laws behind the functions: the start's cells.
+pub mod StartCells

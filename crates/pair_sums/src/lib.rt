@@ -1,64 +1,11 @@
 // The start of the walk from sums, over two lost data disks of which y is not disk 0: the surviving cells of the start's sets are summed into the lost cells that these sets give, and the first cell is the XOR of those.
 ghost use mathlib.Core.Path.{_≡_};
-ghost use mathlib.Core.Logic.{_⊎_};
-ghost use Prim.Native.Nat.{_+_, _-_, _*_, _/_, _%_, _≤_, _<_};
+ghost use Prim.Native.Nat.{_≤_, _<_};
 ghost use lib.ListN.{length};
-ghost use Rattle.liberation.specs.Sets.{place};
-ghost use Rattle.liberation_stripes.specs.Steps.{cellStep};
-ghost use Rattle.liberation_sums.specs.Sums.{summed, summedAll, startSteps, cellsOf, sumStarted};
+ghost use Rattle.liberation_sums.specs.Sums.{startSteps, cellsOf, sumStarted};
 ghost use Rattle.pair_start.specs.Disks.{Walked};
 ghost use Rattle.offsets.specs.Offsets.{scaled, Pushed};
-ghost use Rattle.pair_sums.specs.Disks.{Lost};
-
-// A lost cell becomes the XOR of the surviving cells of a set.
-fn sum_set(
-    width: usize,
-    disks: usize,
-    size: usize,
-    x: usize,
-    y: usize,
-    kind: usize,
-    number: usize,
-    disk: usize,
-    row: usize,
-    stripe: &mut [u8],
-    at: &mut [usize],
-)
-    requires { ⌜ Lost width disks size x y (now stripe) (now at) × (number < width) × (row < width) × ((disk ≡ x) ⊎ (disk ≡ y)) ⌝ }
-    ensures { λ _. ⌜ now (stripe .exit) ≡ summed width disks size x y (cellStep (place width row disk) kind number) (now (stripe .entry)) ⌝ }
-{
-    let low = set_offsets::least(x, y);
-    let n = set_offsets::surviving(width, disks, size, kind, number, low, x + y - low, at);
-    let to = (disk * width + row) * size;
-    xor_within_lists::gather_lists(stripe, to, size, &mut at[..n]);
-}
-
-// The row set and the diagonal set of each of `count` rows, from this row on, summed into the cells that they give.
-fn sum_sets(
-    count: usize,
-    width: usize,
-    disks: usize,
-    size: usize,
-    x: usize,
-    y: usize,
-    row: usize,
-    stripe: &mut [u8],
-    at: &mut [usize],
-)
-    requires { ⌜ Lost width disks size x y (now stripe) (now at) × (row < width) ⌝ }
-    ensures { λ _. ⌜ now (stripe .exit) ≡ summedAll width disks size x y (startSteps count width x y row) (now (stripe .entry)) ⌝ }
-{
-    let mut left = count;
-    let mut on = row;
-    while 0 < left {
-        sum_set(width, disks, size, x, y, 0, on, x, on, stripe, at);
-        let number = (on + width - x) % width;
-        let next = (number + y) % width;
-        sum_set(width, disks, size, x, y, 1, number, y, next, stripe, at);
-        on = next;
-        left -= 1;
-    }
-}
+ghost use Rattle.set_sums.specs.Disks.{Lost};
 
 // The offsets of the cells that the sets of `count` rows give, from this row on; their count.
 fn push_sums(
@@ -102,7 +49,7 @@ pub fn start_sums(
     let count = (width - 1) / 2;
     let from = pair_numbers::extra_row(width, y);
     let row = pair_numbers::extra_row(width, x);
-    sum_sets(count, width, disks, size, x, y, from, stripe, at);
+    set_sums::sum_sets(count, width, disks, size, x, y, from, stripe, at);
     let n = push_sums(count, width, size, x, y, from, at);
     let to = (y * width + row) * size;
     xor_within::gather_within(stripe, to, size, &at[..n]);

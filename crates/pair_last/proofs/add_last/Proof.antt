@@ -1,6 +1,6 @@
 -- `add_last`: the first of the last steps, then the others.
 use borrow.Author.Needs.{needs}
-use Rattle.pair_sums.proofs.SumLoops.{still-lost}
+use Rattle.set_sums.proofs.SumLoops.{still-lost}
 use Rattle.pair_last.proofs.AddLoops.{adds-first}
 use Rattle.pair_last.proofs.add_last.Statement.{statement}
 use Rattle.pair_last.proofs.add_last.Tie as tie

@@ -9,7 +9,7 @@ use Rattle.liberation.specs.Plans.{diagonalOf}
 use Rattle.liberation_pairs.specs.Pairs.{nextRow}
 use Rattle.liberation_pairs.specs.PairSteps.{walkSteps}
 use Rattle.liberation_sums.specs.Sums.{addedAll}
-use Rattle.pair_sums.proofs.SumLoops.{still-lost}
+use Rattle.set_sums.proofs.SumLoops.{still-lost}
 use Rattle.pair_last.proofs.AddLoops.{adds-turn, adds-last}
 use Rattle.pair_last.proofs.add_sets.Statement.{statement}
 use Rattle.pair_last.proofs.add_sets.Tie as tie

@@ -10,7 +10,7 @@ use Rattle.liberation.specs.Plans.{diagonalOf}
 use Rattle.liberation_pairs.specs.Pairs.{nextRow}
 use Rattle.liberation_sums.specs.Sums.{startSteps, cellsOf}
 use Rattle.offsets.specs.Offsets.{scaled}
-use Rattle.pair_sums.proofs.SumLoops.{cells-turn, cells-last}
+use Rattle.pair_sums.proofs.StartCells.{cells-turn, cells-last}
 use Rattle.pair_sums.proofs.push_sums.Statement.{statement}
 use Rattle.pair_sums.proofs.push_sums.Tie as tie
 

@@ -8,8 +8,9 @@ use lib.Seq.{length-take-le}
 use borrow.Author.Needs.{needs}
 use Rattle.liberation.specs.Sets.{place}
 use Rattle.xor_within.specs.Beside.{Beside}
-use Rattle.pair_sums.specs.Disks.{Lost}
-use Rattle.pair_sums.proofs.SumLoops.{still-lost, first-beside, first-done}
+use Rattle.set_sums.specs.Disks.{Lost}
+use Rattle.set_sums.proofs.SumLoops.{still-lost}
+use Rattle.pair_sums.proofs.StartCells.{first-beside, first-done}
 use Rattle.pair_sums.proofs.start_sums.Statement.{statement}
 use Rattle.pair_sums.proofs.start_sums.Tie as tie
 

@@ -1,4 +1,4 @@
--- The loop over the rows of the start: the rows still to come, summed in the stripe as it is, give what all rows give in the stripe as it was. The same of the list of the start's cells.
+-- The list of the start's cells, and the first cell from all of them.
 use mathlib.Core.Path.{_≡_, refl, sym, ap, ap₂, _∙_}
 use mathlib.Core.Bool.{true, _&&_}
 use mathlib.Core.List.{List, [], _∷_, _++_, append-assoc, append-nil}
@@ -14,42 +14,16 @@ use Rattle.liberation.specs.Sets.{place}
 use Rattle.liberation.specs.Plans.{extraRowOn, diagonalOf}
 use Rattle.liberation.proofs.SetLaws.{place-below}
 use Rattle.liberation_stripes.specs.Stripes.{cellAt, xorOver}
-use Rattle.liberation_stripes.specs.Steps.{cellStep}
 use Rattle.liberation_pairs.specs.Pairs.{nextRow}
-use Rattle.liberation_sums.specs.Sums.{summed, summedAll, startSteps, cellsOf, sumStarted}
+use Rattle.liberation_sums.specs.Sums.{summedAll, startSteps, cellsOf, sumStarted}
 use Rattle.xor.specs.Parts.{withPart, xorOffsets}
 use Rattle.xor_within.specs.Beside.{Beside}
 use Rattle.offsets.specs.Offsets.{scaled, Pushed}
 use Rattle.offsets.proofs.OffsetLaws.{length-scaled, over-offsets}
 use Rattle.offsets.proofs.PushLaws.{pushed-one, pushed-then}
-use Rattle.liberation_stripes.proofs.SizedLaws.{sized-kept}
-use Rattle.pair_sums.specs.Disks.{Lost}
+use Rattle.set_sums.specs.Disks.{Lost}
 use Rattle.stripes.proofs.OrdinaryLaws.{cells-beside}
 
--- a stripe and a list that are as long
-pub still-lost : {p k s x y : ℕ} {t₀ at₀ : List ℕ} (t at : List ℕ) → Lost p k s x y t₀ at₀ → length t ≡ length t₀ → length at ≡ length at₀ → Lost p k s x y t at
-still-lost t at q e f = record { sized = sized-kept _ _ _ _ t (q .sized) e; one = q .one; other = q .other; room = f ∙ q .room }
-
-module _ (p k s x y : ℕ) where
-  -- the row set and the diagonal set of row r were summed, which made v of t
-  pub sums-turn :
-      (n r : ℕ) (t u v : List ℕ) → 0 < n
-      → u ≡ summed p k s x y (cellStep (place p r x) 0 r) t
-      → v ≡ summed p k s x y (cellStep (place p (nextRow p x y r) y) 1 (diagonalOf p x r)) u
-      → summedAll p k s x y (startSteps (n - 1) p x y (nextRow p x y r)) v ≡ summedAll p k s x y (startSteps n p x y r) t
-  unfolding startSteps summedAll
-  sums-turn zero r t u v h e q = absurd (omega arith)
-  sums-turn (suc n) r t u v h e q =
-      let m : suc n - 1 ≡ n = omega arith in
-      ap₂ (λ (i : ℕ) (l : List ℕ). summedAll p k s x y (startSteps i p x y (nextRow p x y r)) l) m
-      (q ∙ ap (summed p k s x y (cellStep (place p (nextRow p x y r) y) 1 (diagonalOf p x r))) e)
-
-  pub sums-last : (n r : ℕ) (t : List ℕ) → n ≤ 0 → summedAll p k s x y (startSteps n p x y r) t ≡ t
-  unfolding startSteps summedAll
-  sums-last zero r t h = refl
-  sums-last (suc n) r t h = absurd (omega arith)
-
--- the start's cells
 module _ (p s x y : ℕ) where
   -- two for each row
   pub starts-long : (n r : ℕ) → length (cellsOf (startSteps n p x y r)) ≡ 2 * n

@@ -9,9 +9,9 @@ use borrow.Author.Needs.{needs}
 use Rattle.liberation.specs.Plans.{diagonalOf}
 use Rattle.liberation_pairs.specs.Pairs.{nextRow}
 use Rattle.liberation_sums.specs.Sums.{summedAll, startSteps}
-use Rattle.pair_sums.proofs.SumLoops.{still-lost, sums-turn, sums-last}
-use Rattle.pair_sums.proofs.sum_sets.Statement.{statement}
-use Rattle.pair_sums.proofs.sum_sets.Tie as tie
+use Rattle.set_sums.proofs.SumLoops.{still-lost, sums-turn, sums-last}
+use Rattle.set_sums.proofs.sum_sets.Statement.{statement}
+use Rattle.set_sums.proofs.sum_sets.Tie as tie
 
 abbrev Inv-loop : tie.InvT-loop
 Inv-loop count width disks size x y row stripe₀ at₀ left₀ on₀ stripe at left on = (on < width) × (length stripe ≡ length stripe₀) × (length at ≡ length at₀) × (summedAll width disks size x y (startSteps left width x y on) stripe ≡ summedAll width disks size x y (startSteps count width x y row) stripe₀)

@@ -5,7 +5,7 @@ use mathlib.Core.Logic.{_⊎_, ⊎-elim}
 use mathlib.Core.List.{List}
 use Prim.Native.Nat.{ℕ, _+_, _-_, _*_, _≤_, _<_}
 use native.Mathlib.Omega.{arith}
-use lib.ListN.{length, set, take}
+use lib.ListN.{length, take}
 use Rattle.laws.specs.Lists.{isIn}
 use Rattle.laws.proofs.Flags.{clash, flag}
 use Rattle.laws.proofs.OrderLaws.{lt-or-le}
@@ -23,7 +23,7 @@ use Rattle.offsets.proofs.OffsetLaws.{length-scaled, over-offsets}
 use Rattle.set_offsets.specs.Cells.{survivors}
 use Rattle.set_offsets.proofs.SetLists.{survivors-swap, survivors-below}
 use Rattle.stripes.proofs.OrdinaryLaws.{apart-from}
-use Rattle.pair_sums.specs.Disks.{Lost}
+use Rattle.set_sums.specs.Disks.{Lost}
 
 -- the two disks in order: l is the smaller one
 module _ (p x y l : ℕ) (e : l ≡ y - (y - x)) where

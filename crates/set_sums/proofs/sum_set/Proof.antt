@@ -12,9 +12,9 @@ use Rattle.liberation.specs.Sets.{place, setOf}
 use Rattle.offsets.specs.Offsets.{scaled, Pushed}
 use Rattle.set_offsets.specs.Cells.{survivors}
 use Rattle.xor_within.specs.Beside.{Apart}
-use Rattle.pair_sums.proofs.SumLists.{in-order, ordered-survivors, sum-apart, sum-done}
-use Rattle.pair_sums.proofs.sum_set.Statement.{statement}
-use Rattle.pair_sums.proofs.sum_set.Tie as tie
+use Rattle.set_sums.proofs.SumLists.{in-order, ordered-survivors, sum-apart, sum-done}
+use Rattle.set_sums.proofs.sum_set.Statement.{statement}
+use Rattle.set_sums.proofs.sum_set.Tie as tie
 
 sub-surviving : tie.Need-sub-surviving
 sub-surviving c = let a = c .before .before .before .args in omega (arith, in-order (a .width) (a .x) (a .y) (c .least .result) (c .least .ensures) .1)

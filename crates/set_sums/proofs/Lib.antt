@@ -1,0 +1,3 @@
+-- The laws behind the functions: cells as lists, and the loop over rows.
+pub mod SumLists
+pub mod SumLoops
