@@ -1,3 +1,2 @@
--- The laws behind the functions: a set's lost cells as lists, and the loop over the rows of the last steps.
-pub mod LostLists
+-- The laws behind the functions: the loop over the rows of the last steps.
 pub mod AddLoops

@@ -1,65 +1,12 @@
 // The last steps of the walk from sums, over two lost data disks: a lost cell that holds the XOR of its set's surviving cells gets the set's other lost cells added.
 ghost use mathlib.Core.Path.{_≡_};
 ghost use mathlib.Core.List.{_∷_};
-ghost use Prim.Native.Nat.{_≤_, _<_};
-ghost use lib.ListN.{length};
-ghost use Rattle.liberation.specs.Sets.{place, setOf, lostIn};
+ghost use Prim.Native.Nat.{_<_};
+ghost use Rattle.liberation.specs.Sets.{place};
 ghost use Rattle.liberation_stripes.specs.Steps.{cellStep};
 ghost use Rattle.liberation_pairs.specs.PairSteps.{walkSteps};
-ghost use Rattle.liberation_sums.specs.Sums.{placed, added, addedAll};
-ghost use Rattle.offsets.specs.Offsets.{scaled, Pushed};
+ghost use Rattle.liberation_sums.specs.Sums.{addedAll};
 ghost use Rattle.set_sums.specs.Disks.{Lost};
-
-// The offsets of a set's cells on a lost disk, after the first `count` numbers; the new count.
-fn push_lost(
-    width: usize,
-    disks: usize,
-    size: usize,
-    kind: usize,
-    number: usize,
-    disk: usize,
-    at: &mut [usize],
-    count: usize,
-) -> usize
-    requires { ⌜ (width ≤ 31) × (disks ≤ width) × (size ≤ 4096) × (number < width) × (disk < disks) × (count ≤ 2) × (length (now at) ≡ 33) ⌝ }
-    ensures { λ r. ⌜ Pushed (now (at .entry)) (now (at .exit)) count r (scaled size (placed width disk (lostIn width disk (setOf width disks kind number)))) ⌝ }
-{
-    let n = offsets::push(width, size, kind, number, disk, disk + 1, at, count);
-    if kind == 0 {
-        return n;
-    }
-    if number == 0 {
-        return n;
-    }
-    if sets::extra_disk(width, number) == disk {
-        at[n] = (disk * width + (width - 1 - number)) * size;
-        return n + 1;
-    }
-    n
-}
-
-// A lost cell becomes the XOR of the lost cells of a set, of which it is one.
-fn add_set(
-    width: usize,
-    disks: usize,
-    size: usize,
-    x: usize,
-    y: usize,
-    kind: usize,
-    number: usize,
-    disk: usize,
-    row: usize,
-    stripe: &mut [u8],
-    at: &mut [usize],
-)
-    requires { ⌜ Lost width disks size x y (now stripe) (now at) × (number < width) × (row < width) × (disk < disks) ⌝ }
-    ensures { λ _. ⌜ now (stripe .exit) ≡ added width disks size x y (cellStep (place width row disk) kind number) (now (stripe .entry)) ⌝ }
-{
-    let n = push_lost(width, disks, size, kind, number, x, at, 0);
-    let m = push_lost(width, disks, size, kind, number, y, at, n);
-    let to = (disk * width + row) * size;
-    xor_within::gather_within(stripe, to, size, &at[..m]);
-}
 
 // The diagonal set and the row set of each of `count` rows after this row, added into the cells that they give.
 fn add_sets(
@@ -81,8 +28,8 @@ fn add_sets(
     while 0 < left {
         let number = (on + width - x) % width;
         on = (number + y) % width;
-        add_set(width, disks, size, x, y, 1, number, y, on, stripe, at);
-        add_set(width, disks, size, x, y, 0, on, x, on, stripe, at);
+        lost_sums::add_set(width, disks, size, x, y, 1, number, y, on, stripe, at);
+        lost_sums::add_set(width, disks, size, x, y, 0, on, x, on, stripe, at);
         left -= 1;
     }
 }
@@ -102,6 +49,6 @@ pub fn add_last(
     requires { ⌜ Lost width disks size x y (now stripe) (now at) × (row < width) ⌝ }
     ensures { λ _. ⌜ now (stripe .exit) ≡ addedAll width disks size x y (cellStep (place width row x) 0 row ∷ walkSteps count width x y row) (now (stripe .entry)) ⌝ }
 {
-    add_set(width, disks, size, x, y, 0, row, x, row, stripe, at);
+    lost_sums::add_set(width, disks, size, x, y, 0, row, x, row, stripe, at);
     add_sets(count, width, disks, size, x, y, row, stripe, at);
 }

@@ -12,9 +12,9 @@ use Rattle.xor_within.specs.Beside.{Beside}
 use Rattle.offsets.specs.Offsets.{scaled, Pushed}
 use Rattle.offsets.proofs.OffsetLaws.{length-scaled}
 use Rattle.set_offsets.proofs.SetLists.{both-pushed}
-use Rattle.pair_last.proofs.LostLists.{lost-few, add-beside, add-done}
-use Rattle.pair_last.proofs.add_set.Statement.{statement}
-use Rattle.pair_last.proofs.add_set.Tie as tie
+use Rattle.lost_sums.proofs.LostLists.{lost-few, add-beside, add-done}
+use Rattle.lost_sums.proofs.add_set.Statement.{statement}
+use Rattle.lost_sums.proofs.add_set.Tie as tie
 
 push-lost-requires : tie.Need-push-lost-requires
 push-lost-requires c κs =

@@ -5,9 +5,9 @@ use native.Mathlib.Nat.{mul-le-mul}
 use native.Mathlib.Omega.{arith}
 use lib.ListN.{length}
 use borrow.Author.Needs.{needs}
-use Rattle.pair_last.proofs.LostLists.{row-listed, first-listed, other-listed, extra-listed, one-more}
-use Rattle.pair_last.proofs.push_lost.Statement.{statement}
-use Rattle.pair_last.proofs.push_lost.Tie as tie
+use Rattle.lost_sums.proofs.LostLists.{row-listed, first-listed, other-listed, extra-listed, one-more}
+use Rattle.lost_sums.proofs.push_lost.Statement.{statement}
+use Rattle.lost_sums.proofs.push_lost.Tie as tie
 
 returns : tie.Need-returns
 returns c =

@@ -1,0 +1,2 @@
+-- The laws behind the functions: a set's lost cells as lists.
+pub mod LostLists
