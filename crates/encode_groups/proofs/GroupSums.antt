@@ -1,7 +1,7 @@
 -- One set's parity cell with the group added, and the sums group after group: the XOR over the data cells below lo, XOR that over the group's, is the XOR over those below hi. Once all data disks are added the set is clean.
 use mathlib.Core.Path.{_≡_, refl, sym, ap, ap₂, _∙_}
 use mathlib.Core.Bool.{Bool, true, false, false≢true}
-use mathlib.Core.Logic.{_⊎_, ⊎-elim}
+use mathlib.Core.Logic.{⊎-elim}
 use mathlib.Core.List.{List, [], _∷_, _++_}
 use Prim.Native.Nat.{ℕ, suc, _+_, _-_, _*_, _≤_, _<_}
 use native.Mathlib.Omega.{arith}
@@ -24,8 +24,10 @@ use Rattle.liberation_stripes.proofs.Solving.{SetZero, cells-long}
 use Rattle.offsets.specs.Offsets.{cellsFrom}
 use Rattle.set_offsets.specs.Cells.{parityDisk, extraIn}
 use Rattle.set_offsets.proofs.SetLists.{ordinary-split, set-split}
-use Rattle.group_sets.specs.Groups.{extraBetween, groupCells, parityCell, groupSources, groupSum, addedSet}
-use Rattle.group_sets.proofs.GroupLists.{extra-from, cells-below, extra-below, group-below, parity-below, sources-below, cells-in-two}
+use Rattle.group_offsets.specs.Extras.{extraBetween}
+use Rattle.group_offsets.proofs.ExtraLists.{extra-from}
+use Rattle.group_sets.specs.Groups.{groupCells, parityCell, groupSources, groupSum, addedSet}
+use Rattle.group_sets.proofs.GroupLists.{cells-below, extra-below, group-below, parity-below, sources-below, cells-in-two}
 
 -- every data cell of u is that of t
 abbrev pub DataSame : ℕ → ℕ → ℕ → List ℕ → List ℕ → Type 0

@@ -7,7 +7,7 @@ use Prim.Native.Nat.{ℕ, zero, suc, _+_, _-_, _*_, _≤_, _<_}
 use native.Mathlib.Omega.{arith}
 use lib.Dec.{eqb, ltb, leb}
 use lib.ListN.{length, take}
-use borrow.Author.Tests.{ltb-true, lt-ltb, le-ltb, le-leb, lt-leb}
+use borrow.Author.Tests.{ltb-true, lt-ltb, le-ltb}
 use Rattle.laws.specs.Choice.{pick}
 use Rattle.laws.specs.Lists.{allBelow}
 use Rattle.laws.proofs.Flags.{and-i}
@@ -24,7 +24,9 @@ use Rattle.offsets.proofs.OffsetLaws.{over-offsets}
 use Rattle.set_offsets.specs.Cells.{parityDisk, extraIn}
 use Rattle.set_offsets.proofs.SetLists.{extra-row, parity-most, none-pushed, both-pushed}
 use Rattle.stripes.proofs.OrdinaryLaws.{cells-beside}
-use Rattle.group_sets.specs.Groups.{extraBetween, groupCells, parityCell, groupSources, groupSum, addedSet, Group}
+use Rattle.group_offsets.specs.Extras.{extraBetween}
+use Rattle.group_offsets.proofs.ExtraLists.{extra-before, extra-from, extra-none}
+use Rattle.group_sets.specs.Groups.{groupCells, parityCell, groupSources, groupSum, addedSet, Group}
 
 -- a walk in two parts
 walk-add : {f : ℕ → ℕ} {l : ℕ → ℕ → List ℕ} → Walk f l → (m n c : ℕ) → l (m + n) c ≡ l m c ++ l n (c + m)
@@ -40,21 +42,8 @@ walk-add {f} {l} w (suc m) n c =
     ∙ ap (λ (xs : List ℕ). f c ∷ xs) (walk-add w m n (suc c) ∙ ap (λ (d : ℕ). l m (suc c) ++ l n d) q)
     ∙ ap (λ (xs : List ℕ). xs ++ l n (c + suc m)) (sym (w .next m c))
 
--- the extra cell: on a disk of the group, or before it, or none
+-- the extra cell, as its disk is below n or not
 module _ (p kind i : ℕ) where
-  pub extra-before : (lo hi : ℕ) → extraDisk p i < lo → extraBetween p lo hi kind i ≡ []
-  extra-before lo hi h = ap (λ (b : Bool). pick b (extraIn p hi kind i) []) (lt-leb lo (extraDisk p i) h)
-
-  pub extra-from : (lo hi : ℕ) → lo ≤ extraDisk p i → extraBetween p lo hi kind i ≡ extraIn p hi kind i
-  extra-from lo hi h = ap (λ (b : Bool). pick b (extraIn p hi kind i) []) (le-leb lo (extraDisk p i) h)
-
-  pub extra-none : (lo hi : ℕ) → extraIn p hi kind i ≡ [] → extraBetween p lo hi kind i ≡ []
-  extra-none lo hi e = ap (λ (l : List ℕ). pick (leb lo (extraDisk p i)) l []) e ∙ go (leb lo (extraDisk p i))
-    where
-      go : (b : Bool) → _≡_ {A = List ℕ} (pick b [] []) []
-      go true = refl
-      go false = refl
-
   extra-as : (n : ℕ) (b : Bool) → ltb (extraDisk p i) n ≡ b → extraIn p n kind i ≡ pick (eqb kind 0) [] (pick (leb 1 i && b) (extraOf p i ∷ []) [])
   extra-as n b e = ap (λ (c : Bool). pick (eqb kind 0) [] (pick (leb 1 i && c) (extraOf p i ∷ []) [])) e
 
@@ -68,17 +57,17 @@ module _ (p kind i : ℕ) where
 
   -- of the disks below lo and the group's it is on one
   extra-split : (lo hi : ℕ) → lo ≤ hi → extraBetween p 0 hi kind i ≡ extraBetween p 0 lo kind i ++ extraBetween p lo hi kind i
-  extra-split lo hi h = extra-from 0 hi (omega arith) ∙ ⊎-elim before here (lt-or-le (extraDisk p i) lo) ∙ ap (λ (l : List ℕ). l ++ extraBetween p lo hi kind i) (sym (extra-from 0 lo (omega arith)))
+  extra-split lo hi h = extra-from p kind i 0 hi (omega arith) ∙ ⊎-elim before here (lt-or-le (extraDisk p i) lo) ∙ ap (λ (l : List ℕ). l ++ extraBetween p lo hi kind i) (sym (extra-from p kind i 0 lo (omega arith)))
     where
       before : extraDisk p i < lo → extraIn p hi kind i ≡ extraIn p lo kind i ++ extraBetween p lo hi kind i
       before l =
           extra-as hi true (lt-ltb (extraDisk p i) hi (omega arith))
           ∙ sym (extra-as lo true (lt-ltb (extraDisk p i) lo l))
           ∙ sym (append-nil (extraIn p lo kind i))
-          ∙ ap (λ (xs : List ℕ). extraIn p lo kind i ++ xs) (sym (extra-before lo hi l))
+          ∙ ap (λ (xs : List ℕ). extraIn p lo kind i ++ xs) (sym (extra-before p kind i lo hi l))
 
       here : lo ≤ extraDisk p i → extraIn p hi kind i ≡ extraIn p lo kind i ++ extraBetween p lo hi kind i
-      here l = ap₂ (λ (xs ys : List ℕ). xs ++ ys) (sym (extra-past lo l)) (sym (extra-from lo hi l))
+      here l = ap₂ (λ (xs ys : List ℕ). xs ++ ys) (sym (extra-past lo l)) (sym (extra-from p kind i lo hi l))
 
   cells-split : (lo hi : ℕ) → lo ≤ hi → cellsFrom kind (hi - 0) p i 0 ≡ cellsFrom kind (lo - 0) p i 0 ++ cellsFrom kind (hi - lo) p i lo
   cells-split lo hi h =

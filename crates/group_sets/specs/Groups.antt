@@ -1,19 +1,16 @@
 -- Parity sums by groups of data disks lo to hi - 1: the cells that a group adds to a set's sum, and the stripe once they are added.
 use mathlib.Core.Path.{_≡_}
 use mathlib.Core.List.{List, [], _∷_, _++_}
-use Prim.Native.Nat.{ℕ, _+_, _-_, _*_, _≤_, _<_}
-use lib.Dec.{eqb, leb}
+use Prim.Native.Nat.{ℕ, _-_, _≤_}
+use lib.Dec.{eqb}
 use lib.ListN.{length}
 use Rattle.laws.specs.Choice.{pick}
-use Rattle.liberation.specs.Sets.{place, extraDisk}
+use Rattle.liberation.specs.Sets.{place}
 use Rattle.liberation_stripes.specs.Stripes.{cellAt, withCell, xorOver}
 use Rattle.offsets.specs.Offsets.{cellsFrom}
-use Rattle.set_offsets.specs.Cells.{parityDisk, extraIn}
+use Rattle.set_offsets.specs.Cells.{parityDisk}
 use Rattle.liberation_stripes.specs.Limits.{Sized}
-
--- a set's extra cell, if it has one on disks lo to hi - 1
-abbrev pub extraBetween : ℕ → ℕ → ℕ → ℕ → ℕ → List ℕ
-extraBetween p lo hi kind i = pick (leb lo (extraDisk p i)) (extraIn p hi kind i) []
+use Rattle.group_offsets.specs.Extras.{extraBetween}
 
 -- a set's data cells on disks lo to hi - 1; from disk 0 on they are its data cells below hi
 unfoldable pub groupCells : ℕ → ℕ → ℕ → ℕ → ℕ → List ℕ

@@ -7,9 +7,9 @@ use native.Mathlib.Omega.{arith}
 use borrow.Author.Needs.{needs}
 use Rattle.liberation.specs.Sets.{place, extraRow}
 use Rattle.set_offsets.proofs.SetLists.{extra-first, extra-absent, extra-some, none-pushed, one-pushed}
-use Rattle.group_sets.proofs.GroupLists.{extra-before, extra-from, extra-none}
-use Rattle.group_sets.proofs.push_extra.Statement.{statement}
-use Rattle.group_sets.proofs.push_extra.Tie as tie
+use Rattle.group_offsets.proofs.ExtraLists.{extra-before, extra-from, extra-none}
+use Rattle.group_offsets.proofs.push_extra.Statement.{statement}
+use Rattle.group_offsets.proofs.push_extra.Tie as tie
 
 returns : tie.Need-returns
 returns c =

@@ -9,8 +9,8 @@ use borrow.Author.Tests.{eq-eqb, ne-eqb}
 use Rattle.laws.specs.Choice.{pick}
 use Rattle.offsets.specs.Offsets.{Pushed}
 use Rattle.offsets.proofs.PushLaws.{pushed-none, pushed-one}
-use Rattle.group_sets.proofs.push_own.Statement.{statement}
-use Rattle.group_sets.proofs.push_own.Tie as tie
+use Rattle.group_offsets.proofs.push_own.Statement.{statement}
+use Rattle.group_offsets.proofs.push_own.Tie as tie
 
 returns : tie.Need-returns
 returns c =

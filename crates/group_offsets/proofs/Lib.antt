@@ -1,0 +1,2 @@
+-- The extra cell of a set in a group as a list.
+pub mod ExtraLists

@@ -1,0 +1,2 @@
+-- What pushing the offsets of a group promises.
+pub mod Extras
