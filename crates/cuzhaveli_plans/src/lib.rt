@@ -4,7 +4,7 @@ ghost use Rattle.planner.specs.Says.{PlanSays, ListSays};
 ghost use Rattle.judge.specs.Says.{JudgeSays};
 ghost use Rattle.plan_files.specs.Says.{JudgeTextSays, WriteSays, PlainSays};
 ghost use Rattle.plan_text.specs.Says.{TextSays};
-use judge::Judged;
+use judge_steps::Judged;
 use plan_files::Written;
 use plan_text::Text;
 use planner::Plan;

@@ -23,7 +23,7 @@ use Rattle.refusals.specs.declared.Answer.{Answer}
 use Rattle.planner.specs.Says.{PlanSays, readListFault, ListSays}
 use Rattle.planner.proofs.FormLaws.{formOf, length-of, plan-form}
 use Rattle.planner.proofs.MeansLaws.{plan-means}
-use Rattle.judge.specs.declared.Judged.{Judged}
+use Rattle.judge_steps.specs.declared.Judged.{Judged}
 use Rattle.judge.specs.Says.{JudgeSays}
 use Rattle.judge.proofs.AcceptLaws.{Acceptable, zero-accepts, accepts-zero, zero-counts}
 

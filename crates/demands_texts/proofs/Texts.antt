@@ -18,10 +18,10 @@ use Rattle.liberation.specs.Plans.{Step, readCount}
 use Rattle.liberation.specs.Judging.{judge, stepsIn, accepted}
 use Rattle.liberation.proofs.Widths.{width-most}
 use Rattle.liberation.proofs.FaultLaws.{plan-of, long-of, long-accepted}
-use Rattle.judge.specs.declared.Judged.{Judged}
+use Rattle.judge_steps.specs.declared.Judged.{Judged}
 use Rattle.judge.specs.Says.{formFault, JudgeSays}
 use Rattle.judge.proofs.AcceptLaws.{steps-long}
-use Rattle.judge.proofs.JudgingLoop.{judge-most}
+use Rattle.judge_steps.proofs.JudgingLoop.{judge-most}
 use Rattle.liberation_texts.specs.Form.{PlanText}
 use Rattle.liberation_texts.specs.Reading.{readable, stepsRead}
 use Rattle.liberation_texts.specs.Plain.{plain}

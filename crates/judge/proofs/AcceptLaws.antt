@@ -14,7 +14,7 @@ use Rattle.liberation.specs.Sets.{planFault, longFault}
 use Rattle.liberation.specs.Plans.{readCount}
 use Rattle.liberation.specs.Judging.{judge, stepsIn, accepted}
 use Rattle.liberation.proofs.FaultLaws.{plan-of, plan-none, long-accepted, long-of}
-use Rattle.judge.specs.declared.Judged.{Judged}
+use Rattle.judge_steps.specs.declared.Judged.{Judged}
 use Rattle.judge.specs.Says.{formFault, JudgeSays}
 
 -- the bytes bs are an accepted plan for lost disk f

@@ -9,8 +9,9 @@ use Rattle.liberation.specs.Plans.{readCount}
 use Rattle.liberation.specs.Judging.{judge, stepsIn}
 use Rattle.refusals.specs.declared.Answer.{Answer}
 use Rattle.refusals.specs.Answers.{Answers}
-use Rattle.judge.specs.declared.Judged.{Judged}
-use Rattle.judge.specs.Says.{formFault, judgeFault, JudgeSays, StepsSay}
+use Rattle.judge_steps.specs.declared.Judged.{Judged}
+use Rattle.judge_steps.specs.Says.{StepsSay}
+use Rattle.judge.specs.Says.{formFault, judgeFault, JudgeSays}
 
 -- refused before any step
 pub form-refused : (p k f n : ℕ) (bs : List ℕ) → n ≡ formFault p k f bs → (n ≡ 0 → ⊥) → (a : Answer) → Answers n a → JudgeSays p k f bs (record { answer = a; reads = 0 })

@@ -7,7 +7,7 @@ use Rattle.laws.specs.Choice.{pick, firstOf}
 use Rattle.liberation.specs.Sets.{planFault, longFault}
 use Rattle.liberation.specs.Plans.{readCount}
 use Rattle.liberation.specs.Judging.{judge, stepsIn}
-use Rattle.judge.specs.declared.Judged.{Judged}
+use Rattle.judge_steps.specs.declared.Judged.{Judged}
 
 -- refusals before any step is looked at
 abbrev pub formFault : ℕ → ℕ → ℕ → List ℕ → ℕ
@@ -22,9 +22,3 @@ pub record JudgeSays (p k f : ℕ) (bs : List ℕ) (r : Judged) : Type 0 where
   pub refusal : r .answer .refusal ≡ judgeFault p k f bs
   pub place : r .answer .place ≡ pick (eqb (formFault p k f bs) 0) (judge p k f (stepsIn p bs) .place) 0
   pub reads : r .reads ≡ pick (eqb (judgeFault p k f bs) 0) (readCount p k f (stepsIn p bs)) 0
-
--- the same for a plan of the right form: refusals 6 to 9, or the read count
-pub record StepsSay (p k f : ℕ) (bs : List ℕ) (r : Judged) : Type 0 where
-  pub refusal : r .answer .refusal ≡ judge p k f (stepsIn p bs) .number
-  pub place : r .answer .place ≡ judge p k f (stepsIn p bs) .place
-  pub reads : r .reads ≡ pick (eqb (judge p k f (stepsIn p bs) .number) 0) (readCount p k f (stepsIn p bs)) 0

@@ -16,7 +16,7 @@ use Rattle.liberation.specs.Plans.{Step, readCount}
 use Rattle.liberation.specs.Judging.{judge, stepsIn, accepted}
 use Rattle.liberation.proofs.FaultLaws.{plan-of, long-accepted}
 use Rattle.refusals.specs.Answers.{Answers}
-use Rattle.judge.specs.declared.Judged.{Judged}
+use Rattle.judge_steps.specs.declared.Judged.{Judged}
 use Rattle.judge.specs.Says.{formFault, JudgeSays}
 use Rattle.judge.proofs.AcceptLaws.{steps-long}
 use Rattle.text.specs.Writing.{Wrote}

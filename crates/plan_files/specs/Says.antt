@@ -10,7 +10,7 @@ use Rattle.liberation.specs.Sets.{planFault, longFault}
 use Rattle.liberation.specs.Plans.{Step, readCount}
 use Rattle.liberation.specs.Judging.{judge, stepsIn}
 use Rattle.refusals.specs.Answers.{Answers}
-use Rattle.judge.specs.declared.Judged.{Judged}
+use Rattle.judge_steps.specs.declared.Judged.{Judged}
 use Rattle.liberation_texts.specs.Reading.{readable, stepsRead}
 use Rattle.liberation_texts.specs.Plain.{plain}
 use Rattle.plan_files.specs.declared.Written.{Written}

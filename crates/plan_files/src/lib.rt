@@ -8,7 +8,7 @@ ghost use Rattle.laws.specs.Choice.{when, firstOf};
 ghost use Rattle.liberation.specs.Sets.{planFault};
 ghost use Rattle.liberation.specs.Judging.{stepsIn};
 ghost use Rattle.plan_files.specs.Says.{Refuses, Writes, JudgeTextSays, WriteSays, PlainSays};
-use judge::Judged;
+use judge_steps::Judged;
 use refusals::Answer;
 
 // The answer, and the length of the text that was written.

@@ -10,7 +10,7 @@ use borrow.Author.Tests.{ltb-true}
 use Rattle.laws.proofs.Flags.{and-l, and-r}
 use Rattle.liberation.specs.Plans.{Step}
 use Rattle.liberation.specs.Judging.{stepsIn}
-use Rattle.judge.proofs.JudgingLoop.{stepsFrom, BytesOf, steps-next}
+use Rattle.judge_steps.proofs.JudgingLoop.{stepsFrom, BytesOf, steps-next}
 use Rattle.text.specs.Writing.{Wrote}
 use Rattle.text.proofs.WriteLaws.{wrote-none, wrote-more}
 use Rattle.text_steps.specs.Fields.{stepFields}

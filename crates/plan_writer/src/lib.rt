@@ -15,9 +15,9 @@ fn put_lines(out: &mut [u8], at: usize, width: usize, plan: &[u8]) -> usize
     let mut next = at;
     let mut i = 0;
     while i < width {
-        let row = judge::wide(plan[3 * i]);
-        let kind = judge::wide(plan[3 * i + 1]);
-        let number = judge::wide(plan[3 * i + 2]);
+        let row = judge_steps::wide(plan[3 * i]);
+        let kind = judge_steps::wide(plan[3 * i + 1]);
+        let number = judge_steps::wide(plan[3 * i + 2]);
         next = text_steps::put_step(out, next, row, kind, number, 10);
         i += 1;
     }

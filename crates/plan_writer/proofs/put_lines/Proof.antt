@@ -3,7 +3,7 @@ use Prim.Native.Nat.{_-_}
 use native.Mathlib.Omega.{arith}
 use borrow.Author.Needs.{needs}
 use Rattle.liberation.specs.Plans.{step}
-use Rattle.judge.proofs.JudgingLoop.{BytesOf}
+use Rattle.judge_steps.proofs.JudgingLoop.{BytesOf}
 use Rattle.text.proofs.WriteLaws.{wrote-long}
 use Rattle.plan_writer.proofs.PlainLoop.{Halfway, halfway-start, two-digits, halfway-turn, halfway-end}
 use Rattle.plan_writer.proofs.put_lines.Statement.{statement}

@@ -7,9 +7,9 @@ use lib.ListN.{length, set, replicate}
 use borrow.Author.Needs.{needs}
 use Rattle.liberation.specs.Plans.{Step, step, marksFrom}
 use Rattle.liberation.proofs.MarkLists.{length-marks}
-use Rattle.judge.proofs.JudgingLoop.{InForm, BytesOf, Halfway, halfway-start, halfway-long, halfway-form, halfway-turn, halfway-refused, halfway-end}
-use Rattle.judge.proofs.judge_steps.Statement.{statement}
-use Rattle.judge.proofs.judge_steps.Tie as tie
+use Rattle.judge_steps.proofs.JudgingLoop.{InForm, BytesOf, Halfway, halfway-start, halfway-long, halfway-form, halfway-turn, halfway-refused, halfway-end}
+use Rattle.judge_steps.proofs.judge_steps.Statement.{statement}
+use Rattle.judge_steps.proofs.judge_steps.Tie as tie
 
 abbrev Inv-loop : tie.InvT-loop
 Inv-loop width disks lost plan marks₀ done₀ reads₀ i₀ marks done reads i = Halfway width disks lost plan done marks reads i

@@ -25,7 +25,7 @@ use Rattle.liberation.proofs.MarkLists.{length-marks, mark-set}
 use Rattle.refusals.specs.declared.Answer.{Answer}
 use Rattle.refusals.specs.Answers.{Answers}
 use Rattle.judge_step.proofs.StepRefusals.{outOfForm}
-use Rattle.judge.specs.Says.{StepsSay}
+use Rattle.judge_steps.specs.Says.{StepsSay}
 
 -- a step that is not refused is in form
 pub record InForm (p : ℕ) (s : Step) : Type 0 where

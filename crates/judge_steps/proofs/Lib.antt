@@ -1,0 +1,2 @@
+-- The loop over the steps.
+pub mod JudgingLoop

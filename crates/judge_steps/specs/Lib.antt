@@ -1,0 +1,2 @@
+-- What the judge of the steps promises.
+pub mod Says
