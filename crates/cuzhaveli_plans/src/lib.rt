@@ -1,6 +1,7 @@
 // The calls on plans for C and Rust: each hands its numbers and slices on to the proved call and promises what that call promises.
 // Widths, disks, sizes and lengths come in as `usize`, so nothing is narrowed before it is tested.
-ghost use Rattle.planner.specs.Says.{PlanSays, ListSays};
+ghost use Rattle.planner.specs.Says.{PlanSays};
+ghost use Rattle.read_list.specs.Says.{ListSays};
 ghost use Rattle.judge.specs.Says.{JudgeSays};
 ghost use Rattle.plan_files.specs.Says.{JudgeTextSays, WriteSays, PlainSays};
 ghost use Rattle.plan_text.specs.Says.{TextSays};
@@ -28,7 +29,7 @@ pub extern "C" fn cuzhaveli_read_list(
 ) -> Answer
     ensures { λ r. ⌜ ListSays width disks lost (now (list .entry)) (now (list .exit)) r ⌝ }
 {
-    planner::read_list(width, disks, lost, list)
+    read_list::read_list(width, disks, lost, list)
 }
 
 // The judge of a plan of 3 × p bytes.

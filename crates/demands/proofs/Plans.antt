@@ -20,9 +20,10 @@ use Rattle.liberation_stripes.specs.Stripes.{isStripe, followed}
 use Rattle.liberation_stripes.proofs.Rearranging.{bytes-same}
 use Rattle.planner.specs.declared.Plan.{Plan}
 use Rattle.refusals.specs.declared.Answer.{Answer}
-use Rattle.planner.specs.Says.{PlanSays, readListFault, ListSays}
+use Rattle.planner.specs.Says.{PlanSays}
 use Rattle.planner.proofs.FormLaws.{formOf, length-of, plan-form}
 use Rattle.planner.proofs.MeansLaws.{plan-means}
+use Rattle.read_list.specs.Says.{readListFault, ListSays}
 use Rattle.judge_steps.specs.declared.Judged.{Judged}
 use Rattle.judge.specs.Says.{JudgeSays}
 use Rattle.judge.proofs.AcceptLaws.{Acceptable, zero-accepts, accepts-zero, zero-counts}

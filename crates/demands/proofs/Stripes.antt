@@ -21,7 +21,7 @@ use Rattle.liberation_stripes.proofs.Widening.{widened-clean, widened-encoded}
 use Rattle.liberation_stripes.proofs.Encoding.{encoded-stripe, encoded-data, encoded-clean, encoded-only}
 use Rattle.liberation_stripes.proofs.Rebuilding.{one-back, lost-unused, only-read}
 use Rattle.refusals.specs.declared.Answer.{Answer}
-use Rattle.planner.specs.Says.{ListSays}
+use Rattle.read_list.specs.Says.{ListSays}
 use Rattle.check_stripe.specs.declared.Checked.{Checked}
 use Rattle.stripes.specs.Says.{stripeFault}
 use Rattle.encode_stripe.specs.Says.{EncodeSays}

@@ -1,20 +1,14 @@
--- The record of an accepted plan holds the defined plan, and so does the record put into the judge's form, three bytes a step; the ones of the read list are as many as the count says.
+-- The record of an accepted plan holds the defined plan, and so does the record put into the judge's form, three bytes a step.
 use mathlib.Core.Path.{_≡_, _∙_}
-use mathlib.Core.Bool.{true}
 use mathlib.Core.List.{List}
-use Prim.Native.Nat.{ℕ, _+_, _*_, _≤_}
+use Prim.Native.Nat.{ℕ, _*_}
 use native.Mathlib.Omega.{arith}
 use lib.ListN.{length}
-use Rattle.laws.specs.Sums.{total}
-use Rattle.liberation.specs.Sets.{isWidth, planFault}
-use Rattle.liberation.specs.Plans.{Step, planOf, readCount, readList}
+use Rattle.liberation.specs.Sets.{planFault}
+use Rattle.liberation.specs.Plans.{Step, planOf}
 use Rattle.liberation.specs.Records.{recorded, judgeForm}
 use Rattle.liberation.specs.Judging.{stepsIn}
 use Rattle.liberation.proofs.FaultLaws.{plan-of}
-use Rattle.liberation.proofs.ReadLaws.{marks-count}
-use Rattle.liberation.proofs.UsedLaws.{named-numbers}
-use Rattle.liberation.proofs.AcceptedLaws.{accepted-named}
-use Rattle.liberation.proofs.PartPlans.{plan-accepted}
 use Rattle.liberation.proofs.RecordLaws.{length-form, form-steps, recorded-from, plan-length}
 use Rattle.refusals.proofs.AnswerLaws.{answers-none}
 use Rattle.plan_steps.specs.Says.{plannedSteps}
@@ -43,7 +37,3 @@ plan-held p k f r q z =
 -- "ours for the p steps of the planner's record, put in that form"
 pub plan-form : (p k f : ℕ) (r : Plan) → PlanSays p k f r → r .answer .refusal ≡ 0 → stepsIn p (formOf p r) ≡ planOf p k f
 plan-form p k f r q z = form-steps p 0 (r .steps .rows) (r .steps .kinds) (r .steps .numbers) ∙ plan-held p k f r q z
-
--- "so the ones are as many as the count says"
-pub list-ones : (p k f : ℕ) → isWidth p ≡ true → k ≤ p → f ≤ k + 1 → total (readList p k f) ≡ readCount p k f (planOf p k f)
-list-ones p k f w most h = marks-count p k f (planOf p k f) (named-numbers p (planOf p k f) (accepted-named p k f (planOf p k f) (plan-accepted p k f w most h)))

@@ -1,29 +1,24 @@
--- What accepted answers of the planner mean: its record holds our plan, the ones of the route word are the diagonals of these steps, a lost P or Q reads all data cells, and the ones of a written read list are as many as the plan's reads.
-use mathlib.Core.Path.{_≡_, refl, sym, ap, subst, _∙_}
-use mathlib.Core.Bool.{Bool, true, false}
+-- What accepted answers of the planner mean: its record holds our plan, the ones of the route word are the diagonals of these steps, and a lost P or Q reads all data cells.
+use mathlib.Core.Path.{_≡_, sym, ap, subst, _∙_}
+use mathlib.Core.Bool.{true}
 use mathlib.Core.Logic.{_⊎_, inl, inr}
-use mathlib.Core.List.{List}
-use Prim.Native.Nat.{ℕ, zero, suc, _+_, _*_, _≤_, _<_}
+use Prim.Native.Nat.{ℕ, suc, _+_, _*_, _≤_, _<_}
 use lib.Count.{ones}
 use lib.Dec.{eqb}
-use Rattle.laws.specs.Choice.{pick, when}
-use Rattle.laws.specs.Lists.{isIn}
-use Rattle.laws.specs.Sums.{total, onesIn}
-use Rattle.laws.proofs.ChoiceLaws.{first-none}
+use Rattle.laws.specs.Choice.{pick}
 use Rattle.liberation.specs.Limits.{InArray}
-use Rattle.liberation.specs.Sets.{isWidth, planFault, longFault}
-use Rattle.liberation.specs.Plans.{planOf, routeWord, cellsRead, readCount, marksFrom, readList}
+use Rattle.liberation.specs.Sets.{isWidth, planFault}
+use Rattle.liberation.specs.Plans.{planOf, routeWord, readCount}
 use Rattle.liberation.specs.Claims.{diagonalsUsed}
 use Rattle.liberation.proofs.Widths.{width-least, width-odd}
 use Rattle.liberation.proofs.FaultLaws.{plan-of}
 use Rattle.liberation.proofs.PartLaws.{disk-cases}
 use Rattle.liberation.proofs.PartPlans.{plans-part}
 use Rattle.liberation.proofs.ParityReads.{data-ones, row-parity-ones, diagonal-parity-ones}
-use Rattle.refusals.specs.declared.Answer.{Answer}
 use Rattle.refusals.proofs.AnswerLaws.{answers-none}
 use Rattle.planner.specs.declared.Plan.{Plan}
-use Rattle.planner.specs.Says.{PlanSays, readListFault, ListSays}
-use Rattle.planner.proofs.FormLaws.{stepsHeld, plan-held, list-ones}
+use Rattle.planner.specs.Says.{PlanSays}
+use Rattle.planner.proofs.FormLaws.{stepsHeld, plan-held}
 
 word-ones : (p k f : ℕ) → isWidth p ≡ true → k ≤ p → f ≤ k + 1 → ones (routeWord p k f) ≡ diagonalsUsed p (planOf p k f)
 word-ones p k f w most h = go (disk-cases k f h)
@@ -61,24 +56,3 @@ plan-means p k f r q z =
       diagonals = ap ones v ∙ word-ones p k f (w .0 .width) (w .0 .disks) (w .1) ∙ sym (ap (diagonalsUsed p) e);
       parity = λ l. c ∙ plans-part p k f (w .0 .width) (w .0 .disks) (w .1) .parity l;
     }
-
--- marks are ones and zeros
-marks-ones : (n x : ℕ) (ys : List ℕ) → onesIn (marksFrom n x ys) ≡ total (marksFrom n x ys)
-unfolding onesIn total marksFrom
-marks-ones zero x ys = refl
-marks-ones (suc n) x ys = ap (λ (i : ℕ). when (eqb (when (isIn x ys) 1) 1) 1 + i) (marks-ones n (suc x) ys) ∙ ap (λ (i : ℕ). i + total (marksFrom n (suc x) ys)) (mark (isIn x ys))
-  where
-    mark : (b : Bool) → when (eqb (when b 1) 1) 1 ≡ when b 1
-    mark true = refl
-    mark false = refl
-
--- "so the ones are as many as the count says": those of the list o′ that `read_list` wrote, and the reads of the plan for the same disk
-pub list-means : (p k f : ℕ) (o o′ : List ℕ) (a : Answer) (r : Plan) → ListSays p k f o o′ a → a .refusal ≡ 0 → PlanSays p k f r → onesIn o′ ≡ r .reads
-list-means p k f o o′ a r l z q =
-    let n : readListFault p k f o ≡ 0 = answers-none (readListFault p k f o) a (l .answer) z in
-    let m : planFault p k f ≡ 0 = first-none (planFault p k f) (longFault (p * (k + 2)) o) n .0 in
-    let w = plan-of p k f m in
-    ap onesIn (l .list ∙ ap (λ (x : ℕ). pick (eqb x 0) (readList p k f) o) n)
-    ∙ marks-ones (p * (k + 2)) 0 (cellsRead p k f (planOf p k f))
-    ∙ list-ones p k f (w .0 .width) (w .0 .disks) (w .1)
-    ∙ sym (q .reads ∙ ap (λ (x : ℕ). pick (eqb x 0) (readCount p k f (planOf p k f)) 0) m)

@@ -1,14 +1,10 @@
--- The promises of the planner for accepted and refused calls. For every number k of data disks.
-use mathlib.Core.Path.{_≡_, sym, ap₂, subst, _∙_}
-use mathlib.Core.List.{List, []}
-use Prim.Native.Nat.{ℕ, _+_, _*_}
-use lib.ListN.{length}
-use Rattle.laws.specs.Choice.{firstOf}
-use Rattle.laws.proofs.ChoiceLaws.{first-kept, pick-refused, pick-done}
-use Rattle.liberation.specs.Sets.{planFault, longFault}
-use Rattle.liberation.proofs.FaultLaws.{long-refused, long-accepted}
-use Rattle.liberation.specs.Plans.{planOf, routeWord, readCount, readList}
-use Rattle.refusals.specs.declared.Answer.{Answer}
+-- The promise of the planner for accepted and refused calls. For every number k of data disks.
+use mathlib.Core.Path.{_≡_, sym, subst, _∙_}
+use mathlib.Core.List.{[]}
+use Prim.Native.Nat.{ℕ}
+use Rattle.laws.proofs.ChoiceLaws.{pick-refused, pick-done}
+use Rattle.liberation.specs.Sets.{planFault}
+use Rattle.liberation.specs.Plans.{planOf, routeWord, readCount}
 use Rattle.refusals.specs.Answers.{Answers}
 use Rattle.refusals.proofs.AnswerLaws.{answers-as}
 use Rattle.step_records.specs.declared.Steps.{Steps}
@@ -17,7 +13,7 @@ use Rattle.plan_steps.specs.declared.Planned.{Planned}
 use Rattle.plan_steps.specs.Says.{OurPlan, plannedSteps}
 use Rattle.plan_steps.proofs.PlannedLaws.{held-as, planned-says}
 use Rattle.planner.specs.declared.Plan.{Plan}
-use Rattle.planner.specs.Says.{PlanSays, readListFault, ListSays}
+use Rattle.planner.specs.Says.{PlanSays}
 
 -- an accepted call
 pub plan-says : (p k f : ℕ) (r : Plan) (q : Planned) → planFault p k f ≡ 0 → OurPlan p k f q → r .answer ≡ q .answer → r .steps ≡ q .steps → r .routes ≡ q .routes → r .reads ≡ readCount p k f (planOf p k f) → PlanSays p k f r
@@ -39,18 +35,3 @@ plan-refused p k f n r e z a h c d =
       routes = c ∙ pick-refused n (planFault p k f) (routeWord p k f) 0 e z;
       reads = d ∙ pick-refused n (planFault p k f) (readCount p k f (planOf p k f)) 0 e z;
     }
-
--- the read list
-pub list-refused : (p k f n : ℕ) (o : List ℕ) (r : Answer) → n ≡ readListFault p k f o → (n ≡ 0 → ⊥) → Answers n r → ListSays p k f o o r
-list-refused p k f n o r e z a = record { answer = answers-as n (readListFault p k f o) r e a; list = pick-refused n (readListFault p k f o) (readList p k f) o e z }
-
-pub list-first : (p k f n : ℕ) (o : List ℕ) → n ≡ planFault p k f → (n ≡ 0 → ⊥) → n ≡ readListFault p k f o
-list-first p k f n o e z = first-kept n (planFault p k f) (longFault (p * (k + 2)) o) e z
-
-pub list-long : (p k f : ℕ) (o : List ℕ) → planFault p k f ≡ 0 → (length o ≡ p * (k + 2) → ⊥) → 5 ≡ readListFault p k f o
-list-long p k f o e n = sym (ap₂ firstOf e (long-refused (p * (k + 2)) o n))
-
-pub list-says : (p k f : ℕ) (o o′ : List ℕ) (r : Answer) → planFault p k f ≡ 0 → length o ≡ p * (k + 2) → o′ ≡ readList p k f → Answers 0 r → ListSays p k f o o′ r
-list-says p k f o o′ r e l q a =
-    let z : readListFault p k f o ≡ 0 = ap₂ firstOf e (long-accepted (p * (k + 2)) o l) in
-    record { answer = answers-as 0 (readListFault p k f o) r (sym z) a; list = q ∙ pick-done (readListFault p k f o) (readList p k f) o z }

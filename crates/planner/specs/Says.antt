@@ -1,12 +1,10 @@
--- The promises of the planner's two public calls, for accepted and refused calls alike. p is the width, k the number of data disks, f the lost disk.
+-- The promise of the planner, for accepted and refused calls alike. p is the width, k the number of data disks, f the lost disk.
 use mathlib.Core.Path.{_≡_}
-use mathlib.Core.List.{List}
-use Prim.Native.Nat.{ℕ, _+_, _*_}
+use Prim.Native.Nat.{ℕ}
 use lib.Dec.{eqb}
-use Rattle.laws.specs.Choice.{pick, firstOf}
-use Rattle.liberation.specs.Sets.{planFault, longFault}
-use Rattle.liberation.specs.Plans.{planOf, readCount, readList}
-use Rattle.refusals.specs.declared.Answer.{Answer}
+use Rattle.laws.specs.Choice.{pick}
+use Rattle.liberation.specs.Sets.{planFault}
+use Rattle.liberation.specs.Plans.{planOf, readCount}
 use Rattle.refusals.specs.Answers.{Answers}
 use Rattle.step_records.specs.Records.{Holds}
 use Rattle.plan_steps.specs.Says.{plannedSteps, plannedRoutes}
@@ -17,11 +15,3 @@ pub record PlanSays (p k f : ℕ) (r : Plan) : Type 0 where
   pub steps : Holds (plannedSteps p k f) (r .steps)
   pub routes : r .routes ≡ plannedRoutes p k f
   pub reads : r .reads ≡ pick (eqb (planFault p k f) 0) (readCount p k f (planOf p k f)) 0
-
--- the read list refuses by 1, 13, 3 and 5
-abbrev pub readListFault : ℕ → ℕ → ℕ → List ℕ → ℕ
-readListFault p k f o = firstOf (planFault p k f) (longFault (p * (k + 2)) o)
-
-pub record ListSays (p k f : ℕ) (o o′ : List ℕ) (r : Answer) : Type 0 where
-  pub answer : Answers (readListFault p k f o) r
-  pub list : o′ ≡ pick (eqb (readListFault p k f o) 0) (readList p k f) o

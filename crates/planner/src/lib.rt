@@ -1,14 +1,13 @@
-// Our plan for one lost disk with its read count, and its read list. Nothing here knows of bytes in stripes.
+// Our plan for one lost disk with its read count. Nothing here knows of bytes in stripes.
 ghost use mathlib.Core.Path.{_≡_};
 ghost use mathlib.Core.List.{[]};
 ghost use Prim.Native.Nat.{_+_, _*_, _≤_};
-ghost use lib.ListN.{length, replicate};
 ghost use Rattle.liberation.specs.Limits.{InArray};
 ghost use Rattle.liberation.specs.Sets.{planFault};
 ghost use Rattle.liberation.specs.Plans.{planOf, readCount, readList, marksFrom};
 ghost use Rattle.step_records.specs.Records.{Holds};
 ghost use Rattle.plan_steps.specs.Says.{OurPlan};
-ghost use Rattle.planner.specs.Says.{PlanSays, ListSays};
+ghost use Rattle.planner.specs.Says.{PlanSays};
 use plan_steps::Planned;
 use refusals::Answer;
 use step_records::Steps;
@@ -23,7 +22,7 @@ pub struct Plan {
 }
 
 // Marks the cells that our plan reads in a list of zeros, and counts them.
-fn mark_steps(width: usize, disks: usize, lost: usize, s: Steps, marks: &mut [u8]) -> u32
+pub fn mark_steps(width: usize, disks: usize, lost: usize, s: Steps, marks: &mut [u8]) -> u32
     requires { ⌜ InArray width disks × (lost ≤ disks + 1) × Holds (planOf width disks lost) s × (now marks ≡ marksFrom (width * (disks + 2)) 0 []) ⌝ }
     ensures { λ r. ⌜ (r ≡ readCount width disks lost (planOf width disks lost)) × (now (marks .exit) ≡ readList width disks lost) ⌝ }
 {
@@ -38,17 +37,6 @@ fn mark_steps(width: usize, disks: usize, lost: usize, s: Steps, marks: &mut [u8
         i += 1;
     }
     reads
-}
-
-// Every byte becomes 0.
-fn clear(list: &mut [u8])
-    ensures { λ _. ⌜ now (list .exit) ≡ replicate (length (now (list .entry))) 0 ⌝ }
-{
-    let mut i = 0;
-    while i < list.len() {
-        list[i] = 0;
-        i += 1;
-    }
 }
 
 // The plan record of a plan within limits: its reads are counted.
@@ -85,22 +73,4 @@ pub fn plan_disk(width: usize, disks: usize, lost: usize) -> Plan
     }
     let p = plan_steps::our_plan(width, disks, lost);
     finished(width, disks, lost, p)
-}
-
-// Our plan's read list, a byte for each cell: 1 where the plan reads it. Refusals: 1, 13, 3, 5.
-pub fn read_list(width: usize, disks: usize, lost: usize, list: &mut [u8]) -> Answer
-    ensures { λ r. ⌜ ListSays width disks lost (now (list .entry)) (now (list .exit)) r ⌝ }
-{
-    let fault = refusals::plan_fault(width, disks, lost);
-    if fault != 0 {
-        return refusals::answered(fault);
-    }
-    if list.len() != width * (disks + 2) {
-        return refusals::answered(5);
-    }
-    clear(list);
-    let p = plan_steps::our_plan(width, disks, lost);
-    let s = p.steps;
-    mark_steps(width, disks, lost, s, list);
-    refusals::answered(0)
 }

@@ -6,8 +6,8 @@ use native.Mathlib.Omega.{arith}
 use lib.ListN.{length, drop, replicate}
 use Rattle.laws.proofs.ListLaws.{clear-turn, clear-end, length-clear}
 use borrow.Author.Needs.{needs}
-use Rattle.planner.proofs.clear.Statement.{statement}
-use Rattle.planner.proofs.clear.Tie as tie
+use Rattle.read_list.proofs.clear.Statement.{statement}
+use Rattle.read_list.proofs.clear.Tie as tie
 
 abbrev Inv-loop : tie.InvT-loop
 Inv-loop list₀ i₀ list i = (i ≤ length list₀) × (list ≡ replicate i 0 ++ drop i list₀)

@@ -7,10 +7,10 @@ use Rattle.liberation.specs.Limits.{InArray}
 use Rattle.liberation.specs.Sets.{planFault}
 use Rattle.liberation.proofs.FaultLaws.{plan-of}
 use Rattle.liberation.proofs.MarkLists.{no-cells, cells-most}
-use Rattle.planner.proofs.PlanAnswers.{list-refused, list-first, list-long, list-says}
+use Rattle.read_list.proofs.ListAnswers.{list-refused, list-first, list-long, list-says}
 use borrow.Author.Needs.{needs}
-use Rattle.planner.proofs.read_list.Statement.{statement}
-use Rattle.planner.proofs.read_list.Tie as tie
+use Rattle.read_list.proofs.read_list.Statement.{statement}
+use Rattle.read_list.proofs.read_list.Tie as tie
 
 -- past refusals 1, 13 and 3
 none : (c : tie.Else1) → let a = c .before .before .before .args in planFault (a .width) (a .disks) (a .lost) ≡ 0

@@ -1,0 +1,3 @@
+-- The read list: its refusals, and what its ones count.
+pub mod ListAnswers
+pub mod MeansLaws

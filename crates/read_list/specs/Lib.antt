@@ -1,0 +1,2 @@
+-- What the read list promises.
+pub mod Says
