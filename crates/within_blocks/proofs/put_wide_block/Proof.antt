@@ -8,8 +8,8 @@ use borrow.Author.Needs.{needs}
 use Rattle.xor.specs.Parts.{xorOffsets}
 use Rattle.xor.proofs.PartLaws.{put-part}
 use Rattle.xor.proofs.BlockLaws.{tail-is, reach-tail}
-use Rattle.xor_within.proofs.put_wide_block.Statement.{statement}
-use Rattle.xor_within.proofs.put_wide_block.Tie as tie
+use Rattle.within_blocks.proofs.put_wide_block.Statement.{statement}
+use Rattle.within_blocks.proofs.put_wide_block.Tie as tie
 
 wide-block-of-requires : tie.Need-wide-block-of-requires
 wide-block-of-requires c κs =
