@@ -1,3 +1,2 @@
--- The search for the disk that fits, and the promise of the scrub.
-pub mod FitLaws
+-- The promise of the scrub.
 pub mod ScrubRefusals

@@ -7,9 +7,9 @@ use lib.ListN.{length}
 use borrow.Author.Needs.{needs}
 use borrow.Author.Tests.{eq-eqb, ne-eqb}
 use Rattle.liberation_survivors.specs.Survivors.{suspect}
-use Rattle.scrub.proofs.FitLaws.{firstOn, first-all, first-here, first-after, first-none}
-use Rattle.scrub.proofs.first_fit.Statement.{statement}
-use Rattle.scrub.proofs.first_fit.Tie as tie
+use Rattle.suspects.proofs.FitLaws.{firstOn, first-all, first-here, first-after, first-none}
+use Rattle.suspects.proofs.first_fit.Statement.{statement}
+use Rattle.suspects.proofs.first_fit.Tie as tie
 
 abbrev Inv-loop : tie.InvT-loop
 Inv-loop width disks size dirty stripe at₀ extra₀ disk₀ at extra disk = (disk ≤ disks + 2) × (length at ≡ 99) × (firstOn width disks size stripe disk ≡ suspect width disks size stripe)

@@ -3,8 +3,8 @@ use native.Mathlib.Nat.{mod-lt}
 use native.Mathlib.Omega.{arith}
 use Prim.Native.Nat.{_+_, _*_, _-_, _/_}
 use borrow.Author.Needs.{needs}
-use Rattle.scrub.proofs.extra_diagonal.Statement.{statement}
-use Rattle.scrub.proofs.extra_diagonal.Tie as tie
+use Rattle.suspects.proofs.extra_diagonal.Statement.{statement}
+use Rattle.suspects.proofs.extra_diagonal.Tie as tie
 
 returns : tie.Need-returns
 returns c = let a = c .before .args in mod-lt ((2 * a .width - a .disk) / 2) (omega arith)

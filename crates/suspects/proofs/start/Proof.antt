@@ -3,8 +3,8 @@ use native.Mathlib.Nat.{mod-lt}
 use native.Mathlib.Omega.{arith}
 use Prim.Native.Nat.{_+_, _-_}
 use borrow.Author.Needs.{needs}
-use Rattle.scrub.proofs.start.Statement.{statement}
-use Rattle.scrub.proofs.start.Tie as tie
+use Rattle.suspects.proofs.start.Statement.{statement}
+use Rattle.suspects.proofs.start.Tie as tie
 
 returns-3 : tie.Need-returns-3
 returns-3 c = let a = c .before .before .args in mod-lt (a .dirty + a .width - a .disk) (omega arith)

@@ -1,0 +1,2 @@
+-- The search for the disk that fits.
+pub mod FitLaws
