@@ -1,3 +1,2 @@
--- The promise of the rebuild with tested survivors, and the column by the row sets.
+-- The promise of the rebuild with tested survivors.
 pub mod TestedRefusals
-pub mod TestedRows

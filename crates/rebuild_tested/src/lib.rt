@@ -2,15 +2,11 @@
 use refusals::Answer;
 use refusals::Shape;
 ghost use mathlib.Core.Path.{_≡_};
-ghost use mathlib.Core.Bool.{true, not};
-ghost use Prim.Native.Nat.{_*_, _≤_, _<_};
+ghost use mathlib.Core.Bool.{not};
 ghost use lib.ListN.{length};
 ghost use Rattle.laws.specs.Choice.{firstOf, when};
-ghost use Rattle.liberation.specs.Plans.{allOf};
-ghost use Rattle.liberation_stripes.specs.Stripes.{followed, columnOf, rebuilt};
 ghost use Rattle.liberation_survivors.specs.Survivors.{fits};
-ghost use Rattle.liberation_stripes.specs.Limits.{Sized};
-ghost use Rattle.rebuild_one.specs.Says.{lengthsFault, oneFault};
+ghost use Rattle.rebuild_one.specs.Says.{lengthsFault};
 ghost use Rattle.rebuild_tested.specs.Says.{TestedSays};
 
 // The refusal of a call on a stripe and a column of these many bytes, 0 for none. The survivors are tested last, without a byte of the lost disk.
@@ -34,43 +30,6 @@ fn tested_fault(
     19
 }
 
-// A data disk or P by the row sets, as one run of bytes: the column becomes the XOR of the other columns but Q's.
-fn column_by_rows(
-    width: usize,
-    disks: usize,
-    size: usize,
-    disk: usize,
-    stripe: &[u8],
-    column: &mut [u8],
-)
-    requires { ⌜ Sized width disks size (now stripe) × (disk ≤ disks) × (length (now column) ≡ width * size) ⌝ }
-    ensures { λ _. ⌜ now (column .exit) ≡ columnOf width size disk (followed width disks size disk (allOf width 0 0) (now (stripe .entry))) ⌝ }
-{
-    let mut at = offsets::no_offsets();
-    let n = offsets::push(width, size, 0, 0, 0, disk, &mut at, 0);
-    let m = offsets::push_row(width, size, 0, disk + 1, disks + 1, &mut at, n);
-    xor_stretches::gather_stretches(column, stripe, &at[..m]);
-}
-
-// A disk whose survivors are those of a clean stripe: every set gives the same bytes then, so the plan with the longest runs is followed, not the one with the fewest reads.
-fn tested_column(
-    width: usize,
-    disks: usize,
-    size: usize,
-    disk: usize,
-    stripe: &[u8],
-    column: &mut [u8],
-)
-    requires { ⌜ (oneFault width disks size disk (now stripe) (now column) ≡ 0) × (fits width disks size disk (now stripe) ≡ true) ⌝ }
-    ensures { λ _. ⌜ now (column .exit) ≡ rebuilt width disks size disk (now (stripe .entry)) ⌝ }
-{
-    if disk <= disks {
-        column_by_rows(width, disks, size, disk, stripe, column);
-    } else {
-        rebuild_one::rebuild_column(width, disks, size, disk, stripe, column);
-    }
-}
-
 // Rebuilds one lost disk into the column, if some clean stripe has all surviving cells. Refusals: 1, 13, 2, 3, 5, 19; a refused call leaves the column as it was.
 pub fn rebuild_tested(shape: Shape, lost: usize, stripe: &[u8], column: &mut [u8]) -> Answer
     ensures { λ r. ⌜ TestedSays (shape .width) (shape .disks) (shape .«cell_size») lost (now (stripe .entry)) (now (column .entry)) (now (column .exit)) r ⌝ }
@@ -86,7 +45,7 @@ pub fn rebuild_tested(shape: Shape, lost: usize, stripe: &[u8], column: &mut [u8
     if refusal != 0 {
         return refusals::answered(refusal);
     }
-    tested_column(
+    tested_columns::tested_column(
         shape.width,
         shape.disks,
         shape.cell_size,

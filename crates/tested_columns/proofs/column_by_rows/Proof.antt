@@ -10,9 +10,9 @@ use Rattle.liberation_stripes.proofs.CellLaws.{cell-fits}
 use Rattle.offsets.specs.Offsets.{scaled}
 use Rattle.set_offsets.proofs.SetLists.{data-count}
 use Rattle.stripes.proofs.ColumnLaws.{row-pushed}
-use Rattle.rebuild_tested.proofs.TestedRows.{others-reached, rows-gathered}
-use Rattle.rebuild_tested.proofs.column_by_rows.Statement.{statement}
-use Rattle.rebuild_tested.proofs.column_by_rows.Tie as tie
+use Rattle.tested_columns.proofs.TestedRows.{others-reached, rows-gathered}
+use Rattle.tested_columns.proofs.column_by_rows.Statement.{statement}
+use Rattle.tested_columns.proofs.column_by_rows.Tie as tie
 
 -- how many numbers are in the list after the first push
 first : (c : tie.After-push) → c .push .result ≡ c .before .before .before .before .before .args .disk

@@ -1,9 +1,9 @@
 -- `tested_column`: a data disk or P by the row sets, which give the rebuilt column since the disk fits; Q by our plan.
 use borrow.Author.Needs.{needs}
 use Rattle.xor.proofs.SourceLaws.{bytes-all}
-use Rattle.rebuild_tested.proofs.TestedRows.{rows-ask, rows-tested}
-use Rattle.rebuild_tested.proofs.tested_column.Statement.{statement}
-use Rattle.rebuild_tested.proofs.tested_column.Tie as tie
+use Rattle.tested_columns.proofs.TestedRows.{rows-ask, rows-tested}
+use Rattle.tested_columns.proofs.tested_column.Statement.{statement}
+use Rattle.tested_columns.proofs.tested_column.Tie as tie
 
 column-by-rows-requires : tie.Need-column-by-rows-requires
 column-by-rows-requires c κs =

@@ -1,0 +1,2 @@
+-- The column by the row sets.
+pub mod TestedRows
