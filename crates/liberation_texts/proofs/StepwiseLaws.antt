@@ -1,12 +1,12 @@
--- Reading byte by byte and line by line, for a loop over a text: numbers by the tests of their bytes, one line more, sizes.
+-- Reading byte by byte and line by line, for a loop over a text: the bytes at and after a place, numbers by the tests of their bytes, one line more, sizes.
 use mathlib.Core.Path.{_≡_, refl, sym, ap, _∙_}
 use mathlib.Core.Bool.{Bool, true, false, _&&_, and-true, and-assoc, false≢true}
 use mathlib.Core.List.{List, [], _∷_, _++_}
 use Prim.Native.Nat.{ℕ, zero, suc, _+_, _-_, _*_, _≤_}
 use native.Mathlib.Omega.{arith}
 use lib.Dec.{eqb, leb}
-use lib.ListN.{length, take, drop}
-use lib.Seq.{drop-drop}
+use lib.ListN.{length, getD, take, drop}
+use lib.Seq.{drop-drop, getD-drop}
 use borrow.Author.Tests.{leb-true}
 use Rattle.laws.specs.Choice.{pick}
 use Rattle.laws.specs.Lists.{isIn}
@@ -15,6 +15,14 @@ use Rattle.liberation.specs.Plans.{Step}
 use Rattle.liberation.specs.Judging.{stepsIn}
 use Rattle.liberation_texts.specs.Reading.{byteAt, isDigit, digitsUpTo, digitsIn, valueFrom, numberIn, isNumber, endIn, isSet, kindOf, afterRow, afterSet, afterNumber, Line, lineIn, linesIn, namesSize, stepsRead, stepBytes}
 use Rattle.liberation_texts.proofs.NumberLaws.{digits-few}
+
+-- The bytes at and after a place.
+module _ (t : List ℕ) (at : ℕ) where
+  pub here : getD t at 0 ≡ byteAt (drop at t) 0
+  here = let e : at + 0 ≡ at = omega arith in sym (getD-drop at t 0 0 ∙ ap (λ (n : ℕ). getD t n 0) e)
+
+  pub after : (i : ℕ) → getD t (at + i) 0 ≡ byteAt (drop at t) i
+  after i = sym (getD-drop at t i 0)
 
 -- a number at the front: how many digits, and their value
 pub record Read (t : List ℕ) (size value : ℕ) : Type 0 where

@@ -1,2 +1,2 @@
--- The tests of the fields of a line.
+-- The tests of the fields of a line that are no numbers.
 pub mod TestLaws

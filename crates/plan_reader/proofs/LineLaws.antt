@@ -17,10 +17,9 @@ use Rattle.laws.proofs.LengthLaws.{drop-replicate}
 use Rattle.liberation.specs.Plans.{Step, step}
 use Rattle.liberation_texts.specs.Reading.{byteAt, digitsIn, numberIn, isNumber, endIn, isSet, kindOf, afterRow, afterSet, afterNumber, lineIn, linesIn, names, namesSize, isNames, readable, stepsRead, stepBytes}
 use Rattle.liberation_texts.proofs.NumberLaws.{digits-few}
-use Rattle.liberation_texts.proofs.StepwiseLaws.{lines-few, lines-count, one-more, stays-bad, bytes-length, bytes-more, SmallStep, line-small}
-use Rattle.plan_fields.specs.declared.Number.{Number}
-use Rattle.plan_fields.specs.Says.{NumberAt}
-use Rattle.plan_fields.proofs.TestLaws.{after}
+use Rattle.liberation_texts.proofs.StepwiseLaws.{lines-few, lines-count, one-more, stays-bad, bytes-length, bytes-more, SmallStep, line-small, after}
+use Rattle.text_numbers.specs.declared.Number.{Number}
+use Rattle.text_numbers.specs.Says.{NumberAt}
 use Rattle.plan_reader.specs.declared.Line.{Line}
 use Rattle.plan_reader.specs.declared.Parsed.{Parsed}
 use Rattle.plan_reader.specs.Says.{LineAt, planBytes, Reads, LinesSay, ParseSays}

@@ -43,9 +43,9 @@ fn line_at(text: &[u8], at: usize) -> Line
     requires { ⌜ at ≤ 380 ⌝ }
     ensures { λ r. ⌜ LineAt (now (text .entry)) at r ⌝ }
 {
-    let row = plan_fields::number_at(text, at);
+    let row = text_numbers::number_at(text, at);
     let set = row.next;
-    let number = plan_fields::number_at(text, set + 3);
+    let number = text_numbers::number_at(text, set + 3);
     let last = number.next;
     let end = plan_fields::end_at(text, last);
     let ok = all_there(row.ok, plan_fields::is_set(text, set), number.ok, 1 <= end);

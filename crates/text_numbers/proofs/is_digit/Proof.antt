@@ -1,7 +1,7 @@
 -- `is_digit`: 48 to 57.
-use Rattle.plan_fields.proofs.TestLaws.{digit-low, digit-high}
-use Rattle.plan_fields.proofs.is_digit.Statement.{statement}
-use Rattle.plan_fields.proofs.is_digit.Tie as tie
+use Rattle.text_numbers.proofs.NumberLaws.{digit-low, digit-high}
+use Rattle.text_numbers.proofs.is_digit.Statement.{statement}
+use Rattle.text_numbers.proofs.is_digit.Tie as tie
 
 returns : tie.Need-returns
 returns c = digit-low (c .before .args .byte) (c .if1 .taken)

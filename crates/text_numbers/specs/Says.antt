@@ -5,7 +5,7 @@ use Prim.Native.Nat.{ℕ, _+_}
 use lib.Dec.{leb}
 use lib.ListN.{drop}
 use Rattle.liberation_texts.specs.Reading.{digitsIn, numberIn, isNumber}
-use Rattle.plan_fields.specs.declared.Number.{Number}
+use Rattle.text_numbers.specs.declared.Number.{Number}
 
 -- the number n, whose digits end before place `at`: "Numbers over 255 break the form"
 pub record MadeNumber (n at : ℕ) (r : Number) : Type 0 where

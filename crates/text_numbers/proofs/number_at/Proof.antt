@@ -3,9 +3,9 @@ use mathlib.Core.Path.{refl, sym, ap₂, _∙_}
 use Prim.Native.Nat.{ℕ, _+_, _*_}
 use borrow.Author.Tests.{not-true, not-false}
 use borrow.Author.Needs.{needs}
-use Rattle.plan_fields.proofs.TestLaws.{no-number, one-digit, two-digits, three-digits}
-use Rattle.plan_fields.proofs.number_at.Statement.{statement}
-use Rattle.plan_fields.proofs.number_at.Tie as tie
+use Rattle.text_numbers.proofs.NumberLaws.{no-number, one-digit, two-digits, three-digits}
+use Rattle.text_numbers.proofs.number_at.Statement.{statement}
+use Rattle.text_numbers.proofs.number_at.Tie as tie
 
 returns : tie.Need-returns
 returns c =

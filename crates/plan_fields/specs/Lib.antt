@@ -1,2 +1,0 @@
--- What reading the fields of a line promises.
-pub mod Says

@@ -1,0 +1,2 @@
+-- The tests of the digits of a number.
+pub mod NumberLaws

@@ -1,0 +1,2 @@
+-- What reading a number promises.
+pub mod Says
