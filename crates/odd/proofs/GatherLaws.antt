@@ -20,9 +20,10 @@ use Rattle.xor.proofs.BlockLaws.{Within, offsets-long, offsets-bytes, offsets-a
 use Rattle.xor_within.specs.Beside.{Beside}
 use Rattle.xor_within.proofs.WithinLaws.{part-with, with-with, part-kept, offsets-same}
 use Rattle.offsets.specs.Offsets.{scaled}
-use Rattle.odd.specs.Toggled.{isOdd, oddFrom}
-use Rattle.odd.specs.Listed.{oddOffsets, OddPushed, MarkedStripe, Start, OddAdded}
-use Rattle.odd.specs.declared.Listed.{Listed}
+use Rattle.odd_marks.specs.Toggled.{isOdd, oddFrom}
+use Rattle.odd_marks.specs.Listed.{oddOffsets, OddPushed}
+use Rattle.odd_marks.specs.declared.Listed.{Listed}
+use Rattle.odd.specs.Gathered.{MarkedStripe, Start, OddAdded}
 
 -- every number of a list has a property
 abbrev All : (ℕ → Type 0) → List ℕ → Type 0

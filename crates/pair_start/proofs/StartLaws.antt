@@ -20,9 +20,9 @@ use Rattle.liberation_pairs.proofs.Upward.{lost-first}
 use Rattle.xor.specs.Parts.{withPart, xorOffsets}
 use Rattle.offsets.specs.Offsets.{scaled}
 use Rattle.offsets.proofs.OffsetLaws.{over-offsets}
-use Rattle.odd.specs.Toggled.{isOdd, oddFrom, toggledAll}
-use Rattle.odd.specs.Listed.{MarkedStripe}
-use Rattle.odd.proofs.OddLaws.{odd-offsets}
+use Rattle.odd_marks.specs.Toggled.{isOdd, oddFrom, toggledAll}
+use Rattle.odd_marks.proofs.OddLaws.{odd-offsets}
+use Rattle.odd.specs.Gathered.{MarkedStripe}
 use Rattle.set_offsets.specs.Cells.{survivors}
 use Rattle.liberation_stripes.specs.Limits.{Sized}
 use Rattle.pair_numbers.proofs.NumberLaws.{extra-below}

@@ -17,7 +17,7 @@ use Rattle.liberation.specs.Sets.{rowSet, diagonalSet}
 use Rattle.liberation.specs.Plans.{diagonalOf}
 use Rattle.liberation_pairs.specs.Pairs.{nextRow, startSets}
 use Rattle.offsets.specs.Offsets.{scaled, Pushed}
-use Rattle.odd.specs.Toggled.{toggled, toggledAll}
+use Rattle.odd_marks.specs.Toggled.{toggled, toggledAll}
 use Rattle.set_offsets.specs.Cells.{survivors}
 use Rattle.set_offsets.proofs.SetLists.{survivors-none, survivors-append, survivors-swap}
 

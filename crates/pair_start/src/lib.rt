@@ -5,7 +5,7 @@ ghost use lib.ListN.{length};
 ghost use Rattle.liberation.specs.Limits.{InArray};
 ghost use Rattle.liberation.specs.Sets.{setOf};
 ghost use Rattle.liberation_pairs.specs.Pairs.{startSets, started};
-ghost use Rattle.odd.specs.Toggled.{toggledAll};
+ghost use Rattle.odd_marks.specs.Toggled.{toggledAll};
 ghost use Rattle.set_offsets.specs.Cells.{survivors};
 ghost use Rattle.liberation_stripes.specs.Limits.{Sized};
 ghost use Rattle.pair_start.specs.Disks.{Walked};
@@ -24,7 +24,7 @@ fn toggle_set(
     ensures { λ _. ⌜ now (marks .exit) ≡ toggledAll (survivors width x 0 (setOf width disks kind number)) (now (marks .entry)) ⌝ }
 {
     let n = set_offsets::surviving(width, disks, 1, kind, number, 0, x, at);
-    odd::toggle_all(marks, &at[..n]);
+    odd_marks::toggle_all(marks, &at[..n]);
 }
 
 // The marks of the surviving cells of the row set and the diagonal set of each row, from this row on, are toggled. The diagonal through disk x's cell of a row has the number of the next row, since that is the row of its cell on disk 0.

@@ -8,7 +8,7 @@ use lib.Seq.{length-take-le}
 use borrow.Author.Needs.{needs}
 use Rattle.laws.specs.Lists.{allBelow}
 use Rattle.liberation.specs.Sets.{setOf}
-use Rattle.odd.specs.Toggled.{toggledAll}
+use Rattle.odd_marks.specs.Toggled.{toggledAll}
 use Rattle.set_offsets.specs.Cells.{survivors}
 use Rattle.set_offsets.proofs.SetLists.{survivors-swap, survivors-below}
 use Rattle.pair_start.proofs.ToggleLaws.{set-places, places-marked}

@@ -12,8 +12,8 @@ use borrow.Author.Tests.{eq-eqb, ne-eqb}
 use Rattle.laws.specs.Choice.{pick}
 use Rattle.laws.proofs.SearchLaws.{drop-next}
 use Rattle.offsets.specs.Offsets.{scaled}
-use Rattle.odd.specs.Toggled.{isOdd, oddFrom}
-use Rattle.odd.specs.Listed.{oddOffsets}
+use Rattle.odd_marks.specs.Toggled.{isOdd, oddFrom}
+use Rattle.odd_marks.specs.Listed.{oddOffsets}
 
 -- the loop at place x: the list `old`, of which `count` numbers were in use, is now `at`, of which n are
 pub record OddPushing (s : ℕ) (ms old : List ℕ) (count from : ℕ) (at : List ℕ) (n x : ℕ) : Type 0 where

@@ -1,27 +1,13 @@
--- The offsets of the odd places, list by list.
+-- What the gather of the odd cells asks and promises, list by list.
 use mathlib.Core.Path.{_≡_}
 use mathlib.Core.Bool.{true, false}
-use mathlib.Core.Logic.{_⊎_}
 use mathlib.Core.List.{List, _++_}
-use Prim.Native.Nat.{ℕ, _+_, _*_, _≤_, _<_}
-use lib.ListN.{length, getD, take, drop}
+use Prim.Native.Nat.{ℕ, _*_, _≤_, _<_}
+use lib.ListN.{length, getD, take}
 use Rattle.laws.specs.Xor.{xorL, allBytes}
 use Rattle.xor.specs.Parts.{part, withPart, xorOffsets}
-use Rattle.offsets.specs.Offsets.{scaled}
-use Rattle.odd.specs.Toggled.{isOdd, oddFrom}
-use Rattle.odd.specs.declared.Listed.{Listed}
-
--- the offsets of the odd places from place x on, of cells of s bytes
-abbrev pub oddOffsets : ℕ → List ℕ → ℕ → List ℕ
-oddOffsets s ms x = scaled s (oddFrom x (drop x ms))
-
--- the list `old`, of which n numbers were in use, has become `new`: its numbers, with the offsets of the places that are still to come, are the old ones with those from place x on; it is full, or no place is left
-pub record OddPushed (s : ℕ) (ms old new : List ℕ) (x n : ℕ) (r : Listed) : Type 0 where
-  pub list : take (r .count) new ++ oddOffsets s ms (r .next) ≡ take n old ++ oddOffsets s ms x
-  pub fits : r .count ≤ length new
-  pub some : x ≤ r .next
-  pub within : r .next ≤ length ms
-  pub full : (r .next ≡ length ms) ⊎ (r .count ≡ length new)
+use Rattle.odd_marks.specs.Toggled.{isOdd}
+use Rattle.odd_marks.specs.Listed.{oddOffsets}
 
 -- what a caller of the gather shows: few and small cells, a stripe that has a cell for every mark, and a destination among them that is not odd
 pub record MarkedStripe (s d : ℕ) (ms t : List ℕ) : Type 0 where

@@ -17,7 +17,7 @@ use Rattle.liberation_stripes.proofs.OverLaws.{over-bytes}
 use Rattle.xor.specs.Parts.{xorOffsets}
 use Rattle.offsets.specs.Offsets.{scaled}
 use Rattle.offsets.proofs.OffsetLaws.{over-offsets}
-use Rattle.odd.specs.Toggled.{isOdd, oddFrom, toggled, toggledAll}
+use Rattle.odd_marks.specs.Toggled.{isOdd, oddFrom, toggled, toggledAll}
 
 -- a toggled mark
 flip : (m : ℕ) → isOdd (bitXor m 1) ≡ not (isOdd m)

@@ -1,0 +1,3 @@
+-- The XOR over the places that occur an odd number of times, and their lists.
+pub mod OddLaws
+pub mod ListedLaws
