@@ -22,7 +22,7 @@ use Rattle.offsets.proofs.OffsetLaws.{over-offsets}
 use Rattle.offsets.proofs.RunLaws.{run-zero}
 use Rattle.set_offsets.specs.Cells.{survivors}
 use Rattle.set_offsets.proofs.SetLists.{survivors-past, surviving-past}
-use Rattle.stripes.specs.Says.{stripeFault}
+use Rattle.stripe_refusals.specs.Says.{stripeFault}
 use Rattle.laws.proofs.AllLaws.{all-same}
 use Rattle.check_stripe.specs.Says.{CheckSays}
 

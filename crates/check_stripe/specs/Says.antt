@@ -7,7 +7,7 @@ use lib.Dec.{eqb}
 use Rattle.laws.specs.Xor.{allBytes}
 use Rattle.liberation_stripes.specs.Stripes.{clean}
 use Rattle.refusals.specs.Answers.{Answers}
-use Rattle.stripes.specs.Says.{stripeFault}
+use Rattle.stripe_refusals.specs.Says.{stripeFault}
 use Rattle.check_stripe.specs.declared.Checked.{Checked}
 
 -- "The check says yes exactly for clean stripes."

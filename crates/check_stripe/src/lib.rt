@@ -74,7 +74,12 @@ fn is_clean(width: usize, disks: usize, size: usize, stripe: &[u8]) -> bool
 pub fn check_stripe(shape: Shape, stripe: &[u8]) -> Checked
     ensures { λ r. ⌜ CheckSays (shape .width) (shape .disks) (shape .«cell_size») (now (stripe .entry)) r ⌝ }
 {
-    let refusal = stripes::stripe_fault(shape.width, shape.disks, shape.cell_size, stripe.len());
+    let refusal = stripe_refusals::stripe_fault(
+        shape.width,
+        shape.disks,
+        shape.cell_size,
+        stripe.len(),
+    );
     if refusal != 0 {
         return Checked {
             answer: refusals::answered(refusal),

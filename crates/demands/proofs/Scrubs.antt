@@ -17,8 +17,8 @@ use Rattle.liberation_survivors.specs.Survivors.{fits, suspect, verdict}
 use Rattle.liberation_survivors.specs.Explained.{Explains, NoDisk}
 use Rattle.liberation_survivors.proofs.Explaining.{column-explains, explains-fits, explains-once}
 use Rattle.liberation_survivors.proofs.Verdicts.{verdict-means}
-use Rattle.stripes.specs.Says.{stripeFault}
-use Rattle.stripes.proofs.StripeRefusals.{fault-none}
+use Rattle.stripe_refusals.specs.Says.{stripeFault}
+use Rattle.stripe_refusals.proofs.StripeRefusals.{fault-none}
 use Rattle.scrub.specs.declared.Scrubbed.{Scrubbed}
 use Rattle.scrub.specs.Says.{ScrubSays}
 use Rattle.demands.proofs.Stripes.{is-stripe}

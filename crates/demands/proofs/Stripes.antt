@@ -23,10 +23,10 @@ use Rattle.liberation_stripes.proofs.Rebuilding.{one-back, lost-unused, only-re
 use Rattle.refusals.specs.declared.Answer.{Answer}
 use Rattle.read_list.specs.Says.{ListSays}
 use Rattle.check_stripe.specs.declared.Checked.{Checked}
-use Rattle.stripes.specs.Says.{stripeFault}
+use Rattle.stripe_refusals.specs.Says.{stripeFault}
 use Rattle.encode_stripe.specs.Says.{EncodeSays}
 use Rattle.check_stripe.specs.Says.{CheckSays}
-use Rattle.stripes.proofs.StripeRefusals.{fault-none as within-limits}
+use Rattle.stripe_refusals.proofs.StripeRefusals.{fault-none as within-limits}
 use Rattle.rebuild_one.specs.Says.{OneSays}
 use Rattle.rebuild_one.proofs.OneRefusals.{fault-none}
 

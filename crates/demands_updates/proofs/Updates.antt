@@ -23,7 +23,7 @@ use Rattle.liberation_updates.proofs.ParityCells.{parity-row, parity-diagonal, 
 use Rattle.liberation_updates.proofs.Updating.{updated-stripe, updated-new, updated-parity, updated-byte, updated-set, updated-clean, updated-encoded}
 use Rattle.refusals.specs.declared.Answer.{Answer}
 use Rattle.refusals.proofs.AnswerLaws.{answers-none}
-use Rattle.stripes.specs.Says.{stripeFault}
+use Rattle.stripe_refusals.specs.Says.{stripeFault}
 use Rattle.encode_stripe.specs.Says.{EncodeSays}
 use Rattle.update_parity.specs.Cells.{DataCell}
 use Rattle.update_parity.proofs.CellPlaces.{own-fits}

@@ -12,7 +12,7 @@ use Rattle.liberation_stripes.specs.Stripes.{encoded, followed}
 use Rattle.refusals.specs.declared.Answer.{Answer}
 use Rattle.refusals.specs.Answers.{Answers}
 use Rattle.refusals.proofs.AnswerLaws.{answers-as}
-use Rattle.stripes.specs.Says.{stripeFault}
+use Rattle.stripe_refusals.specs.Says.{stripeFault}
 use Rattle.encode_stripe.specs.Says.{EncodeSays}
 
 -- P by the row sets, then Q by the diagonal sets

@@ -9,7 +9,7 @@ use Rattle.laws.specs.Xor.{allBytes}
 use Rattle.liberation_stripes.specs.Stripes.{encoded}
 use Rattle.refusals.specs.declared.Answer.{Answer}
 use Rattle.refusals.specs.Answers.{Answers}
-use Rattle.stripes.specs.Says.{stripeFault}
+use Rattle.stripe_refusals.specs.Says.{stripeFault}
 
 -- the stripe t becomes t′: encoded, or as it was on a refusal
 pub record EncodeSays (p k s : ℕ) (t t′ : List ℕ) (r : Answer) : Type 0 where

@@ -35,7 +35,12 @@ fn write_parity(width: usize, disks: usize, size: usize, stripe: &mut [u8])
 pub fn encode_stripe(shape: Shape, stripe: &mut [u8]) -> Answer
     ensures { λ r. ⌜ EncodeSays (shape .width) (shape .disks) (shape .«cell_size») (now (stripe .entry)) (now (stripe .exit)) r ⌝ }
 {
-    let fault = stripes::stripe_fault(shape.width, shape.disks, shape.cell_size, stripe.len());
+    let fault = stripe_refusals::stripe_fault(
+        shape.width,
+        shape.disks,
+        shape.cell_size,
+        stripe.len(),
+    );
     if fault != 0 {
         return refusals::answered(fault);
     }

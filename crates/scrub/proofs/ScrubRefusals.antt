@@ -13,7 +13,7 @@ use Rattle.liberation_stripes.specs.Stripes.{clean}
 use Rattle.liberation_survivors.specs.Survivors.{suspect, verdict}
 use Rattle.refusals.specs.Answers.{Answers}
 use Rattle.refusals.proofs.AnswerLaws.{answers-as}
-use Rattle.stripes.specs.Says.{stripeFault}
+use Rattle.stripe_refusals.specs.Says.{stripeFault}
 use Rattle.scrub.specs.declared.Scrubbed.{Scrubbed}
 use Rattle.scrub.specs.Says.{ScrubSays}
 

@@ -8,7 +8,7 @@ use Rattle.laws.specs.Choice.{pick}
 use Rattle.laws.specs.Xor.{allBytes}
 use Rattle.liberation_survivors.specs.Survivors.{suspect, verdict}
 use Rattle.refusals.specs.Answers.{Answers}
-use Rattle.stripes.specs.Says.{stripeFault}
+use Rattle.stripe_refusals.specs.Says.{stripeFault}
 use Rattle.scrub.specs.declared.Scrubbed.{Scrubbed}
 
 -- it refuses by 1, 13, 2 and 5; the disk is the suspect where the verdict is 1, and 0 otherwise

@@ -1,3 +1,2 @@
--- What the steps over a stripe ask, and the refusals of a call on one.
+-- What the steps over a stripe ask.
 pub mod Cells
-pub mod Says

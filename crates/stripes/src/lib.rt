@@ -1,13 +1,10 @@
-// Steps over a stripe: one cell by its set, all cells of a disk by their sets; and the refusals of a call on a stripe.
+// Steps over a stripe: one cell by its set, all cells of a disk by their sets.
 ghost use mathlib.Core.Path.{_≡_};
-ghost use mathlib.Core.Bool.{not};
 ghost use Prim.Native.Nat.{_+_, _≤_, _<_};
-ghost use lib.Dec.{eqb};
 ghost use lib.ListN.{length};
-ghost use Rattle.laws.specs.Choice.{firstOf, when};
-ghost use Rattle.liberation.specs.Sets.{place, setOf, shapeFault};
+ghost use Rattle.liberation.specs.Sets.{place, setOf};
 ghost use Rattle.liberation.specs.Plans.{allOf};
-ghost use Rattle.liberation_stripes.specs.Stripes.{solved, followed, stripeLong};
+ghost use Rattle.liberation_stripes.specs.Stripes.{solved, followed};
 ghost use Rattle.liberation_stripes.specs.Limits.{Sized};
 ghost use Rattle.stripes.specs.Cells.{Ordinary};
 
@@ -73,15 +70,4 @@ pub fn solve_diagonals(width: usize, disks: usize, size: usize, stripe: &mut [u8
         solve_by(width, disks, size, 1, i, disks + 1, i, stripe, &mut at);
         i += 1;
     }
-}
-
-// The refusal of a call on a stripe of `long` bytes, 0 for none.
-pub fn stripe_fault(width: usize, disks: usize, size: usize, long: usize) -> u8
-    ensures { λ r. ⌜ r ≡ firstOf (shapeFault width disks size) (when (not (eqb long (stripeLong width disks size))) 5) ⌝ }
-{
-    let fault = refusals::shape_fault(width, disks, size);
-    if fault != 0 {
-        return fault;
-    }
-    number_tests::length_fault(long, (disks + 2) * (width * size))
 }

@@ -5,8 +5,8 @@ use borrow.Author.Needs.{needs}
 use Rattle.laws.specs.Xor.{allBytes}
 use Rattle.xor.proofs.SourceLaws.{bytes-all}
 use Rattle.liberation_stripes.specs.Limits.{Sized}
-use Rattle.stripes.specs.Says.{stripeFault}
-use Rattle.stripes.proofs.StripeRefusals.{fault-none}
+use Rattle.stripe_refusals.specs.Says.{stripeFault}
+use Rattle.stripe_refusals.proofs.StripeRefusals.{fault-none}
 use Rattle.check_stripe.proofs.CheckLaws.{check-refused, check-done}
 use Rattle.check_stripe.proofs.check_stripe.Statement.{statement}
 use Rattle.check_stripe.proofs.check_stripe.Tie as tie

@@ -4,8 +4,8 @@ use mathlib.Core.Bool.{true}
 use borrow.Author.Needs.{needs}
 use Rattle.laws.specs.Xor.{allBytes}
 use Rattle.xor.proofs.SourceLaws.{bytes-all}
-use Rattle.stripes.specs.Says.{stripeFault}
-use Rattle.stripes.proofs.StripeRefusals.{fault-none}
+use Rattle.stripe_refusals.specs.Says.{stripeFault}
+use Rattle.stripe_refusals.proofs.StripeRefusals.{fault-none}
 use Rattle.encode_stripe.proofs.EncodeLaws.{encode-refused, encode-done}
 use Rattle.encode_stripe.proofs.encode_stripe.Statement.{statement}
 use Rattle.encode_stripe.proofs.encode_stripe.Tie as tie

@@ -5,7 +5,7 @@ use native.Mathlib.Omega.{arith}
 use borrow.Author.Needs.{needs}
 use Rattle.laws.proofs.ChoiceLaws.{first-kept, first-next}
 use Rattle.liberation.specs.Sets.{numbersFault}
-use Rattle.stripes.proofs.StripeRefusals.{numbers-most}
+use Rattle.stripe_refusals.proofs.StripeRefusals.{numbers-most}
 use Rattle.rebuild_one.proofs.one_fault.Statement.{statement}
 use Rattle.rebuild_one.proofs.one_fault.Tie as tie
 

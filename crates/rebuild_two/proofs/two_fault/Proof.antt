@@ -10,7 +10,7 @@ use Rattle.laws.proofs.ChoiceLaws.{first-kept, first-next}
 use Rattle.laws.specs.Choice.{when, firstOf}
 use Rattle.liberation.specs.Sets.{numbersFault, diskFault}
 use Rattle.liberation_stripes.specs.Stripes.{stripeLong}
-use Rattle.stripes.proofs.StripeRefusals.{numbers-most}
+use Rattle.stripe_refusals.proofs.StripeRefusals.{numbers-most}
 use Rattle.rebuild_two.proofs.two_fault.Statement.{statement}
 use Rattle.rebuild_two.proofs.two_fault.Tie as tie
 

@@ -3,8 +3,8 @@ use mathlib.Core.Path.{_≡_, sym, _∙_}
 use native.Mathlib.Omega.{arith}
 use borrow.Author.Needs.{needs}
 use Rattle.liberation_stripes.specs.Limits.{Sized}
-use Rattle.stripes.specs.Says.{stripeFault}
-use Rattle.stripes.proofs.StripeRefusals.{fault-none}
+use Rattle.stripe_refusals.specs.Says.{stripeFault}
+use Rattle.stripe_refusals.proofs.StripeRefusals.{fault-none}
 use Rattle.scrub.proofs.ScrubRefusals.{scrub-refused, scrub-clean, scrub-one, scrub-more}
 use Rattle.scrub.proofs.scrub_stripe.Statement.{statement}
 use Rattle.scrub.proofs.scrub_stripe.Tie as tie

@@ -6,8 +6,8 @@ use borrow.Author.Needs.{needs}
 use Rattle.laws.proofs.ChoiceLaws.{first-kept, first-next}
 use Rattle.liberation.specs.Sets.{shapeFault}
 use Rattle.liberation.proofs.FaultLaws.{shape-most}
-use Rattle.stripes.proofs.stripe_fault.Statement.{statement}
-use Rattle.stripes.proofs.stripe_fault.Tie as tie
+use Rattle.stripe_refusals.proofs.stripe_fault.Statement.{statement}
+use Rattle.stripe_refusals.proofs.stripe_fault.Tie as tie
 
 -- past refusals 1, 13 and 2
 fine : (c : tie.Else1) → let a = c .before .before .args in shapeFault (a .width) (a .disks) (a .size) ≡ 0

@@ -7,7 +7,7 @@ use Rattle.liberation.specs.Sets.{longFault, diskFault, shapeFault, numbersFaul
 use Rattle.liberation.proofs.FaultLaws.{long-of, shape-of, shape-most}
 use Rattle.liberation_stripes.specs.Stripes.{stripeLong}
 use Rattle.liberation_stripes.specs.Limits.{Sized}
-use Rattle.stripes.specs.Says.{stripeFault}
+use Rattle.stripe_refusals.specs.Says.{stripeFault}
 
 -- a stripe within the limits, with a disk of it, has few enough bytes to count
 pub numbers-most : (p k s f : ℕ) → numbersFault p k s f ≡ 0 → (p ≤ 31) × (k ≤ p) × (p * s ≤ 126976) × ((k + 2) * (p * s) ≤ 4190208)

@@ -1,0 +1,2 @@
+-- What holds past the refusals.
+pub mod StripeRefusals

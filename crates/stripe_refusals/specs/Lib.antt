@@ -1,0 +1,2 @@
+-- The refusals of a call on a stripe.
+pub mod Says
