@@ -3,7 +3,8 @@
 ghost use Rattle.planner.specs.Says.{PlanSays};
 ghost use Rattle.read_list.specs.Says.{ListSays};
 ghost use Rattle.judge.specs.Says.{JudgeSays};
-ghost use Rattle.plan_files.specs.Says.{JudgeTextSays, WriteSays, PlainSays};
+ghost use Rattle.judge_text.specs.Says.{JudgeTextSays};
+ghost use Rattle.plan_files.specs.Says.{WriteSays, PlainSays};
 ghost use Rattle.plan_text.specs.Says.{TextSays};
 use judge_steps::Judged;
 use plan_files::Written;
@@ -55,7 +56,7 @@ pub extern "C" fn cuzhaveli_judge_text(
 ) -> Judged
     ensures { λ r. ⌜ JudgeTextSays width disks lost (now (text .entry)) r ⌝ }
 {
-    plan_files::judge_text(width, disks, lost, text)
+    judge_text::judge_text(width, disks, lost, text)
 }
 
 // Writes an accepted plan of 3 × p bytes in its plain form into a lent slice of 263 bytes.

@@ -27,8 +27,9 @@ use Rattle.liberation_texts.specs.Reading.{readable, stepsRead}
 use Rattle.liberation_texts.specs.Plain.{plain}
 use Rattle.liberation_texts.proofs.StepwiseLaws.{steps-count}
 use Rattle.liberation_texts.proofs.TextTheorems.{form-readable, readable-has-form, accepted-readable, accepted-steps, accepted-most}
+use Rattle.judge_text.specs.Says.{textFault, judgeFirst, allFaults, JudgeTextSays}
 use Rattle.plan_files.specs.declared.Written.{Written}
-use Rattle.plan_files.specs.Says.{textFault, roomFault, judgeFirst, writeFirst, plainFirst, allFaults, Writes, JudgeTextSays, WriteSays, PlainSays}
+use Rattle.plan_files.specs.Says.{roomFault, writeFirst, plainFirst, Writes, WriteSays, PlainSays}
 
 -- The steps ss are an accepted plan, and a call wrote them: o became o′.
 pub record PlainWritten (p k f : ℕ) (ss : List Step) (o o′ : List ℕ) (r : Written) : Type 0 where

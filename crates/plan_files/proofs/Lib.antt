@@ -1,2 +1,2 @@
--- Laws of the calls on plans as text.
+-- Laws of the calls that write plans as text.
 pub mod FileLaws

@@ -1,2 +1,2 @@
--- What the calls on plans as text promise.
+-- What the calls that write plans as text promise.
 pub mod Says

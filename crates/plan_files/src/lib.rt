@@ -1,4 +1,4 @@
-// The calls on plans as text from the host: the judge of a text, an accepted plan in its plain form, a text to its plain form.
+// The calls that write plans as text: an accepted plan in its plain form, a text to its plain form.
 ghost use mathlib.Core.Path.{_≡_};
 ghost use mathlib.Core.Bool.{not};
 ghost use Prim.Native.Nat.{_*_};
@@ -7,8 +7,7 @@ ghost use lib.ListN.{length};
 ghost use Rattle.laws.specs.Choice.{when, firstOf};
 ghost use Rattle.liberation.specs.Sets.{planFault};
 ghost use Rattle.liberation.specs.Judging.{stepsIn};
-ghost use Rattle.plan_files.specs.Says.{Refuses, Writes, JudgeTextSays, WriteSays, PlainSays};
-use judge_steps::Judged;
+ghost use Rattle.plan_files.specs.Says.{Refuses, Writes, WriteSays, PlainSays};
 use refusals::Answer;
 
 // The answer, and the length of the text that was written.
@@ -26,28 +25,6 @@ fn unwritten(refusal: u8) -> Written
         answer: refusals::answered(refusal),
         length: 0,
     }
-}
-
-// Judges a plan that is a text. Refusals: 1, 13, 3, 22, then 6 to 9 with the step as their place.
-pub fn judge_text(width: usize, disks: usize, lost: usize, text: &[u8]) -> Judged
-    ensures { λ r. ⌜ JudgeTextSays width disks lost (now (text .entry)) r ⌝ }
-{
-    let fault = refusals::plan_fault(width, disks, lost);
-    if fault != 0 {
-        return Judged {
-            answer: refusals::answered(fault),
-            reads: 0,
-        };
-    }
-    let read = plan_reader::parse(width, text);
-    if !read.ok {
-        return Judged {
-            answer: refusals::answered(22),
-            reads: 0,
-        };
-    }
-    let plan = read.plan;
-    judge::judge_plan(width, disks, lost, &plan[..3 * width])
 }
 
 // Writes a plan whose numbers and lengths are right in its plain form. Refusals: 6 to 9.

@@ -11,8 +11,10 @@ use Rattle.liberation.specs.Sets.{planFault, longFault}
 use Rattle.liberation.specs.Judging.{stepsIn}
 use Rattle.liberation.proofs.FaultLaws.{long-of}
 use Rattle.liberation_texts.specs.Reading.{stepsRead}
-use Rattle.plan_files.specs.Says.{textFault, roomFault, plainFirst}
-use Rattle.plan_files.proofs.FileLaws.{not-read, is-read, read-steps, plan-small, writes-refused, writes-steps}
+use Rattle.judge_text.specs.Says.{textFault}
+use Rattle.judge_text.proofs.JudgeTextLaws.{not-read, is-read, read-steps, plan-small}
+use Rattle.plan_files.specs.Says.{roomFault, plainFirst}
+use Rattle.plan_files.proofs.FileLaws.{writes-refused, writes-steps}
 use Rattle.plan_files.proofs.plain_text.Statement.{statement}
 use Rattle.plan_files.proofs.plain_text.Tie as tie
 

@@ -7,8 +7,9 @@ use Rattle.laws.proofs.ChoiceLaws.{first-kept, first-next, first-none}
 use Rattle.liberation.specs.Sets.{planFault, longFault}
 use Rattle.liberation.specs.Judging.{stepsIn}
 use Rattle.liberation.proofs.FaultLaws.{long-of}
+use Rattle.judge_text.proofs.JudgeTextLaws.{plan-small}
 use Rattle.plan_files.specs.Says.{roomFault, writeFirst}
-use Rattle.plan_files.proofs.FileLaws.{plan-small, writes-refused, writes-steps}
+use Rattle.plan_files.proofs.FileLaws.{writes-refused, writes-steps}
 use Rattle.plan_files.proofs.write_plan.Statement.{statement}
 use Rattle.plan_files.proofs.write_plan.Tie as tie
 

@@ -2,9 +2,10 @@
 use mathlib.Core.Path.{refl}
 use native.Mathlib.Omega.{arith}
 use borrow.Author.Needs.{needs}
-use Rattle.liberation.specs.Judging.{stepsIn, accepted}
-use Rattle.plan_files.specs.Says.{Judges}
-use Rattle.plan_files.proofs.FileLaws.{plan-small, judges-steps, steps-refused, steps-accepted, steps-written, writable-steps}
+use Rattle.liberation.specs.Judging.{stepsIn}
+use Rattle.judge_text.specs.Says.{Judges}
+use Rattle.judge_text.proofs.JudgeTextLaws.{plan-small, judges-steps}
+use Rattle.plan_files.proofs.FileLaws.{steps-refused, steps-accepted, steps-written, writable-steps}
 use Rattle.plan_files.proofs.write_steps.Statement.{statement}
 use Rattle.plan_files.proofs.write_steps.Tie as tie
 

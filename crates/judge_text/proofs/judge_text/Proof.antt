@@ -9,10 +9,10 @@ use borrow.Author.Needs.{needs}
 use Rattle.laws.proofs.ChoiceLaws.{first-kept, first-next}
 use Rattle.liberation.specs.Sets.{planFault}
 use Rattle.liberation_texts.specs.Reading.{stepsRead}
-use Rattle.plan_files.specs.Says.{textFault, judgeFirst}
-use Rattle.plan_files.proofs.FileLaws.{not-read, is-read, read-steps, plan-small, judges-refused, judges-steps}
-use Rattle.plan_files.proofs.judge_text.Statement.{statement}
-use Rattle.plan_files.proofs.judge_text.Tie as tie
+use Rattle.judge_text.specs.Says.{textFault, judgeFirst}
+use Rattle.judge_text.proofs.JudgeTextLaws.{not-read, is-read, read-steps, plan-small, judges-refused, judges-steps}
+use Rattle.judge_text.proofs.judge_text.Statement.{statement}
+use Rattle.judge_text.proofs.judge_text.Tie as tie
 
 -- past the refusals of the numbers
 numbers : (c : tie.Else1) → let a = c .before .before .before .args in planFault (a .width) (a .disks) (a .lost) ≡ 0

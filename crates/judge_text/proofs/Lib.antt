@@ -1,0 +1,2 @@
+-- Laws of the judge of a text.
+pub mod JudgeTextLaws

@@ -1,0 +1,2 @@
+-- What the judge of a text promises.
+pub mod Says
