@@ -1,5 +1,5 @@
 -- Laws of the printed plan.
 pub mod TextLaws
-pub mod FormLaws
+pub mod PrintedLaws
 pub mod LineLaws
 pub mod TextAnswers

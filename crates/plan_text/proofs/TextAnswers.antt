@@ -9,12 +9,13 @@ use lib.ListN.{length, replicate, length-append}
 use Rattle.laws.specs.Choice.{when, firstOf}
 use Rattle.liberation.specs.Sets.{isWidth, widthFault, diskFault, planFault}
 use Rattle.liberation.proofs.FaultLaws.{array-same}
-use Rattle.plan_text.specs.Text.{firstValue, secondValue, isForm, planText, refusedLine}
+use Rattle.plan_input.specs.Input.{firstValue, secondValue, isForm}
+use Rattle.plan_text.specs.Text.{planText, refusedLine}
 use Rattle.text.specs.Writing.{Wrote}
 use Rattle.plan_text.specs.Says.{TextIs, TextSays}
 use Rattle.plan_text.specs.declared.Text.{Text}
 use Rattle.text.proofs.WriteLaws.{wrote-zeros}
-use Rattle.plan_text.proofs.FormLaws.{form-fault, no-form-printed, printed-refusal, printed-plan}
+use Rattle.plan_text.proofs.PrintedLaws.{form-fault, no-form-printed, printed-refusal, printed-plan}
 
 pub text-holds : {o o₁ : List ℕ} {r : ℕ} {t : List ℕ} → o ≡ replicate 458 0 → Wrote o o₁ 0 r t → TextIs t (record { bytes = o₁; length = r })
 text-holds e w = let z = wrote-zeros 458 (rw e at w) in record { size = z .0; bytes = z .1 }

@@ -1,20 +1,17 @@
--- The printed plan (document 01, "The printed plan"): the input's form, and the whole output as a function of the whole input.
-use mathlib.Core.Bool.{Bool, _&&_}
+-- The printed plan (document 01, "The printed plan"): the whole output as a function of the whole input.
 use mathlib.Core.List.{List, [], _∷_, _++_}
-use Prim.Native.Nat.{ℕ, suc, _+_, _-_, _*_}
-use lib.Dec.{eqb, ltb}
-use lib.ListN.{length, getD, drop}
+use Prim.Native.Nat.{ℕ, suc, _-_}
+use lib.Dec.{eqb}
+use lib.ListN.{length}
 use Rattle.laws.specs.Choice.{pick, firstOf}
-use Rattle.laws.specs.Lists.{same, added}
+use Rattle.laws.specs.Lists.{added}
 use Rattle.liberation.specs.Sets.{setOf, survivingIn, widthFault, diskFault}
 use Rattle.liberation.specs.Plans.{Step, planOf}
 use Rattle.text.specs.Digits.{digitsOf}
 use Rattle.text_steps.specs.Fields.{stepFields}
+use Rattle.plan_input.specs.Input.{firstValue, secondValue, isForm}
 
--- fixed byte strings, each line ended by LF: `p,lost` and `step,row,set,number,new`; `refused,`
-abbrev pub namesLine : List ℕ
-namesLine = 112 ∷ (44 ∷ (108 ∷ (111 ∷ (115 ∷ (116 ∷ (10 ∷ []))))))
-
+-- fixed byte strings: `step,row,set,number,new`, ended by LF; `refused,`
 abbrev pub headLine : List ℕ
 headLine =
     115 ∷ (116 ∷ (101 ∷ (112 ∷ (44 ∷ (114 ∷ (111 ∷ (119 ∷ (44 ∷ (115 ∷ (101 ∷ (116 ∷ (44
@@ -22,28 +19,6 @@ headLine =
 
 abbrev pub refusedWord : List ℕ
 refusedWord = 114 ∷ (101 ∷ (102 ∷ (117 ∷ (115 ∷ (101 ∷ (100 ∷ (44 ∷ [])))))))
-
--- the input for width a and lost disk b
-abbrev pub inputOf : ℕ → ℕ → List ℕ
-inputOf a b = namesLine ++ (digitsOf a ++ (44 ∷ (digitsOf b ++ (10 ∷ []))))
-
--- the number before the byte `stop`, if it has one or two digits
-abbrev pub valueTo : ℕ → List ℕ → ℕ
-valueTo stop t = pick (eqb (getD t 1 0) stop) (getD t 0 0 - 48) (10 * (getD t 0 0 - 48) + (getD t 1 0 - 48))
-
--- the two numbers of an input that has the form; what follows the first comma of the values line
-abbrev pub firstValue : List ℕ → ℕ
-firstValue t = valueTo 44 (drop 7 t)
-
-abbrev pub afterFirst : List ℕ → List ℕ
-afterFirst t = drop (pick (eqb (getD t 8 0) 44) 9 10) t
-
-abbrev pub secondValue : List ℕ → ℕ
-secondValue t = valueTo 10 (afterFirst t)
-
--- "program input not of its form" is what refusal 12 is for: an input is of its form exactly if it is the input of two numbers below 100
-unfoldable pub isForm : List ℕ → Bool
-isForm t = ltb (firstValue t) 100 && (ltb (secondValue t) 100 && same t (inputOf (firstValue t) (secondValue t)))
 
 -- a line: step, row, set, number, new
 abbrev pub lineOf : ℕ → Step → ℕ → List ℕ

@@ -1,13 +1,13 @@
-// The printed plan as text: the input's form, the plan's lines or a refusal.
+// The printed plan as text: the plan's lines or a refusal.
 ghost use mathlib.Core.Path.{_≡_};
 ghost use mathlib.Core.List.{[]};
 ghost use Prim.Native.Nat.{_+_, _*_, _≤_, _<_};
-ghost use lib.ListN.{length, drop, replicate};
+ghost use lib.ListN.{length, replicate};
 ghost use Rattle.liberation.specs.Limits.{InArray};
 ghost use Rattle.liberation.specs.Plans.{step, planOf, marksFrom};
 ghost use Rattle.step_records.specs.Records.{Holds};
 ghost use Rattle.text.specs.Writing.{Wrote};
-ghost use Rattle.plan_text.specs.Text.{lineOf, newFrom, linesFrom, planText, refusedLine, inputOf, valueTo, firstValue, secondValue, isForm};
+ghost use Rattle.plan_text.specs.Text.{lineOf, newFrom, linesFrom, planText, refusedLine};
 ghost use Rattle.plan_text.specs.Says.{TextIs, TextSays};
 use step_records::Steps;
 
@@ -44,64 +44,6 @@ fn put_refusal(out: &mut [u8], at: usize, number: usize) -> usize
 {
     let next = text::put(out, at, b"refused,");
     text_steps::put_field(out, next, number, 10)
-}
-
-// Puts the input for two numbers.
-fn put_input(out: &mut [u8], at: usize, first: usize, second: usize) -> usize
-    requires { ⌜ (first < 100) × (second < 100) × (at + 13 ≤ length (now out)) ⌝ }
-    ensures { λ r. ⌜ Wrote (now (out .entry)) (now (out .exit)) at r (inputOf first second) ⌝ }
-{
-    let values = text::put(out, at, b"p,lost\n");
-    let comma = text_steps::put_field(out, values, first, 44);
-    text_steps::put_field(out, comma, second, 10)
-}
-
-// The number from a place on, of one digit if the byte `stop` follows it, else of two.
-fn value(text: &[u8], at: usize, stop: u8) -> usize
-    requires { ⌜ at < 100 ⌝ }
-    ensures { λ r. ⌜ r ≡ valueTo stop (drop at (now (text .entry))) ⌝ }
-{
-    let first = text::digit(text::byte_at(text, at));
-    let next = text::byte_at(text, at + 1);
-    if next == stop {
-        first
-    } else {
-        10 * first + text::digit(next)
-    }
-}
-
-// The first number of the values line.
-fn first_value(text: &[u8]) -> usize
-    ensures { λ r. ⌜ r ≡ firstValue (now (text .entry)) ⌝ }
-{
-    value(text, 7, 44)
-}
-
-// The second number of the values line.
-fn second_value(text: &[u8]) -> usize
-    ensures { λ r. ⌜ r ≡ secondValue (now (text .entry)) ⌝ }
-{
-    if text::byte_at(text, 8) == 44 {
-        value(text, 9, 10)
-    } else {
-        value(text, 10, 10)
-    }
-}
-
-// Is the input of its form? The two numbers are those that stand in it, and the input has to be theirs, byte for byte.
-fn is_form(text: &[u8], first: usize, second: usize) -> bool
-    requires { ⌜ (first ≡ firstValue (now text)) × (second ≡ secondValue (now text)) ⌝ }
-    ensures { λ r. ⌜ r ≡ isForm (now (text .entry)) ⌝ }
-{
-    if first >= 100 {
-        return false;
-    }
-    if second >= 100 {
-        return false;
-    }
-    let mut expected = [0u8; 13];
-    let n = put_input(&mut expected, 0, first, second);
-    check::same(text, &expected[..n])
 }
 
 // Puts the lines of a plan's steps. A cell that a step reads is marked, so that the next steps count it no more.
@@ -179,9 +121,9 @@ fn steps_text(width: usize, disk: usize, steps: Steps) -> Text
 pub fn plan_text(input: &[u8]) -> Text
     ensures { λ r. ⌜ TextSays (now (input .entry)) r ⌝ }
 {
-    let width = first_value(input);
-    let disk = second_value(input);
-    if !is_form(input, width, disk) {
+    let width = plan_input::first_value(input);
+    let disk = plan_input::second_value(input);
+    if !plan_input::is_form(input, width, disk) {
         return refusal_text(12);
     }
     let plan = planner::plan_disk(width, width, disk);

@@ -6,7 +6,7 @@ use borrow.Author.Tests.{not-true, not-false}
 use borrow.Author.Needs.{needs}
 use Rattle.liberation.proofs.FaultLaws.{plan-of}
 use Rattle.plan_steps.proofs.PlannedLaws.{held-as, planned-is}
-use Rattle.plan_text.specs.Text.{isForm}
+use Rattle.plan_input.specs.Input.{isForm}
 use Rattle.plan_text.proofs.TextAnswers.{fault-small, says-no-form, says-refusal, says-plan}
 use Rattle.plan_text.proofs.plan_text.Tie as tie
 use Rattle.plan_text.proofs.plan_text.Statement.{statement}

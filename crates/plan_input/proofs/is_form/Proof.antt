@@ -4,11 +4,11 @@ use native.Mathlib.Omega.{arith}
 use lib.ListN.{take}
 use lib.Seq.{length-take-le}
 use borrow.Author.Needs.{needs}
-use Rattle.plan_text.specs.Text.{inputOf}
+use Rattle.plan_input.specs.Input.{inputOf}
 use Rattle.text.proofs.WriteLaws.{wrote-long, wrote-front}
-use Rattle.plan_text.proofs.FormLaws.{no-form-first, no-form-second, form-same}
-use Rattle.plan_text.proofs.is_form.Tie as tie
-use Rattle.plan_text.proofs.is_form.Statement.{statement}
+use Rattle.plan_input.proofs.FormLaws.{no-form-first, no-form-second, form-same}
+use Rattle.plan_input.proofs.is_form.Tie as tie
+use Rattle.plan_input.proofs.is_form.Statement.{statement}
 
 returns : tie.Need-returns
 returns c =

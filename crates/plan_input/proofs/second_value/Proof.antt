@@ -1,9 +1,9 @@
 -- `second_value`: the number begins behind the first comma, which is the second or the third byte of the values line.
 use mathlib.Core.Path.{sym, _∙_}
 use borrow.Author.Needs.{needs}
-use Rattle.plan_text.proofs.TextLaws.{second-near, second-far}
-use Rattle.plan_text.proofs.second_value.Tie as tie
-use Rattle.plan_text.proofs.second_value.Statement.{statement}
+use Rattle.plan_input.proofs.InputLaws.{second-near, second-far}
+use Rattle.plan_input.proofs.second_value.Tie as tie
+use Rattle.plan_input.proofs.second_value.Statement.{statement}
 
 returns : tie.Need-returns
 returns c = c .value .ensures ∙ second-near (c .before .before .before .before .args .text .now) (sym (c .before .before .byte-at .ensures) ∙ c .before .if1 .taken)

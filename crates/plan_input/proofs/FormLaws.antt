@@ -1,26 +1,24 @@
 -- The form of an input: it has the form exactly if it is the input of two numbers below 100, and these two are read from it.
--- So no input of more than 13 bytes has the form, and the first 14 bytes of an input decide what is printed for it.
+-- So no input of more than 13 bytes has the form.
 use mathlib.Core.Path.{_≡_, refl, sym, ap, ap₂, _∙_}
 use mathlib.Core.Bool.{Bool, true, false, _&&_, and-false}
 use mathlib.Core.List.{List, [], _∷_, _++_}
 use mathlib.Core.Logic.{⊎-elim}
 use Prim.Native.Nat.{ℕ, _+_, _-_, _*_, _/_, _%_, _≤_, _<_}
 use native.Mathlib.Omega.{arith}
-use lib.Dec.{eqb, ltb}
-use lib.ListN.{length, take, drop, length-append}
-use lib.Seq.{length-take-le, take-all}
+use lib.Dec.{ltb}
+use lib.ListN.{length, drop, length-append}
 use borrow.Author.Tests.{lt-ltb, le-ltb, ltb-true, eq-eqb, ne-eqb}
-use Rattle.laws.specs.Choice.{pick, firstOf}
+use Rattle.laws.specs.Choice.{pick}
 use Rattle.laws.specs.Lists.{same}
 use Rattle.laws.proofs.Flags.{and-l, and-r, and-i, flag, same-flag}
 use Rattle.laws.proofs.OrderLaws.{lt-or-le}
 use Rattle.laws.proofs.MemberLaws.{same-true, same-self}
-use Rattle.liberation.specs.Sets.{widthFault, diskFault}
 use Rattle.text.specs.Digits.{digitsOf}
 use Rattle.text.proofs.DigitLaws.{one-digit, two-digits}
 use Rattle.text_steps.proofs.FieldLaws.{field-most}
-use Rattle.plan_text.specs.Text.{namesLine, inputOf, valueTo, firstValue, afterFirst, secondValue, isForm, inputFault, planText, refusedLine, printed}
-use Rattle.plan_text.proofs.TextLaws.{input-fields}
+use Rattle.plan_input.specs.Input.{namesLine, inputOf, valueTo, firstValue, afterFirst, secondValue, isForm}
+use Rattle.plan_input.proofs.InputLaws.{input-fields}
 
 -- what the three tests of the code say of the form
 pub no-form-first : (t : List ℕ) → 100 ≤ firstValue t → isForm t ≡ false
@@ -102,36 +100,6 @@ form-only t e =
 pub input-most : (a b : ℕ) → length (inputOf a b) ≤ 13
 input-most a b = omega (arith, ap length (sym (input-fields a b)), length-append (namesLine ++ (digitsOf a ++ (44 ∷ []))) (digitsOf b ++ (10 ∷ [])), field-most a 44, field-most b 10)
 
--- a longer input is refused by 12
+-- a longer input has it not
 pub long-no-form : (t : List ℕ) → 14 ≤ length t → isForm t ≡ false
 long-no-form t h = ⊎-elim (λ e. absurd (omega (arith, ap length (form-only t e .input), input-most (firstValue t) (secondValue t)))) (λ e. e) (flag (isForm t))
-
-pub no-form-fault : (t : List ℕ) → isForm t ≡ false → inputFault t ≡ 12
-unfolding inputFault
-no-form-fault t e = ap (λ (b : Bool). pick b (firstOf (widthFault (firstValue t)) (diskFault (firstValue t) (secondValue t))) 12) e
-
-pub form-fault : (t : List ℕ) → isForm t ≡ true → inputFault t ≡ firstOf (widthFault (firstValue t)) (diskFault (firstValue t) (secondValue t))
-unfolding inputFault
-form-fault t e = ap (λ (b : Bool). pick b (firstOf (widthFault (firstValue t)) (diskFault (firstValue t) (secondValue t))) 12) e
-
--- what is printed, once the refusal number is known
-pub printed-refusal : (t : List ℕ) (n : ℕ) → inputFault t ≡ n → (n ≡ 0 → ⊥) → printed t ≡ refusedLine n
-unfolding printed
-printed-refusal t n e h =
-    ap (λ (m : ℕ). pick (eqb m 0) (planText (firstValue t) (secondValue t)) (refusedLine m)) e
-    ∙ ap (λ (b : Bool). pick b (planText (firstValue t) (secondValue t)) (refusedLine n)) (ne-eqb n 0 h)
-
-pub printed-plan : (t : List ℕ) → inputFault t ≡ 0 → printed t ≡ planText (firstValue t) (secondValue t)
-unfolding printed
-printed-plan t e = ap (λ (m : ℕ). pick (eqb m 0) (planText (firstValue t) (secondValue t)) (refusedLine m)) e
-
-pub no-form-printed : (t : List ℕ) → isForm t ≡ false → printed t ≡ refusedLine 12
-no-form-printed t e = printed-refusal t 12 (no-form-fault t e) (λ q. omega arith)
-
--- the first 14 bytes of an input decide
-pub printed-cut : (n : ℕ) (t : List ℕ) → 14 ≤ n → printed (take n t) ≡ printed t
-printed-cut n t h =
-    ⊎-elim
-    (λ l. no-form-printed (take n t) (long-no-form (take n t) (omega (arith, length-take-le n t (omega arith)))) ∙ sym (no-form-printed t (long-no-form t (omega arith))))
-    (λ l. ap printed (take-all n t l))
-    (lt-or-le n (length t))

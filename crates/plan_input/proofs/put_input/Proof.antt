@@ -3,9 +3,9 @@ use native.Mathlib.Omega.{arith}
 use borrow.Author.Needs.{needs}
 use Rattle.text.proofs.WriteLaws.{wrote-more, wrote-same}
 use Rattle.text_steps.proofs.FieldLaws.{field-most}
-use Rattle.plan_text.proofs.TextLaws.{input-fields}
-use Rattle.plan_text.proofs.put_input.Tie as tie
-use Rattle.plan_text.proofs.put_input.Statement.{statement}
+use Rattle.plan_input.proofs.InputLaws.{input-fields}
+use Rattle.plan_input.proofs.put_input.Tie as tie
+use Rattle.plan_input.proofs.put_input.Statement.{statement}
 
 put-field-requires-2 : tie.Need-put-field-requires-2
 put-field-requires-2 c κs =

@@ -2,9 +2,9 @@
 use mathlib.Core.Path.{sym, ap, ap₂, _∙_}
 use Prim.Native.Nat.{ℕ, _+_, _-_, _*_}
 use borrow.Author.Needs.{needs}
-use Rattle.plan_text.proofs.TextLaws.{value-one, value-two}
-use Rattle.plan_text.proofs.value.Tie as tie
-use Rattle.plan_text.proofs.value.Statement.{statement}
+use Rattle.plan_input.proofs.InputLaws.{value-one, value-two}
+use Rattle.plan_input.proofs.value.Tie as tie
+use Rattle.plan_input.proofs.value.Statement.{statement}
 
 returns : tie.Need-returns
 returns c =

@@ -1,0 +1,3 @@
+-- Laws of the input of the printed plan.
+pub mod InputLaws
+pub mod FormLaws

@@ -1,0 +1,2 @@
+-- The input of the printed plan.
+pub mod Input
