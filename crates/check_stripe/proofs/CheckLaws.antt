@@ -20,7 +20,7 @@ use Rattle.xor.specs.Reach.{Reached}
 use Rattle.offsets.specs.Offsets.{scaled, Pushed}
 use Rattle.offsets.proofs.OffsetLaws.{over-offsets}
 use Rattle.offsets.proofs.RunLaws.{run-zero}
-use Rattle.set_offsets.specs.Cells.{survivors}
+use Rattle.ordinary_offsets.specs.Cells.{survivors}
 use Rattle.set_offsets.proofs.SetLists.{survivors-past, surviving-past}
 use Rattle.stripe_refusals.specs.Says.{stripeFault}
 use Rattle.laws.proofs.AllLaws.{all-same}

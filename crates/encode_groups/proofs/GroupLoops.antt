@@ -12,7 +12,7 @@ use Rattle.liberation.specs.Sets.{place}
 use Rattle.liberation_stripes.specs.Stripes.{cellAt, encoded}
 use Rattle.liberation_stripes.proofs.Solving.{stripe-of, clean-of}
 use Rattle.liberation_stripes.proofs.Encoding.{encoded-only}
-use Rattle.set_offsets.specs.Cells.{parityDisk}
+use Rattle.ordinary_offsets.specs.Cells.{parityDisk}
 use Rattle.liberation_stripes.proofs.SizedLaws.{sized-kept}
 use Rattle.group_sets.specs.Groups.{parityCell, groupSum, addedSet, Group}
 use Rattle.encode_groups.specs.Added.{KindAdded, SetsAdded}

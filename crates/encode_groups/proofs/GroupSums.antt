@@ -22,8 +22,10 @@ use Rattle.liberation_stripes.proofs.CellLaws.{cell-fits, cell-with, cell-other
 use Rattle.liberation_stripes.proofs.OverLaws.{Long, over-long, over-bytes, over-ext, over-append}
 use Rattle.liberation_stripes.proofs.Solving.{SetZero, cells-long}
 use Rattle.offsets.specs.Offsets.{cellsFrom}
-use Rattle.set_offsets.specs.Cells.{parityDisk, extraIn}
-use Rattle.set_offsets.proofs.SetLists.{ordinary-split, set-split}
+use Rattle.ordinary_offsets.specs.Cells.{parityDisk}
+use Rattle.set_offsets.specs.Cells.{extraIn}
+use Rattle.ordinary_offsets.proofs.OrdinaryLists.{ordinary-split}
+use Rattle.set_offsets.proofs.SetLists.{set-split}
 use Rattle.group_offsets.specs.Extras.{extraBetween}
 use Rattle.group_offsets.proofs.ExtraLists.{extra-from}
 use Rattle.group_sets.specs.Groups.{groupCells, parityCell, groupSources, groupSum, addedSet}

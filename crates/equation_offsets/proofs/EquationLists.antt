@@ -18,8 +18,9 @@ use Rattle.liberation.proofs.LostLaws.{extraOn, lost-diagonal}
 use Rattle.liberation_survivors.specs.Survivors.{rowSets, equation}
 use Rattle.liberation_survivors.proofs.EquationCells.{equation-last, equation-other, equation-row-parity}
 use Rattle.offsets.specs.Offsets.{scaled, Pushed}
-use Rattle.set_offsets.specs.Cells.{survivors}
-use Rattle.set_offsets.proofs.SetLists.{survivors-one, both-pushed}
+use Rattle.ordinary_offsets.specs.Cells.{survivors}
+use Rattle.ordinary_offsets.proofs.OrdinaryLists.{both-pushed}
+use Rattle.set_offsets.proofs.SetLists.{survivors-one}
 
 -- a push into the part of m numbers of a list l that starts after the first n
 pub part-pushed : (n m r : ℕ) (l new xs : List ℕ) → n + m ≤ length l → length new ≡ length (midOf n (n + m - n) l) → Pushed (midOf n (n + m - n) l) new 0 r xs → Pushed l (putMid n (n + m - n) l new) n (n + r) xs

@@ -21,8 +21,10 @@ use Rattle.xor_within.specs.Beside.{Beside}
 use Rattle.offsets.specs.Offsets.{scaled, cellsFrom, Pushed}
 use Rattle.offsets.proofs.KeptLaws.{rowIn, row-in-below, cell-walk}
 use Rattle.offsets.proofs.OffsetLaws.{over-offsets}
-use Rattle.set_offsets.specs.Cells.{parityDisk, extraIn}
-use Rattle.set_offsets.proofs.SetLists.{extra-row, parity-most, none-pushed, both-pushed}
+use Rattle.ordinary_offsets.specs.Cells.{parityDisk}
+use Rattle.set_offsets.specs.Cells.{extraIn}
+use Rattle.ordinary_offsets.proofs.OrdinaryLists.{parity-most, none-pushed, both-pushed}
+use Rattle.set_offsets.proofs.SetLists.{extra-row}
 use Rattle.stripes.proofs.OrdinaryLaws.{cells-beside}
 use Rattle.group_offsets.specs.Extras.{extraBetween}
 use Rattle.group_offsets.proofs.ExtraLists.{extra-before, extra-from, extra-none}

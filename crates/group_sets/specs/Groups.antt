@@ -8,7 +8,7 @@ use Rattle.laws.specs.Choice.{pick}
 use Rattle.liberation.specs.Sets.{place}
 use Rattle.liberation_stripes.specs.Stripes.{cellAt, withCell, xorOver}
 use Rattle.offsets.specs.Offsets.{cellsFrom}
-use Rattle.set_offsets.specs.Cells.{parityDisk}
+use Rattle.ordinary_offsets.specs.Cells.{parityDisk}
 use Rattle.liberation_stripes.specs.Limits.{Sized}
 use Rattle.group_offsets.specs.Extras.{extraBetween}
 

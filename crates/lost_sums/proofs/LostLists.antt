@@ -21,7 +21,7 @@ use Rattle.offsets.specs.Offsets.{scaled, cellsFrom, Pushed}
 use Rattle.laws.proofs.Walks.{walk-long}
 use Rattle.offsets.proofs.KeptLaws.{cell-walk}
 use Rattle.offsets.proofs.OffsetLaws.{over-offsets}
-use Rattle.set_offsets.proofs.SetLists.{one-pushed, both-pushed, data-count}
+use Rattle.ordinary_offsets.proofs.OrdinaryLists.{one-pushed, both-pushed, data-count}
 use Rattle.set_sums.specs.Disks.{Lost}
 use Rattle.stripes.proofs.OrdinaryLaws.{cells-beside}
 

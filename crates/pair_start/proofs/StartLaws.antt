@@ -21,9 +21,9 @@ use Rattle.xor.specs.Parts.{withPart, xorOffsets}
 use Rattle.offsets.specs.Offsets.{scaled}
 use Rattle.offsets.proofs.OffsetLaws.{over-offsets}
 use Rattle.odd_marks.specs.Toggled.{isOdd, oddFrom, toggledAll}
-use Rattle.odd_marks.proofs.OddLaws.{odd-offsets}
 use Rattle.odd.specs.Gathered.{MarkedStripe}
-use Rattle.set_offsets.specs.Cells.{survivors}
+use Rattle.odd_marks.proofs.OddLaws.{odd-offsets}
+use Rattle.ordinary_offsets.specs.Cells.{survivors}
 use Rattle.liberation_stripes.specs.Limits.{Sized}
 use Rattle.pair_numbers.proofs.NumberLaws.{extra-below}
 use Rattle.pair_start.specs.Disks.{Walked}

@@ -18,8 +18,9 @@ use Rattle.liberation.specs.Plans.{diagonalOf}
 use Rattle.liberation_pairs.specs.Pairs.{nextRow, startSets}
 use Rattle.offsets.specs.Offsets.{scaled, Pushed}
 use Rattle.odd_marks.specs.Toggled.{toggled, toggledAll}
-use Rattle.set_offsets.specs.Cells.{survivors}
-use Rattle.set_offsets.proofs.SetLists.{survivors-none, survivors-append, survivors-swap}
+use Rattle.ordinary_offsets.specs.Cells.{survivors}
+use Rattle.ordinary_offsets.proofs.OrdinaryLists.{survivors-append}
+use Rattle.set_offsets.proofs.SetLists.{survivors-none, survivors-swap}
 
 toggled-append : (xs ys ms : List ℕ) → toggledAll (xs ++ ys) ms ≡ toggledAll ys (toggledAll xs ms)
 unfolding toggledAll

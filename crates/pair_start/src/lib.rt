@@ -6,7 +6,7 @@ ghost use Rattle.liberation.specs.Limits.{InArray};
 ghost use Rattle.liberation.specs.Sets.{setOf};
 ghost use Rattle.liberation_pairs.specs.Pairs.{startSets, started};
 ghost use Rattle.odd_marks.specs.Toggled.{toggledAll};
-ghost use Rattle.set_offsets.specs.Cells.{survivors};
+ghost use Rattle.ordinary_offsets.specs.Cells.{survivors};
 ghost use Rattle.liberation_stripes.specs.Limits.{Sized};
 ghost use Rattle.pair_start.specs.Disks.{Walked};
 

@@ -20,7 +20,8 @@ use Rattle.liberation.proofs.DistinctLaws.{extra-apart}
 use Rattle.liberation.proofs.LostLaws.{lost-diagonal}
 use Rattle.liberation_stripes.specs.Stripes.{without}
 use Rattle.liberation_stripes.proofs.OverLaws.{without-keeps}
-use Rattle.set_offsets.specs.Cells.{ordinaryOf, extraIn}
+use Rattle.ordinary_offsets.specs.Cells.{ordinaryOf}
+use Rattle.set_offsets.specs.Cells.{extraIn}
 use Rattle.set_offsets.proofs.SetLists.{set-split, own-row, extra-row, extra-first}
 
 -- of rows that are all this one, no other is left

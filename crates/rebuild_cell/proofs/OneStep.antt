@@ -30,7 +30,7 @@ use Rattle.xor.proofs.PartLaws.{put-part}
 use Rattle.xor_within.specs.Beside.{Beside}
 use Rattle.offsets.specs.Offsets.{scaled, Pushed}
 use Rattle.offsets.proofs.OffsetLaws.{over-offsets}
-use Rattle.set_offsets.specs.Cells.{survivors}
+use Rattle.ordinary_offsets.specs.Cells.{survivors}
 use Rattle.set_offsets.proofs.SetLists.{survivors-one, survivors-reached, size-fits}
 
 -- the cell of the step is on the lost disk, so no survivor is left out

@@ -1,2 +1,2 @@
--- The cells of a set but those on lost disks, as they are pushed into a list.
+-- The extra cell of a set, as it is pushed into a list.
 pub mod Cells

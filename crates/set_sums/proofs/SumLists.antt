@@ -20,7 +20,7 @@ use Rattle.xor.specs.Parts.{withPart, xorOffsets}
 use Rattle.xor_within.specs.Beside.{Apart}
 use Rattle.offsets.specs.Offsets.{scaled, Pushed}
 use Rattle.offsets.proofs.OffsetLaws.{length-scaled, over-offsets}
-use Rattle.set_offsets.specs.Cells.{survivors}
+use Rattle.ordinary_offsets.specs.Cells.{survivors}
 use Rattle.set_offsets.proofs.SetLists.{survivors-swap, survivors-below}
 use Rattle.stripes.proofs.OrdinaryLaws.{apart-from}
 use Rattle.set_sums.specs.Disks.{Lost}

@@ -24,7 +24,7 @@ fn sum_set(
     requires { ⌜ Lost width disks size x y (now stripe) (now at) × (number < width) × (row < width) × ((disk ≡ x) ⊎ (disk ≡ y)) ⌝ }
     ensures { λ _. ⌜ now (stripe .exit) ≡ summed width disks size x y (cellStep (place width row disk) kind number) (now (stripe .entry)) ⌝ }
 {
-    let low = set_offsets::least(x, y);
+    let low = ordinary_offsets::least(x, y);
     let n = set_offsets::surviving(width, disks, size, kind, number, low, x + y - low, at);
     let to = (disk * width + row) * size;
     xor_within_lists::gather_lists(stripe, to, size, &mut at[..n]);

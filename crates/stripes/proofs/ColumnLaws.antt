@@ -28,7 +28,8 @@ use Rattle.offsets.specs.Offsets.{scaled, Pushed}
 use Rattle.offsets.proofs.OffsetLaws.{over-offsets, each-offset}
 use Rattle.offsets.proofs.KeptLaws.{cell-walk, surviving-but}
 use Rattle.offsets.proofs.RunLaws.{run-cell}
-use Rattle.set_offsets.proofs.SetLists.{both-pushed, survivors-one}
+use Rattle.ordinary_offsets.proofs.OrdinaryLists.{both-pushed}
+use Rattle.set_offsets.proofs.SetLists.{survivors-one}
 use Rattle.stripes.proofs.OrdinaryLaws.{others-are, row-own}
 
 -- the cells of row i but that on disk d, as they are pushed

@@ -29,7 +29,8 @@ use Rattle.xor_within.specs.Beside.{Beside, Apart}
 use Rattle.offsets.specs.Offsets.{scaled, Pushed}
 use Rattle.offsets.proofs.OffsetLaws.{length-scaled, over-offsets, each-offset, cells-reached}
 use Rattle.offsets.proofs.KeptLaws.{surviving-keeps}
-use Rattle.set_offsets.specs.Cells.{survivors, ordinaryOf, extraIn}
+use Rattle.ordinary_offsets.specs.Cells.{survivors, ordinaryOf}
+use Rattle.set_offsets.specs.Cells.{extraIn}
 use Rattle.set_offsets.proofs.SetLists.{survivors-one, set-split, extra-kept, own-row, reached}
 use Rattle.stripes.specs.Cells.{Ordinary}
 

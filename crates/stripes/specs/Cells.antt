@@ -4,7 +4,7 @@ use mathlib.Core.Bool.{true}
 use Prim.Native.Nat.{ℕ, _<_}
 use Rattle.laws.specs.Lists.{isIn}
 use Rattle.liberation.specs.Sets.{place}
-use Rattle.set_offsets.specs.Cells.{ordinaryOf}
+use Rattle.ordinary_offsets.specs.Cells.{ordinaryOf}
 
 -- row r of disk c holds an ordinary cell of set i
 pub record Ordinary (p k kind i c r : ℕ) : Type 0 where

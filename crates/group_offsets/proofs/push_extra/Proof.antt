@@ -6,7 +6,8 @@ use native.Mathlib.Nat.{mul-le-mul}
 use native.Mathlib.Omega.{arith}
 use borrow.Author.Needs.{needs}
 use Rattle.liberation.specs.Sets.{place, extraRow}
-use Rattle.set_offsets.proofs.SetLists.{extra-first, extra-absent, extra-some, none-pushed, one-pushed}
+use Rattle.ordinary_offsets.proofs.OrdinaryLists.{none-pushed, one-pushed}
+use Rattle.set_offsets.proofs.SetLists.{extra-first, extra-absent, extra-some}
 use Rattle.group_offsets.proofs.ExtraLists.{extra-before, extra-from, extra-none}
 use Rattle.group_offsets.proofs.push_extra.Statement.{statement}
 use Rattle.group_offsets.proofs.push_extra.Tie as tie

@@ -10,7 +10,7 @@ use borrow.Author.Needs.{needs}
 use Rattle.liberation.specs.Sets.{place}
 use Rattle.xor_within.specs.Beside.{Beside}
 use Rattle.offsets.specs.Offsets.{scaled, Pushed}
-use Rattle.set_offsets.proofs.SetLists.{data-count}
+use Rattle.ordinary_offsets.proofs.OrdinaryLists.{data-count}
 use Rattle.group_sets.specs.Groups.{groupSources}
 use Rattle.group_sets.proofs.GroupLists.{own-few, sources-pushed, group-beside, group-added}
 use Rattle.group_sets.proofs.add_diagonal.Statement.{statement}

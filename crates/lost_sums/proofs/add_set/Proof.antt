@@ -11,7 +11,7 @@ use Rattle.liberation_sums.specs.Sums.{placed, lostCells}
 use Rattle.xor_within.specs.Beside.{Beside}
 use Rattle.offsets.specs.Offsets.{scaled, Pushed}
 use Rattle.offsets.proofs.OffsetLaws.{length-scaled}
-use Rattle.set_offsets.proofs.SetLists.{both-pushed}
+use Rattle.ordinary_offsets.proofs.OrdinaryLists.{both-pushed}
 use Rattle.lost_sums.proofs.LostLists.{lost-few, add-beside, add-done}
 use Rattle.lost_sums.proofs.add_set.Statement.{statement}
 use Rattle.lost_sums.proofs.add_set.Tie as tie

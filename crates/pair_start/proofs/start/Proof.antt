@@ -11,7 +11,7 @@ use Rattle.liberation_pairs.specs.Pairs.{startSets}
 use Rattle.liberation.proofs.MarkLists.{take-marks, no-cells, cells-most}
 use Rattle.odd_marks.specs.Toggled.{toggledAll}
 use Rattle.odd.specs.Gathered.{MarkedStripe}
-use Rattle.set_offsets.specs.Cells.{survivors}
+use Rattle.ordinary_offsets.specs.Cells.{survivors}
 use Rattle.pair_start.proofs.StartLaws.{start-marked, start-done}
 use Rattle.pair_start.proofs.start.Statement.{statement}
 use Rattle.pair_start.proofs.start.Tie as tie

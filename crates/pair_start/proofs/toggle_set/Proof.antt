@@ -9,7 +9,7 @@ use borrow.Author.Needs.{needs}
 use Rattle.laws.specs.Lists.{allBelow}
 use Rattle.liberation.specs.Sets.{setOf}
 use Rattle.odd_marks.specs.Toggled.{toggledAll}
-use Rattle.set_offsets.specs.Cells.{survivors}
+use Rattle.ordinary_offsets.specs.Cells.{survivors}
 use Rattle.set_offsets.proofs.SetLists.{survivors-swap, survivors-below}
 use Rattle.pair_start.proofs.ToggleLaws.{set-places, places-marked}
 use Rattle.pair_start.proofs.toggle_set.Statement.{statement}

@@ -4,8 +4,10 @@ use mathlib.Core.List.{List, _++_}
 use Prim.Native.Nat.{ℕ}
 use native.Mathlib.Omega.{arith}
 use borrow.Author.Needs.{needs}
-use Rattle.set_offsets.specs.Cells.{survivors, ordinaryOf, extraIn}
-use Rattle.set_offsets.proofs.SetLists.{ordinary-most, extra-survives, both-pushed}
+use Rattle.ordinary_offsets.specs.Cells.{survivors, ordinaryOf}
+use Rattle.set_offsets.specs.Cells.{extraIn}
+use Rattle.ordinary_offsets.proofs.OrdinaryLists.{both-pushed}
+use Rattle.set_offsets.proofs.SetLists.{ordinary-most, extra-survives}
 use Rattle.set_offsets.proofs.others.Statement.{statement}
 use Rattle.set_offsets.proofs.others.Tie as tie
 

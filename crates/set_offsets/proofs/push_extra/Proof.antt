@@ -6,8 +6,9 @@ use native.Mathlib.Omega.{arith}
 use borrow.Author.Needs.{needs}
 use Rattle.liberation.specs.Sets.{place, extraRow}
 use Rattle.offsets.specs.Offsets.{scaled, Pushed}
-use Rattle.set_offsets.specs.Cells.{survivors}
-use Rattle.set_offsets.proofs.SetLists.{survivors-none, none-pushed, extra-row, extra-first, extra-absent, extra-some}
+use Rattle.ordinary_offsets.specs.Cells.{survivors}
+use Rattle.ordinary_offsets.proofs.OrdinaryLists.{none-pushed}
+use Rattle.set_offsets.proofs.SetLists.{survivors-none, extra-row, extra-first, extra-absent, extra-some}
 use Rattle.set_offsets.proofs.push_extra.Statement.{statement}
 use Rattle.set_offsets.proofs.push_extra.Tie as tie
 

@@ -10,7 +10,7 @@ use lib.Seq.{length-take-le}
 use borrow.Author.Needs.{needs}
 use Rattle.liberation.specs.Sets.{place, setOf}
 use Rattle.offsets.specs.Offsets.{scaled, Pushed}
-use Rattle.set_offsets.specs.Cells.{survivors}
+use Rattle.ordinary_offsets.specs.Cells.{survivors}
 use Rattle.xor_within.specs.Beside.{Apart}
 use Rattle.set_sums.proofs.SumLists.{in-order, ordered-survivors, sum-apart, sum-done}
 use Rattle.set_sums.proofs.sum_set.Statement.{statement}

@@ -9,7 +9,7 @@ use Rattle.liberation.specs.Sets.{rowSet, survivingIn}
 use Rattle.xor.specs.Reach.{Reached}
 use Rattle.xor_within.specs.Beside.{Apart}
 use Rattle.offsets.specs.Offsets.{scaled}
-use Rattle.set_offsets.proofs.SetLists.{data-count}
+use Rattle.ordinary_offsets.proofs.OrdinaryLists.{data-count}
 use Rattle.stripes.proofs.ColumnLaws.{row-pushed, columns-apart, rows-solved}
 use Rattle.stripes.proofs.solve_rows.Statement.{statement}
 use Rattle.stripes.proofs.solve_rows.Tie as tie

@@ -8,7 +8,7 @@ use borrow.Author.Needs.{needs}
 use Rattle.liberation.specs.Sets.{rowSet, survivingIn}
 use Rattle.liberation_stripes.proofs.CellLaws.{cell-fits}
 use Rattle.offsets.specs.Offsets.{scaled}
-use Rattle.set_offsets.proofs.SetLists.{data-count}
+use Rattle.ordinary_offsets.proofs.OrdinaryLists.{data-count}
 use Rattle.stripes.proofs.ColumnLaws.{row-pushed}
 use Rattle.tested_columns.proofs.TestedRows.{others-reached, rows-gathered}
 use Rattle.tested_columns.proofs.column_by_rows.Statement.{statement}

@@ -1,9 +1,9 @@
 -- `push_ordinary`: the cells on data disks, then the parity cell.
 use native.Mathlib.Omega.{arith}
 use borrow.Author.Needs.{needs}
-use Rattle.set_offsets.proofs.SetLists.{data-most, ordinary-pushed, parity-most}
-use Rattle.set_offsets.proofs.push_ordinary.Statement.{statement}
-use Rattle.set_offsets.proofs.push_ordinary.Tie as tie
+use Rattle.ordinary_offsets.proofs.OrdinaryLists.{data-most, ordinary-pushed, parity-most}
+use Rattle.ordinary_offsets.proofs.push_ordinary.Statement.{statement}
+use Rattle.ordinary_offsets.proofs.push_ordinary.Tie as tie
 
 push-cell-requires : tie.Need-push-cell-requires
 push-cell-requires c κs =

@@ -6,8 +6,8 @@ use native.Mathlib.Numerals.{add-one}
 use borrow.Author.Needs.{needs}
 use borrow.Author.Tests.{eq-eqb, ne-eqb}
 use Rattle.laws.specs.Choice.{pick}
-use Rattle.set_offsets.proofs.parity_disk.Statement.{statement}
-use Rattle.set_offsets.proofs.parity_disk.Tie as tie
+use Rattle.ordinary_offsets.proofs.parity_disk.Statement.{statement}
+use Rattle.ordinary_offsets.proofs.parity_disk.Tie as tie
 
 returns : tie.Need-returns
 returns c = let a = c .before .args in sym (ap (λ (b : Bool). pick b (a .disks) (suc (a .disks))) (eq-eqb (a .kind) 0 (c .if1 .taken)))

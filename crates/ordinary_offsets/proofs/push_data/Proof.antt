@@ -2,9 +2,9 @@
 use Prim.Native.Nat.{_+_, _-_}
 use native.Mathlib.Omega.{arith}
 use borrow.Author.Needs.{needs}
-use Rattle.set_offsets.proofs.SetLists.{data-count, data-pushed, room-after}
-use Rattle.set_offsets.proofs.push_data.Statement.{statement}
-use Rattle.set_offsets.proofs.push_data.Tie as tie
+use Rattle.ordinary_offsets.proofs.OrdinaryLists.{data-count, data-pushed, room-after}
+use Rattle.ordinary_offsets.proofs.push_data.Statement.{statement}
+use Rattle.ordinary_offsets.proofs.push_data.Tie as tie
 
 push-requires-2 : tie.Need-push-requires-2
 push-requires-2 c κs =

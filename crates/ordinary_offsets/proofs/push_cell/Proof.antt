@@ -4,9 +4,9 @@ use native.Mathlib.Nat.{mul-le-mul}
 use native.Mathlib.Omega.{arith}
 use borrow.Author.Needs.{needs}
 use Rattle.liberation.specs.Sets.{place}
-use Rattle.set_offsets.proofs.SetLists.{one-lost-x, one-lost-y, one-kept, none-pushed, one-pushed}
-use Rattle.set_offsets.proofs.push_cell.Statement.{statement}
-use Rattle.set_offsets.proofs.push_cell.Tie as tie
+use Rattle.ordinary_offsets.proofs.OrdinaryLists.{one-lost-x, one-lost-y, one-kept, none-pushed, one-pushed}
+use Rattle.ordinary_offsets.proofs.push_cell.Statement.{statement}
+use Rattle.ordinary_offsets.proofs.push_cell.Tie as tie
 
 returns : tie.Need-returns
 returns c =

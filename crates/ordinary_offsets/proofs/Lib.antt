@@ -1,0 +1,2 @@
+-- Laws of the lists of a set's ordinary cells.
+pub mod OrdinaryLists
