@@ -4,11 +4,11 @@ use Prim.Native.Nat.{_+_, _-_, _≤_, _<_}
 use native.Mathlib.Omega.{arith}
 use lib.ListN.{length}
 use borrow.Author.Needs.{needs}
-use Rattle.encode_groups.specs.Added.{SetsAdded}
+use Rattle.group_sums.specs.Added.{SetsAdded}
 use Rattle.liberation_stripes.proofs.SizedLaws.{sized-long}
-use Rattle.encode_groups.proofs.GroupLoops.{still-group, sets-none, sets-turn, sets-end}
-use Rattle.encode_groups.proofs.add_sets.Statement.{statement}
-use Rattle.encode_groups.proofs.add_sets.Tie as tie
+use Rattle.group_sums.proofs.SetLoops.{still-group, sets-none, sets-turn, sets-end}
+use Rattle.group_sums.proofs.add_sets.Statement.{statement}
+use Rattle.group_sums.proofs.add_sets.Tie as tie
 
 abbrev Inv-loop : tie.InvT-loop
 Inv-loop width disks size lo hi row number count stripe₀ at₀ j₀ stripe at j = (j ≤ count) × (length stripe ≡ length stripe₀) × (length at ≡ length at₀) × SetsAdded width disks size lo hi row number j stripe₀ stripe

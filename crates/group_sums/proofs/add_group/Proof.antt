@@ -3,9 +3,9 @@ use Prim.Native.Nat.{_+_, _-_, _%_, _<_}
 use native.Mathlib.Nat.{mod-lt}
 use native.Mathlib.Omega.{arith}
 use borrow.Author.Needs.{needs}
-use Rattle.encode_groups.proofs.GroupLoops.{still-group, sets-both}
-use Rattle.encode_groups.proofs.add_group.Statement.{statement}
-use Rattle.encode_groups.proofs.add_group.Tie as tie
+use Rattle.group_sums.proofs.SetLoops.{still-group, sets-both}
+use Rattle.group_sums.proofs.add_group.Statement.{statement}
+use Rattle.group_sums.proofs.add_group.Tie as tie
 
 -- `first` is a row
 first : (o : tie.Start) → (o .args .lo + 2) % o .args .width < o .args .width

@@ -1,0 +1,3 @@
+-- A group added to one parity cell, and to those of all sets.
+pub mod ParityCells
+pub mod SetLoops
