@@ -1,7 +1,7 @@
 // Marks of cells: the surviving cells of a set marked, and how many of them were not marked before.
 ghost use mathlib.Core.Path.{_≡_};
 ghost use mathlib.Core.List.{[], _∷_};
-ghost use Prim.Native.Nat.{_+_, _*_, _<_};
+ghost use Prim.Native.Nat.{_+_, _*_, _≤_, _<_};
 ghost use lib.ListN.{length};
 ghost use Rattle.liberation.specs.Sets.{setOf, survivingIn};
 ghost use Rattle.liberation.specs.Plans.{marksFrom};
@@ -17,10 +17,10 @@ pub fn no_marks() -> [u8; 1023]
 
 // Marks a cell, unless it is on the lost disk; 1 where it was not marked before, else 0.
 fn mark_cell(width: usize, lost: usize, cell: usize, marks: &mut [u8]) -> u32
-    requires { ⌜ (0 < width) × (cell < length (now marks)) ⌝ }
+    requires { ⌜ (0 < width) × (width ≤ 31) × (lost ≤ 32) × (cell < length (now marks)) ⌝ }
     ensures { λ r. ⌜ Marked (now (marks .entry)) (now (marks .exit)) (survivingIn width lost (cell ∷ [])) r ⌝ }
 {
-    if cell / width == lost {
+    if sets::on_disk(width, lost, cell) {
         return 0;
     }
     let old = marks[cell];
@@ -37,16 +37,18 @@ pub fn mark_set(
     number: usize,
     marks: &mut [u8],
 ) -> u32
-    requires { ⌜ InArray width disks × (number < width) ⌝ }
+    requires { ⌜ InArray width disks × (lost ≤ disks + 1) × (number < width) ⌝ }
     requires { ⌜ length (now marks) ≡ width * (disks + 2) ⌝ }
     ensures { λ r. ⌜ Marked (now (marks .entry)) (now (marks .exit)) (survivingIn width lost (setOf width disks kind number)) r ⌝ }
 {
     let size = sets::set_size(width, disks, kind, number);
     let mut fresh: u32 = 0;
+    let mut row = number;
     let mut at = 0;
     while at < size {
-        let cell = sets::set_cell(width, disks, kind, number, at);
+        let cell = sets::cell_in_row(width, disks, kind, number, at, row);
         fresh += mark_cell(width, lost, cell, marks);
+        row = sets::next_row(width, row);
         at += 1;
     }
     fresh

@@ -37,7 +37,7 @@ pub extern "C" fn cuzhaveli_resume_disks_run(old: DisksRun) -> Run
     run_starts::resume_disks_run(old)
 }
 
-// A step of a run over its lent record: rebuilds stripe `which` into the column and moves the record on by one.
+// A step of a run over its lent record: rebuilds stripe `which` into the column and moves the record on by one. A refusal stores nothing, so the record may then lie in memory that is only read.
 #[no_mangle]
 pub extern "C" fn cuzhaveli_step_run(
     run: &mut Run,
@@ -47,19 +47,25 @@ pub extern "C" fn cuzhaveli_step_run(
 ) -> Answer
     ensures { λ r. ⌜ StepSays (now (run .entry)) (now (run .exit)) which (now (stripe .entry)) (now (column .entry)) (now (column .exit)) r ⌝ }
 {
-    let r = run_steps::step_run(*run, which, stripe, column);
-    *run = r.run;
-    r.answer
+    let stepped = run_steps::step_run(*run, which, stripe, column);
+    if stepped.answer.refusal != 0 {
+        return stepped.answer;
+    }
+    *run = stepped.run;
+    stepped.answer
 }
 
-// A skip of stripe `which` over the lent record of a run: moves it on by one stripe that is not rebuilt.
+// A skip of stripe `which` over the lent record of a run: moves it on by one stripe that is not rebuilt. A refusal stores nothing.
 #[no_mangle]
 pub extern "C" fn cuzhaveli_skip_stripe(run: &mut Run, which: u64) -> Answer
     ensures { λ r. ⌜ SkipSays (now (run .entry)) (now (run .exit)) which r ⌝ }
 {
-    let r = runs::skip_stripe(*run, which);
-    *run = r.run;
-    r.answer
+    let skipped = runs::skip_stripe(*run, which);
+    if skipped.answer.refusal != 0 {
+        return skipped.answer;
+    }
+    *run = skipped.run;
+    skipped.answer
 }
 
 // How far a run is: its record is only read.

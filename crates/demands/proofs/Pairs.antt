@@ -5,15 +5,22 @@ use mathlib.Core.List.{List}
 use Prim.Native.Nat.{ℕ, _+_, _*_, _≤_, _<_}
 use native.Mathlib.Omega.{arith}
 use lib.Dec.{eqb}
+use borrow.Author.Tests.{eqb-true, eq-eqb}
 use Rattle.laws.specs.Choice.{pick}
 use Rattle.liberation.specs.Sets.{diskAt}
+use Rattle.liberation.specs.Claims.{fullDisk}
+use Rattle.liberation.proofs.PartLaws.{full-range, full-same}
 use Rattle.liberation_stripes.specs.Stripes.{cellAt, isStripe, clean}
+use Rattle.liberation_stripes.specs.Widened.{widened}
+use Rattle.liberation_stripes.proofs.Widening.{widened-stripe, widened-clean}
+use Rattle.liberation_stripes.proofs.WidenedRebuilds.{widened-alike}
 use Rattle.liberation_pairs.specs.Pairs.{pairSolved}
 use Rattle.liberation_pairs.proofs.PairLaws.{pair-stripe, pair-off, pair-clean, pair-back}
 use Rattle.refusals.specs.declared.Answer.{Answer}
 use Rattle.rebuild_two.specs.Says.{twoFault, TwoSays}
 use Rattle.rebuild_two.proofs.TwoRefusals.{fault-none}
-use Rattle.demands.proofs.Stripes.{is-stripe}
+use Rattle.demands_refusals.proofs.Demand1.{demand1}
+use Rattle.demands.proofs.Stripes.{is-stripe, full-long}
 
 -- An accepted rebuild of the disks a and b of t leaves t′.
 pub record Restored (p k s a b : ℕ) (t t′ : List ℕ) : Type 0 where
@@ -40,3 +47,16 @@ restores p k s a b t t′ r d z =
       kept = λ x i j. ap (λ (l : List ℕ). cellAt s l x) done ∙ pair-off p k s a b (c .0 .array .width) m ha hb (c .3) t ok x i j;
       only = λ u v d h. done ∙ pair-back p k s a b (c .0 .array .width) m ha hb (c .3) t u ok v d h;
     }
+
+-- Ask 1 for two lost disks: the rebuild of the full stripe, with zeros on the absent disks, leaves the rebuilt one with zeros there.
+pub absent-restored : (p k s a b : ℕ) (t t′ u′ : List ℕ) (r q : Answer) → TwoSays p k s a b t t′ r → r .refusal ≡ 0 → TwoSays p p s (fullDisk p k a) (fullDisk p k b) (widened p k s t) u′ q → u′ ≡ widened p k s t′
+absent-restored p k s a b t t′ u′ r q d z e =
+    let w = demand1 .rebuild-two p k s a b t t′ r d .accepted z in
+    let most = w .1 .0 .1 in
+    let v = restores p k s a b t t′ r d z in
+    let ok = is-stripe p k s t (w .1 .1 .1 .1 .1 .1 .0) (d .bytes) in
+    let apart : fullDisk p k a ≡ fullDisk p k b → ⊥ = λ h. w .1 .1 .1 .1 .1 .0 (eqb-true a b (sym (full-same p k most a b) ∙ eq-eqb (fullDisk p k a) (fullDisk p k b) h)) in
+    let y = demand1 .rebuild-two p p s (fullDisk p k a) (fullDisk p k b) (widened p k s t) u′ q e .accepts
+    (w .0, ((omega (arith, w .1 .0 .0, most), omega arith), (w .1 .1 .0, (full-range p k most a (w .1 .1 .1 .0), (full-range p k most b (w .1 .1 .1 .1 .0), (apart, (full-long p k s t most ok, tt))))))) in
+    restores p p s (fullDisk p k a) (fullDisk p k b) (widened p k s t) u′ q e y .only (widened p k s t′) (widened-stripe p k s t′ most (v .stripe)) (sym (widened-clean p k s t′ most (v .stripe)) ∙ v .is-clean)
+    (λ x l na nb. widened-alike p k s most t t′ ok (v .stripe) (λ c. (c ≡ a → ⊥) × (c ≡ b → ⊥)) (λ i m h. sym (v .kept i (h .0) (h .1))) x l (λ c h. (λ g. na (sym h ∙ ap (fullDisk p k) g), λ g. nb (sym h ∙ ap (fullDisk p k) g))))

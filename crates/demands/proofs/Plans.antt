@@ -2,17 +2,20 @@
 use mathlib.Core.Path.{_≡_, sym, ap, ap₂, _∙_}
 use mathlib.Core.Bool.{true}
 use mathlib.Core.List.{List}
+use mathlib.Core.Logic.{_↔_}
 use Prim.Native.Nat.{ℕ, _+_, _-_, _*_, _≤_, _<_}
 use native.Mathlib.Omega.{arith}
 use lib.Dec.{eqb}
-use lib.ListN.{getD}
+use lib.ListN.{length, getD}
+use borrow.Author.Tests.{eqb-true, eq-eqb}
 use Rattle.laws.specs.Choice.{pick, when}
-use Rattle.laws.proofs.ChoiceLaws.{first-none}
-use Rattle.liberation.specs.Sets.{place, planFault, longFault}
+use Rattle.liberation.specs.Sets.{place}
 use Rattle.liberation.specs.Plans.{Step, planOf, readCount, readList}
 use Rattle.liberation.specs.Judging.{accepted, stepsIn}
 use Rattle.liberation.specs.Claims.{isBest, diagonalsUsed, loneExtras, byExtra, Rearranged, fullDisk}
-use Rattle.liberation.proofs.FaultLaws.{plan-of, plan-none}
+use Rattle.liberation.proofs.Widths.{width-least}
+use Rattle.liberation.proofs.PartLaws.{full-range}
+use Rattle.liberation.proofs.FaultLaws.{plan-none}
 use Rattle.liberation.proofs.Rearranging.{count-same}
 use Rattle.liberation.proofs.Demand3.{plans-best}
 use Rattle.liberation.proofs.PartPlans.{plan-accepted, plans-part}
@@ -23,10 +26,12 @@ use Rattle.refusals.specs.declared.Answer.{Answer}
 use Rattle.planner.specs.Says.{PlanSays}
 use Rattle.planner.proofs.FormLaws.{formOf, length-of, plan-form}
 use Rattle.planner.proofs.MeansLaws.{plan-means}
-use Rattle.read_list.specs.Says.{readListFault, ListSays}
+use Rattle.read_list.specs.Says.{ListSays}
 use Rattle.judge_steps.specs.declared.Judged.{Judged}
 use Rattle.judge.specs.Says.{JudgeSays}
 use Rattle.judge.proofs.AcceptLaws.{Acceptable, zero-accepts, accepts-zero, zero-counts}
+use Rattle.demands_refusals.specs.Calls.{OneOfTen}
+use Rattle.demands_refusals.proofs.Demand1.{demand1}
 
 -- What holds of a host's plan bs for a lost data disk f that the judge accepts with answer j, where our planner answers r.
 pub record Compared (p f : ℕ) (bs : List ℕ) (r : Plan) (j : Judged) : Type 0 where
@@ -101,18 +106,39 @@ pub parity-count : (p k f : ℕ) (r : Plan) → k ≤ f → PlanSays p k f r →
 parity-count p k f r l d z = plan-means p k f r d z .parity l
 
 -- the list that an accepted call writes
-our-list : (p k f : ℕ) (o o′ : List ℕ) (a : Answer) → ListSays p k f o o′ a → a .refusal ≡ 0 → (planFault p k f ≡ 0) × (o′ ≡ readList p k f)
-our-list p k f o o′ a d z =
-    let e : readListFault p k f o ≡ 0 = sym (d .answer .refusal) ∙ z in
-    (first-none (planFault p k f) (longFault (p * (k + 2)) o) e .0, d .list ∙ ap (λ (n : ℕ). pick (eqb n 0) (readList p k f) o) e)
+our-list : (p k f : ℕ) (o o′ : List ℕ) (a : Answer) → ListSays p k f o o′ a → a .refusal ≡ 0 → o′ ≡ readList p k f
+our-list p k f o o′ a d z = d .list ∙ ap (λ (n : ℕ). pick (eqb n 0) (readList p k f) o) (sym (d .answer .refusal) ∙ z)
 
--- Ask 1: our plan reads "only cells the full cabinet would read, P and Q cells being compared with P and Q cells of the same row", and all of those on the disks present: the two lists that `read_list` writes agree there.
+-- Ask 1: our plan reads "only cells the full cabinet would read, P and Q cells being compared with P and Q cells of the same row", and all of those on the disks present: the two lists that `read_list` writes agree there. The second is lent with its length; that it is written need not be supposed.
 pub part-within :
-    (p k f : ℕ) (o o′ n n′ : List ℕ) (a b : Answer) → ListSays p k f o o′ a → a .refusal ≡ 0 → ListSays p p (fullDisk p k f) n n′ b → b .refusal ≡ 0
+    (p k f : ℕ) (o o′ n n′ : List ℕ) (a b : Answer) → ListSays p k f o o′ a → a .refusal ≡ 0 → ListSays p p (fullDisk p k f) n n′ b → length n ≡ p * (p + 2)
     → (r c : ℕ) → r < p → c < k + 2 → getD o′ (place p r c) 0 ≡ getD n′ (place p r (fullDisk p k c)) 0
-part-within p k f o o′ n n′ a b d z e y r c h g =
-    let u = our-list p k f o o′ a d z in
-    let w = plan-of p k f (u .0) in
-    ap (λ (x : List ℕ). getD x (place p r c) 0) (u .1)
-    ∙ plans-part p k f (w .0 .width) (w .0 .disks) (w .1) .within r c h g
-    ∙ sym (ap (λ (x : List ℕ). getD x (place p r (fullDisk p k c)) 0) (our-list p p (fullDisk p k f) n n′ b e y .1))
+part-within p k f o o′ n n′ a b d z e long r c h g =
+    let w = demand1 .read-list p k f o o′ a d .accepted z in
+    let most = w .1 .0 .1 in
+    let y = demand1 .read-list p p (fullDisk p k f) n n′ b e .accepts (w .0, ((omega (arith, w .1 .0 .0, most), omega arith), (full-range p k most f (w .1 .1 .0), (long, tt)))) in
+    ap (λ (x : List ℕ). getD x (place p r c) 0) (our-list p k f o o′ a d z)
+    ∙ plans-part p k f (w .0) most (w .1 .1 .0) .within r c h g
+    ∙ sym (ap (λ (x : List ℕ). getD x (place p r (fullDisk p k c)) 0) (our-list p p (fullDisk p k f) n n′ b e y))
+
+-- Demand 3 as one statement of two answers of the judge, where k = p: j is that for our plan, "the p steps of the planner's record, put in that form", q that for any bytes bs of a host.
+pub record Demand3 (p f : ℕ) (bs : List ℕ) (j q : Judged) : Type 0 where
+  -- ours is accepted, and reads (3p² + 1)/4 cells
+  pub accepted : j .answer .refusal ≡ 0
+  pub count : 4 * j .reads ≡ 3 * (p * p) + 1
+  -- any that is accepted reads as many or more, and as many exactly under the three conditions on its steps
+  pub least : q .answer .refusal ≡ 0 → j .reads ≤ q .reads
+  pub equally : q .answer .refusal ≡ 0 → (q .reads ≡ j .reads) ↔ (isBest p p f (stepsIn p bs) ≡ true)
+
+pub demand3 : (p f : ℕ) (bs : List ℕ) (r : Plan) (j q : Judged) → OneOfTen p → f < p → PlanSays p p f r → JudgeSays p p f (formOf p r) j → JudgeSays p p f bs q → Demand3 p f bs j q
+demand3 p f bs r j q w l k d e =
+    let z : r .answer .refusal ≡ 0 = demand1 .plan-disk p p f r k .accepts (w, ((omega (arith, width-least p w), omega arith), (omega arith, tt))) in
+    let own = own-accepted p p f r j k z d in
+    record {
+      accepted = own .refusal;
+      count = ap (λ (n : ℕ). 4 * n) (own .reads) ∙ own-count p f r l k z;
+      least = λ y. omega (arith, own .reads, compared p f bs r q l k e y .least);
+      equally = λ y.
+          let c : eqb (q .reads) (j .reads) ≡ isBest p p f (stepsIn p bs) = ap (eqb (q .reads)) (own .reads) ∙ compared p f bs r q l k e y .equally in
+          (λ h. sym c ∙ eq-eqb (q .reads) (j .reads) h, λ h. eqb-true (q .reads) (j .reads) (c ∙ h));
+    }

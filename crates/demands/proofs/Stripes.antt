@@ -7,17 +7,20 @@ use Prim.Native.Nat.{ℕ, _+_, _*_, _≤_, _<_}
 use native.Mathlib.Omega.{arith}
 use lib.Dec.{eqb}
 use lib.ListN.{length, getD}
-use borrow.Author.Tests.{eq-eqb}
+use borrow.Author.Tests.{eqb-true, eq-eqb}
 use Rattle.laws.specs.Choice.{pick}
 use Rattle.laws.specs.Xor.{allBytes}
-use Rattle.laws.proofs.Flags.{and-i}
+use Rattle.laws.proofs.Flags.{and-l, and-i}
 use Rattle.liberation.specs.Sets.{diskAt}
 use Rattle.liberation.specs.Plans.{readList}
+use Rattle.liberation.specs.Claims.{fullDisk}
+use Rattle.liberation.proofs.PartLaws.{full-range}
 use Rattle.liberation.proofs.PartPlans.{plan-accepted}
 use Rattle.liberation_stripes.specs.Stripes.{cellAt, columnOf, stripeLong, isStripe, clean, encoded, rebuilt}
 use Rattle.liberation_stripes.specs.Limits.{Sized}
 use Rattle.liberation_stripes.specs.Widened.{widened}
-use Rattle.liberation_stripes.proofs.Widening.{widened-clean, widened-encoded}
+use Rattle.liberation_stripes.proofs.Widening.{widened-stripe, widened-clean, widened-encoded}
+use Rattle.liberation_stripes.proofs.WidenedRebuilds.{widened-rebuilt}
 use Rattle.liberation_stripes.proofs.Encoding.{encoded-stripe, encoded-data, encoded-clean, encoded-only}
 use Rattle.liberation_stripes.proofs.Rebuilding.{one-back, lost-unused, only-read}
 use Rattle.refusals.specs.declared.Answer.{Answer}
@@ -29,6 +32,9 @@ use Rattle.check_stripe.specs.Says.{CheckSays}
 use Rattle.stripe_refusals.proofs.StripeRefusals.{fault-none as within-limits}
 use Rattle.rebuild_one.specs.Says.{OneSays}
 use Rattle.rebuild_one.proofs.OneRefusals.{fault-none}
+use Rattle.demands_refusals.specs.Limits.{Within}
+use Rattle.demands_refusals.specs.Calls.{onStripe}
+use Rattle.demands_refusals.proofs.Demand1.{demand1}
 
 pub is-stripe : (p k s : ℕ) (t : List ℕ) → length t ≡ stripeLong p k s → allBytes t ≡ true → isStripe p k s t ≡ true
 is-stripe p k s t e b = and-i (eqb (length t) (stripeLong p k s)) (allBytes t) (eq-eqb (length t) (stripeLong p k s) e) b
@@ -62,17 +68,26 @@ encodes p k s t t′ r d z =
 pub checks : (p k s : ℕ) (t : List ℕ) (r : Checked) → CheckSays p k s t r → r .answer .refusal ≡ 0 → r .clean ≡ clean p k s t
 checks p k s t r d z = d .clean ∙ ap (λ (n : ℕ). eqb n 0 && clean p k s t) (sym (d .answer .refusal) ∙ z)
 
--- Ask 1: cells of absent disks "count as zero". The check says of a stripe what it says of the full one with zeros on the absent disks
-pub absent-checked : (p k s : ℕ) (t : List ℕ) (r q : Checked) → CheckSays p k s t r → r .answer .refusal ≡ 0 → CheckSays p p s (widened p k s t) q → q .answer .refusal ≡ 0 → r .clean ≡ q .clean
-absent-checked p k s t r q d z e y =
-    let a = within-limits p k s t (sym (d .answer .refusal) ∙ z) in
-    checks p k s t r d z ∙ widened-clean p k s t (a .array .disks) (is-stripe p k s t (a .long) (d .bytes)) ∙ sym (checks p p s (widened p k s t) q e y)
+-- Ask 1: cells of absent disks "count as zero". A call on the full stripe, with zeros on the absent disks, is within its limits where one on the stripe is
+pub full-long : (p k s : ℕ) (t : List ℕ) → k ≤ p → isStripe p k s t ≡ true → length (widened p k s t) ≡ stripeLong p p s
+full-long p k s t most ok = eqb-true (length (widened p k s t)) (stripeLong p p s) (and-l _ _ (widened-stripe p k s t most ok))
 
--- and encoding that one leaves the encoded stripe with zeros on the absent disks.
-pub absent-encoded : (p k s : ℕ) (t t′ u′ : List ℕ) (r q : Answer) → EncodeSays p k s t t′ r → r .refusal ≡ 0 → EncodeSays p p s (widened p k s t) u′ q → q .refusal ≡ 0 → u′ ≡ widened p k s t′
-absent-encoded p k s t t′ u′ r q d z e y =
-    let a = within-limits p k s t (sym (d .answer .refusal) ∙ z) in
-    encoded-is p p s (widened p k s t) u′ q e y ∙ widened-encoded p k s t (a .array .disks) (is-stripe p k s t (a .long) (d .bytes)) ∙ ap (widened p k s) (sym (encoded-is p k s t t′ r d z))
+full-within : (p k s : ℕ) (t : List ℕ) → allBytes t ≡ true → Within (onStripe p k s t) → Within (onStripe p p s (widened p k s t))
+full-within p k s t b w = (w .0, ((omega (arith, w .1 .0 .0, w .1 .0 .1), omega arith), (w .1 .1 .0, (full-long p k s t (w .1 .0 .1) (is-stripe p k s t (w .1 .1 .1 .0) b), tt))))
+
+-- The check says of a stripe what it says of the full one; that the second call is accepted need not be supposed,
+pub absent-checked : (p k s : ℕ) (t : List ℕ) (r q : Checked) → CheckSays p k s t r → r .answer .refusal ≡ 0 → CheckSays p p s (widened p k s t) q → r .clean ≡ q .clean
+absent-checked p k s t r q d z e =
+    let w = demand1 .check-stripe p k s t r d .accepted z in
+    let y = demand1 .check-stripe p p s (widened p k s t) q e .accepts (full-within p k s t (d .bytes) w) in
+    checks p k s t r d z ∙ widened-clean p k s t (w .1 .0 .1) (is-stripe p k s t (w .1 .1 .1 .0) (d .bytes)) ∙ sym (checks p p s (widened p k s t) q e y)
+
+-- nor here: encoding that one leaves the encoded stripe with zeros on the absent disks.
+pub absent-encoded : (p k s : ℕ) (t t′ u′ : List ℕ) (r q : Answer) → EncodeSays p k s t t′ r → r .refusal ≡ 0 → EncodeSays p p s (widened p k s t) u′ q → u′ ≡ widened p k s t′
+absent-encoded p k s t t′ u′ r q d z e =
+    let w = demand1 .encode-stripe p k s t t′ r d .accepted z in
+    let y = demand1 .encode-stripe p p s (widened p k s t) u′ q e .accepts (full-within p k s t (d .bytes) w) in
+    encoded-is p p s (widened p k s t) u′ q e y ∙ widened-encoded p k s t (w .1 .0 .1) (is-stripe p k s t (w .1 .1 .1 .0) (d .bytes)) ∙ ap (widened p k s) (sym (encoded-is p k s t t′ r d z))
 
 -- what an accepted rebuild shows of its arguments
 taken : (p k s f : ℕ) (t o o′ : List ℕ) (r : Answer) → OneSays p k s f t o o′ r → r .refusal ≡ 0 → Sized p k s t × (f ≤ k + 1)
@@ -105,11 +120,21 @@ never-used p k s f t u o o′ n n′ r q d z m y h =
 -- The last sentence of demand 3: stripes alike in every cell marked 1 in the list that `read_list` writes give one rebuilt disk, dirty stripes too.
 pub one-column :
     (p k s f : ℕ) (t u o o′ n n′ l l′ : List ℕ) (r q a : Answer)
-    → OneSays p k s f t o o′ r → r .refusal ≡ 0 → OneSays p k s f u n n′ q → q .refusal ≡ 0 → ListSays p k f l l′ a → a .refusal ≡ 0
+    → OneSays p k s f t o o′ r → r .refusal ≡ 0 → OneSays p k s f u n n′ q → q .refusal ≡ 0 → ListSays p k f l l′ a → length l ≡ p * (k + 2)
     → ((x : ℕ) → getD l′ x 0 ≡ 1 → cellAt s t x ≡ cellAt s u x) → o′ ≡ n′
 one-column p k s f t u o o′ n n′ l l′ r q a d z m y w e h =
     let i = taken p k s f t o o′ r d z in
-    let list : l′ ≡ readList p k f = w .list ∙ ap (λ (x : ℕ). pick (eqb x 0) (readList p k f) l) (sym (w .answer .refusal) ∙ e) in
+    let g : a .refusal ≡ 0 = demand1 .read-list p k f l l′ a w .accepts (i .0 .array .width, ((i .0 .array .two, i .0 .array .disks), (i .1, (e, tt)))) in
+    let list : l′ ≡ readList p k f = w .list ∙ ap (λ (x : ℕ). pick (eqb x 0) (readList p k f) l) (sym (w .answer .refusal) ∙ g) in
     column-is p k s f t o o′ r d z
-    ∙ only-read p k s f (plan-accepted p k f (i .0 .array .width) (i .0 .array .disks) (i .1)) (omega (arith, i .1)) t u (stripe-is p k s f t o o′ r d z) (stripe-is p k s f u n n′ q m y) (λ x g. h x (ap (λ (v : List ℕ). getD v x 0) list ∙ g))
+    ∙ only-read p k s f (plan-accepted p k f (i .0 .array .width) (i .0 .array .disks) (i .1)) (omega (arith, i .1)) t u (stripe-is p k s f t o o′ r d z) (stripe-is p k s f u n n′ q m y) (λ x v. h x (ap (λ (y : List ℕ). getD y x 0) list ∙ v))
     ∙ sym (column-is p k s f u n n′ q m y)
+
+-- Ask 1 for the rebuild: that of the full stripe, with zeros on the absent disks, writes the same column, dirty stripes too.
+pub absent-rebuilt : (p k s f : ℕ) (t o o′ n n′ : List ℕ) (r q : Answer) → OneSays p k s f t o o′ r → r .refusal ≡ 0 → OneSays p p s (fullDisk p k f) (widened p k s t) n n′ q → length n ≡ p * s → n′ ≡ o′
+absent-rebuilt p k s f t o o′ n n′ r q d z e l =
+    let w = demand1 .rebuild-one p k s f t o o′ r d .accepted z in
+    let most = w .1 .0 .1 in
+    let ok = stripe-is p k s f t o o′ r d z in
+    let y = demand1 .rebuild-one p p s (fullDisk p k f) (widened p k s t) n n′ q e .accepts (w .0, ((omega (arith, w .1 .0 .0, most), omega arith), (w .1 .1 .0, (full-range p k most f (w .1 .1 .1 .0), (full-long p k s t most ok, (l, tt)))))) in
+    column-is p p s (fullDisk p k f) (widened p k s t) n n′ q e y ∙ widened-rebuilt p k s f (w .0) most (w .1 .1 .1 .0) t ok ∙ sym (column-is p k s f t o o′ r d z)

@@ -5,6 +5,7 @@ use mathlib.Core.Bool.{Bool, true, false, not}
 use mathlib.Core.Logic.{_⊎_, inl, inr, ⊎-elim}
 use mathlib.Core.List.{List}
 use Prim.Native.Nat.{ℕ, _+_, _*_, _≤_, _<_}
+use native.Mathlib.Nat.{div-lt-iff-lt-mul}
 use native.Mathlib.Omega.{arith}
 use lib.Dec.{eqb}
 use lib.ListN.{length}
@@ -12,8 +13,11 @@ use borrow.Author.Tests.{ne-eqb}
 use Rattle.laws.specs.Choice.{pick, when, firstOf}
 use Rattle.laws.proofs.Flags.{flag}
 use Rattle.laws.proofs.ChoiceLaws.{first-is, pick-refused}
-use Rattle.liberation_stripes.specs.Stripes.{columnOf, isStripe, rebuilt}
+use Rattle.liberation.specs.Sets.{diskAt}
+use Rattle.liberation.proofs.Widths.{width-least}
+use Rattle.liberation_stripes.specs.Stripes.{cellAt, columnOf, isStripe, rebuilt}
 use Rattle.liberation_stripes.specs.Limits.{Sized}
+use Rattle.liberation_pairs.proofs.PairLaws.{pair-only}
 use Rattle.liberation_survivors.specs.Survivors.{withRebuilt, fits}
 use Rattle.liberation_survivors.specs.Explained.{Explains}
 use Rattle.liberation_survivors.proofs.Explaining.{fits-explains, explains-fits, explains-column, none-unfit}
@@ -21,6 +25,10 @@ use Rattle.refusals.specs.declared.Answer.{Answer}
 use Rattle.rebuild_one.specs.Says.{oneFault, OneSays}
 use Rattle.rebuild_one.proofs.OneRefusals.{fault-none}
 use Rattle.rebuild_tested.specs.Says.{testedFault, TestedSays}
+use Rattle.demands_refusals.specs.Limits.{none, Within}
+use Rattle.demands_refusals.specs.Calls.{rebuildOne, rebuildTested}
+use Rattle.demands_refusals.proofs.LimitLaws.{first-outside}
+use Rattle.demands_refusals.proofs.Demand1.{demand1}
 use Rattle.demands.proofs.Stripes.{is-stripe}
 
 -- What the tested rebuild answers where the rebuild without a test accepts.
@@ -78,3 +86,31 @@ module _ (p k s f : ℕ) (t o o′ : List ℕ) (r : Answer) (d : TestedSays p k 
 
 pub tested : (p k s f : ℕ) (t o o′ n′ : List ℕ) (r q : Answer) → TestedSays p k s f t o o′ r → OneSays p k s f t o n′ q → q .refusal ≡ 0 → Tested p k s f t o o′ r
 tested p k s f t o o′ n′ r q d c z = tested-so p k s f t o o′ r d (sym (c .answer .refusal) ∙ z)
+
+-- A change on one surviving disk is always noticed: where the call accepts t, it refuses by 19 every stripe u that differs from t in some cell x of a surviving disk and agrees with t on all others that survive.
+pub change-noticed :
+    (p k s f x : ℕ) (t u o o′ n n′ : List ℕ) (r q : Answer) → TestedSays p k s f t o o′ r → r .refusal ≡ 0 → TestedSays p k s f u n n′ q → length u ≡ length t → length n ≡ length o
+    → ((y : ℕ) → y < p * (k + 2) → (diskAt p y ≡ f → ⊥) → (diskAt p y ≡ diskAt p x → ⊥) → cellAt s t y ≡ cellAt s u y)
+    → x < p * (k + 2) → (diskAt p x ≡ f → ⊥) → (cellAt s t x ≡ cellAt s u x → ⊥) → q .refusal ≡ 19
+change-noticed p k s f x t u o o′ n n′ r q d z e lu ln others below apart changed =
+    first-outside (rebuildOne p k s f u n) none (demand1 .rebuild-tested p k s f u n n′ q e .decides)
+    (w .0, (w .1 .0, (w .1 .1 .0, (w .1 .1 .1 .0, (lu ∙ w .1 .1 .1 .1 .0, (ln ∙ w .1 .1 .1 .1 .1 .0, tt)))))) no-other .number-is
+  where
+    w : Within (rebuildTested p k s f t o)
+    w = demand1 .rebuild-tested p k s f t o o′ r d .accepted z
+
+    -- the clean stripe with the survivors of t
+    own : (v : List ℕ) × Explains p k s f t v
+    own = w .1 .1 .1 .1 .1 .1 .0
+
+    some : 0 < p
+    some = omega (arith, width-least p (w .0))
+
+    -- one with those of u agrees with it off two disks, so it is the same, and u is not changed
+    no-other : (v : List ℕ) × Explains p k s f u v → ⊥
+    no-other (v, h) =
+        let g = own .1 in
+        let same : own .0 ≡ v =
+        pair-only p k s f (diskAt p x) (w .0) (w .1 .0 .1) (omega (arith, w .1 .1 .1 .0)) (div-lt-iff-lt-mul some .1 (omega arith)) (λ c. apart (sym c)) (own .0) v (g .stripe) (h .stripe) (g .cleans) (h .cleans)
+        (λ y l a b. sym (g .alike y l a) ∙ others y l a b ∙ h .alike y l a) in
+        changed (g .alike x below apart ∙ ap (λ (l : List ℕ). cellAt s l x) same ∙ sym (h .alike x below apart))

@@ -26,7 +26,7 @@ use Rattle.liberation_texts.specs.Form.{PlanText}
 use Rattle.liberation_texts.specs.Reading.{readable, stepsRead}
 use Rattle.liberation_texts.specs.Plain.{plain}
 use Rattle.liberation_texts.proofs.StepwiseLaws.{steps-count}
-use Rattle.liberation_texts.proofs.TextTheorems.{form-readable, readable-has-form, accepted-readable, accepted-steps, accepted-most}
+use Rattle.liberation_texts.proofs.TextTheorems.{form-readable, readable-has-form, accepted-readable, accepted-steps, accepted-most, accepted-writable, plain-equal}
 use Rattle.judge_text.specs.Says.{textFault, judgeFirst, allFaults, JudgeTextSays}
 use Rattle.plan_files.specs.declared.Written.{Written}
 use Rattle.plan_files.specs.Says.{roomFault, writeFirst, plainFirst, Writes, WriteSays, PlainSays}
@@ -201,3 +201,27 @@ module _ (p k f : ℕ) (t : List ℕ) (q : planFault p k f ≡ 0) where
 
   pub text-form : (o o′ : List ℕ) (r : Written) → length o ≡ 263 → PlainSays p k f t o o′ r → r .answer .refusal ≡ 22 → (ss : List Step) → PlanText t ss → length ss ≡ p → ⊥
   text-form o o′ r l g h = refused-no-form p k f t (roomFault p k f o) (r .answer .refusal) (sym (first-next 0 (planFault p k f) (longFault 263 o) q (sym (long-accepted 263 o l)))) (g .refusal) h
+
+-- the same of two texts for any two arrays and lost disks
+module _ (p k f p′ k′ f′ : ℕ) (t u o o′ q q′ : List ℕ) (a b : Written) (v : PlainSays p k f t o o′ a) (w : PlainSays p′ k′ f′ u q q′ b) (y : a .answer .refusal ≡ 0) (z : b .answer .refusal ≡ 0) where
+  pub same-text-any : take (a .length) o′ ≡ take (b .length) q′ → stepsRead p t ≡ stepsRead p′ u
+  same-text-any e =
+      let m = text-written p k f t o o′ a v y .1 in
+      let n = text-written p′ k′ f′ u q q′ b w z .1 in
+      plain-equal (stepsRead p t) (stepsRead p′ u)
+      (accepted-writable p k f (stepsRead p t) (plan-of p k f (m .numbers) .0 .width) (m .accepts))
+      (accepted-writable p′ k′ f′ (stepsRead p′ u) (plan-of p′ k′ f′ (n .numbers) .0 .width) (n .accepts))
+      (sym (m .text) ∙ e ∙ n .text)
+
+  pub same-steps-any : stepsRead p t ≡ stepsRead p′ u → take (a .length) o′ ≡ take (b .length) q′
+  same-steps-any e = text-written p k f t o o′ a v y .1 .text ∙ ap plain e ∙ sym (text-written p′ k′ f′ u q q′ b w z .1 .text)
+
+-- the plain form written anew into any slice of 263 bytes: accepted, and the same text
+module _ {p k f : ℕ} {ss : List Step} {o o′ : List ℕ} {r : Written} (w : PlainWritten p k f ss o o′ r) where
+  pub text-anew : (q q′ : List ℕ) (b : Written) → length q ≡ 263 → PlainSays p k f (take (r .length) o′) q q′ b → (b .answer .refusal ≡ 0) × (b .length ≡ r .length) × (take (b .length) q′ ≡ take (r .length) o′)
+  text-anew q q′ b l v =
+      let t = take (r .length) o′ in
+      let n : plainFirst p k f t q ≡ 0 = sym (first-next 0 (roomFault p k f q) (textFault p t) (sym (first-next 0 (planFault p k f) (longFault 263 q) (w .numbers) (sym (long-accepted 263 q l)))) (sym (ap (λ (x : Bool). when (not x) 22) (read-back w .0)))) in
+      let e : b .answer .refusal ≡ 0 = v .refusal ∙ ap₂ (λ (m : ℕ) (x : List Step). allFaults m p k f x) n (read-back w .1) ∙ no-fault w in
+      let c = text-written p k f t q q′ b v e .1 in
+      (e, c .size ∙ ap (λ (x : List Step). length (plain x)) (read-back w .1) ∙ sym (w .size), c .text ∙ ap plain (read-back w .1) ∙ sym (w .text))

@@ -55,7 +55,7 @@ fn push_rows(
     requires { ⌜ InArray width disks × (size ≤ 4096) × (number < width) × (length (now at) ≡ 99) × (disk < disks) × (count ≤ 33) ⌝ }
     ensures { λ r. ⌜ Pushed (now (at .entry)) (now (at .exit)) count r (scaled size (survivingIn width disk (rowSets width disks (lostIn width disk (diagonalSet width disks number))))) ⌝ }
 {
-    let row = offsets::row_on(width, number, disk);
+    let row = sets::row_on(width, number, disk);
     let n = push_set(width, disks, size, disk, 0, row, at, count);
     if number == 0 {
         return n;

@@ -40,7 +40,7 @@ pub fn add_group(
     requires { ⌜ Group width disks size lo hi (now stripe) (now at) ⌝ }
     ensures { λ _. ⌜ SetsAdded width disks size lo hi 0 0 width (now (stripe .entry)) (now (stripe .exit)) ⌝ }
 {
-    let first = (lo + 2) % width;
+    let first = sets::row_on(width, 2, lo);
     let left = width - first;
     add_sets(width, disks, size, lo, hi, first, 0, left, stripe, at);
     add_sets(width, disks, size, lo, hi, 0, left, first, stripe, at);

@@ -11,7 +11,7 @@ use Rattle.refusals.specs.declared.Answer.{Answer}
 use Rattle.refusals.specs.Answers.{Answers}
 use Rattle.judge_steps.specs.declared.Judged.{Judged}
 use Rattle.judge_steps.specs.Says.{StepsSay}
-use Rattle.judge.specs.Says.{formFault, judgeFault, JudgeSays}
+use Rattle.judge.specs.Says.{formFault, judgeFault, DecidesOn, JudgeSays}
 
 -- refused before any step
 pub form-refused : (p k f n : ℕ) (bs : List ℕ) → n ≡ formFault p k f bs → (n ≡ 0 → ⊥) → (a : Answer) → Answers n a → JudgeSays p k f bs (record { answer = a; reads = 0 })
@@ -36,3 +36,23 @@ steps-decide p k f bs r e s =
   where
     fault : judgeFault p k f bs ≡ judge p k f (stepsIn p bs) .number
     fault = ap (λ (n : ℕ). firstOf n (judge p k f (stepsIn p bs) .number)) e
+
+-- A call that makes other tests before the steps: these refuse,
+pub after-refused : (p k f n m : ℕ) (bs new o : List ℕ) (r : Answer) → n ≡ m → (n ≡ 0 → ⊥) → Answers n r → DecidesOn m (judge p k f (stepsIn p bs)) new o o r
+after-refused p k f n m bs new o r e z a =
+    let fault : n ≡ firstOf m (judge p k f (stepsIn p bs) .number) = first-kept n m (judge p k f (stepsIn p bs) .number) e z in
+    record { refusal = a .refusal ∙ fault; place = a .place ∙ pick-refused n m (judge p k f (stepsIn p bs) .place) 0 e z; lent = pick-refused n _ new o fault z }
+
+-- or the judge has the word,
+after-form : (p k f m : ℕ) (bs : List ℕ) (j : Judged) → m ≡ 0 → formFault p k f bs ≡ 0 → JudgeSays p k f bs j → (j .answer .refusal ≡ firstOf m (judge p k f (stepsIn p bs) .number)) × (j .answer .place ≡ pick (eqb m 0) (judge p k f (stepsIn p bs) .place) 0)
+after-form p k f m bs j z e d =
+    let same : formFault p k f bs ≡ m = e ∙ sym z in
+    (d .refusal ∙ ap (λ (n : ℕ). firstOf n (judge p k f (stepsIn p bs) .number)) same, d .place ∙ ap (λ (n : ℕ). pick (eqb n 0) (judge p k f (stepsIn p bs) .place) 0) same)
+
+-- and refuses a step
+pub after-step : (p k f m : ℕ) (bs new o : List ℕ) (j : Judged) → m ≡ 0 → formFault p k f bs ≡ 0 → JudgeSays p k f bs j → (j .answer .refusal ≡ 0 → ⊥) → DecidesOn m (judge p k f (stepsIn p bs)) new o o (j .answer)
+after-step p k f m bs new o j z e d n = let a = after-form p k f m bs j z e d in record { refusal = a .0; place = a .1; lent = pick-refused (j .answer .refusal) _ new o (a .0) n }
+
+-- or none
+pub after-done : (p k f m : ℕ) (bs new o o′ : List ℕ) (j : Judged) → m ≡ 0 → formFault p k f bs ≡ 0 → JudgeSays p k f bs j → j .answer .refusal ≡ 0 → o′ ≡ new → DecidesOn m (judge p k f (stepsIn p bs)) new o o′ (j .answer)
+after-done p k f m bs new o o′ j z e d n q = let a = after-form p k f m bs j z e d in record { refusal = a .0; place = a .1; lent = q ∙ pick-done _ new o (sym (a .0) ∙ n) }

@@ -6,7 +6,8 @@ use lib.Dec.{eqb}
 use Rattle.laws.specs.Choice.{pick, firstOf}
 use Rattle.liberation.specs.Sets.{planFault, longFault}
 use Rattle.liberation.specs.Plans.{readCount}
-use Rattle.liberation.specs.Judging.{judge, stepsIn}
+use Rattle.liberation.specs.Judging.{Judged as Verdict, judge, stepsIn}
+use Rattle.refusals.specs.declared.Answer.{Answer}
 use Rattle.judge_steps.specs.declared.Judged.{Judged}
 
 -- refusals before any step is looked at
@@ -16,6 +17,12 @@ formFault p k f bs = firstOf (planFault p k f) (longFault (3 * p) bs)
 -- all refusals
 abbrev pub judgeFault : ℕ → ℕ → ℕ → List ℕ → ℕ
 judgeFault p k f bs = firstOf (formFault p k f bs) (judge p k f (stepsIn p bs) .number)
+
+-- a call that refuses by n before any step is looked at, 0 for none, or by what the judge says of the steps, with its place: the lent memory o becomes o′, the new one, or stays as it was on a refusal
+pub record DecidesOn (n : ℕ) (j : Verdict) (new o o′ : List ℕ) (r : Answer) : Type 0 where
+  pub refusal : r .refusal ≡ firstOf n (j .number)
+  pub place : r .place ≡ pick (eqb n 0) (j .place) 0
+  pub lent : o′ ≡ pick (eqb (firstOf n (j .number)) 0) new o
 
 -- "gives its read count or a refusal"
 pub record JudgeSays (p k f : ℕ) (bs : List ℕ) (r : Judged) : Type 0 where

@@ -24,11 +24,13 @@ fn holds_row(
 {
     let wanted = lost * width + row;
     let size = sets::set_size(width, disks, kind, number);
+    let mut on = number;
     let mut at = 0;
     while at < size {
-        if sets::set_cell(width, disks, kind, number, at) == wanted {
+        if sets::cell_in_row(width, disks, kind, number, at, on) == wanted {
             return true;
         }
+        on = sets::next_row(width, on);
         at += 1;
     }
     false
@@ -43,13 +45,13 @@ fn is_missing(
     cell: usize,
     done: [u8; 31],
 ) -> bool
-    requires { ⌜ InArray width disks ⌝ }
+    requires { ⌜ InArray width disks × (lost ≤ disks + 1) ⌝ }
     ensures { λ r. ⌜ ((ds : List ℕ) → done ≡ marksFrom 31 0 ds → not r ≡ othersThere row (lostIn width lost (cell ∷ [])) ds) ⌝ }
 {
-    if cell / width != lost {
+    if !sets::on_disk(width, lost, cell) {
         return false;
     }
-    let other = cell % width;
+    let other = cell - lost * width;
     if other == row {
         return false;
     }
@@ -66,16 +68,18 @@ fn others_there(
     number: usize,
     done: [u8; 31],
 ) -> bool
-    requires { ⌜ InArray width disks × (number < width) ⌝ }
+    requires { ⌜ InArray width disks × (lost ≤ disks + 1) × (number < width) ⌝ }
     ensures { λ r. ⌜ ((ds : List ℕ) → done ≡ marksFrom 31 0 ds → r ≡ othersThere row (lostIn width lost (setOf width disks kind number)) ds) ⌝ }
 {
     let size = sets::set_size(width, disks, kind, number);
+    let mut on = number;
     let mut at = 0;
     while at < size {
-        let cell = sets::set_cell(width, disks, kind, number, at);
+        let cell = sets::cell_in_row(width, disks, kind, number, at, on);
         if is_missing(width, disks, lost, row, cell, done) {
             return false;
         }
+        on = sets::next_row(width, on);
         at += 1;
     }
     true

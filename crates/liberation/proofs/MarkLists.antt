@@ -5,7 +5,7 @@ use mathlib.Core.List.{List, [], _∷_}
 use Prim.Native.Nat.{ℕ, zero, suc, _+_, _*_, _≤_, _<_}
 use native.Mathlib.Nat.{mul-le-mul}
 use native.Mathlib.Omega.{arith}
-use lib.ListN.{length, set, take, replicate}
+use lib.ListN.{length, set, take, drop, replicate}
 use borrow.Author.Tests.{eq-eqb, ne-eqb}
 use Rattle.laws.specs.Choice.{when}
 use Rattle.laws.specs.Lists.{isIn}
@@ -28,6 +28,15 @@ unfolding marksFrom
 take-marks zero k i ys h = refl
 take-marks (suc n) zero i ys h = absurd (omega arith)
 take-marks (suc n) (suc k) i ys h = ap (λ (l : List ℕ). when (isIn i ys) 1 ∷ l) (take-marks n k (suc i) ys (omega arith))
+
+-- the marks after the first m
+pub drop-marks : (m n i : ℕ) (ys : List ℕ) → drop m (marksFrom (m + n) i ys) ≡ marksFrom n (i + m) ys
+unfolding marksFrom
+drop-marks zero n i ys = let e : i ≡ i + 0 = omega arith in let z : 0 + n ≡ n = omega arith in ap₂ (λ (x y : ℕ). marksFrom x y ys) z e
+drop-marks (suc m) n i ys =
+    let e : suc i + m ≡ i + suc m = omega arith in
+    let z : suc m + n ≡ suc (m + n) = omega arith in
+    ap (λ (x : ℕ). drop (suc m) (marksFrom x i ys)) z ∙ drop-marks m n (suc i) ys ∙ ap (λ (x : ℕ). marksFrom n x ys) e
 
 -- an array of k data disks has no more cells than the widest
 pub cells-most : (p k : ℕ) → p ≤ 31 → k ≤ p → p * (k + 2) ≤ 1023

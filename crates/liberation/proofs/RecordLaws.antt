@@ -8,7 +8,7 @@ use lib.ListN.{length, getD, drop, replicate, List·getD-append, drop-of-length-
 use Rattle.liberation.specs.Sets.{isWidth}
 use Rattle.liberation.specs.Plans.{Step, step, planOf, readCount}
 use Rattle.liberation.specs.Records.{listed, padded, recorded, judgeForm}
-use Rattle.liberation.specs.Judging.{stepsIn}
+use Rattle.liberation.specs.Judging.{accepted, stepsIn}
 use Rattle.liberation.proofs.ReadLaws.{reads-most}
 use Rattle.liberation.proofs.UsedLaws.{named-numbers}
 use Rattle.liberation.proofs.AcceptedLaws.{Passed, Passes, none, next, accepted-length, accepted-named, accepted-passes}
@@ -52,12 +52,16 @@ passed-at p k f {done} zero st (next g rest) h e = (done, subst (λ (y : Step). 
     first (y ∷ ys) = y
 passed-at p k f (suc i) st (next g rest) h e = passed-at p k f i st rest (omega arith) e
 
+-- each step of an accepted plan passes
+pub accepted-passed : (p k f i : ℕ) (ss : List Step) (st : Step) → accepted p k f ss ≡ true → drop i ss ≡ st ∷ drop (suc i) ss → i < p → (ds : List ℕ) × Passed p k f ds st
+accepted-passed p k f i ss st ok e l = passed-at p k f i st (accepted-passes p k f ss ok) (omega (arith, accepted-length p k f ss ok)) e
+
 -- our plan has p steps, and each passes
 pub plan-length : (p k f : ℕ) → isWidth p ≡ true → k ≤ p → f ≤ k + 1 → length (planOf p k f) ≡ p
 plan-length p k f w most h = accepted-length p k f (planOf p k f) (plan-accepted p k f w most h)
 
 pub plan-passed : (p k f i : ℕ) → isWidth p ≡ true → k ≤ p → f ≤ k + 1 → (a : StepAt (planOf p k f) i) → i < p → (ds : List ℕ) × Passed p k f ds (a .this)
-plan-passed p k f i w most h a l = passed-at p k f i (a .this) (accepted-passes p k f (planOf p k f) (plan-accepted p k f w most h)) (omega (arith, plan-length p k f w most h)) (a .split)
+plan-passed p k f i w most h a l = accepted-passed p k f i (planOf p k f) (a .this) (plan-accepted p k f w most h) (a .split) l
 
 pub plan-number : (p k f i : ℕ) → isWidth p ≡ true → k ≤ p → f ≤ k + 1 → (a : StepAt (planOf p k f) i) → i < p → a .this .number < p
 plan-number p k f i w most h a l = plan-passed p k f i w most h a l .1 .number-below
@@ -87,3 +91,15 @@ recorded-from (suc n) i ss e =
   where
     held : (a : StepAt ss i) → step (getD (padded (listed (λ s. s .row) ss)) i 0) (getD (padded (listed (λ s. s .kind) ss)) i 0) (getD (padded (listed (λ s. s .number) ss)) i 0) ≡ a .this
     held a = λ j. record { row = a .held (λ s. s .row) j; kind = a .held (λ s. s .kind) j; number = a .held (λ s. s .number) j }
+
+-- a record's steps are as many as are asked for, and its step at a place
+pub length-recorded : (n i : ℕ) (rows kinds numbers : List ℕ) → length (recorded n i rows kinds numbers) ≡ n
+unfolding recorded
+length-recorded zero i rows kinds numbers = refl
+length-recorded (suc n) i rows kinds numbers = ap suc (length-recorded n (suc i) rows kinds numbers)
+
+pub recorded-at : (n i j m : ℕ) (rows kinds numbers : List ℕ) → i + j ≡ m → j < n → drop j (recorded n i rows kinds numbers) ≡ step (getD rows m 0) (getD kinds m 0) (getD numbers m 0) ∷ drop (suc j) (recorded n i rows kinds numbers)
+unfolding recorded
+recorded-at zero i j m rows kinds numbers e h = absurd (omega arith)
+recorded-at (suc n) i zero m rows kinds numbers e h = let q : i ≡ m = omega arith in ap (λ (x : ℕ). step (getD rows x 0) (getD kinds x 0) (getD numbers x 0) ∷ recorded n (suc i) rows kinds numbers) q
+recorded-at (suc n) i (suc j) m rows kinds numbers e h = recorded-at n (suc i) j m rows kinds numbers (omega arith) (omega arith)

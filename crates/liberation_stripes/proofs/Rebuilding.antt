@@ -8,13 +8,13 @@ use native.Mathlib.Omega.{arith}
 use lib.ListN.{length, getD}
 use Rattle.laws.specs.Xor.{allBytes}
 use Rattle.liberation.specs.Sets.{place, diskAt}
-use Rattle.liberation.specs.Plans.{Step, planOf, readList}
+use Rattle.liberation.specs.Plans.{Step, planOf, listOf, readList}
 use Rattle.liberation.specs.Judging.{accepted}
 use Rattle.liberation.proofs.ReadLaws.{holds}
-use Rattle.liberation.proofs.ReadListLaws.{read-marked}
+use Rattle.liberation.proofs.ReadListLaws.{list-marked}
 use Rattle.liberation.proofs.AcceptedLaws.{accepted-passes}
 use Rattle.liberation.proofs.RowLaws.{every-row}
-use Rattle.liberation_stripes.specs.Stripes.{cellAt, isStripe, clean, followed, columnOf, rebuilt}
+use Rattle.liberation_stripes.specs.Stripes.{cellAt, isStripe, clean, followed, columnOf, rebuiltBy, rebuilt}
 use Rattle.liberation_stripes.proofs.CellLaws.{cell-fits, cell-long, cells-equal, column-cell}
 use Rattle.liberation_stripes.proofs.Solving.{cell-bytes, stripe-long, stripe-bytes}
 use Rattle.liberation_stripes.proofs.Following.{followed-stripe, followed-clean, followed-agree}
@@ -38,6 +38,39 @@ module _ (p k s f : ℕ) (ss : List Step) (ok : accepted p k f ss ≡ true) (t u
   steps-back cu r l =
       steps-agree r l ∙ ap (λ (v : List ℕ). cellAt s v (place p r f)) (followed-clean p k s f (accepted-passes p k f ss ok) u hu cu)
 
+-- the column that an accepted plan rebuilds
+module _ (p k s f : ℕ) (ss : List Step) (ok : accepted p k f ss ≡ true) (disk : f < k + 2) where
+  -- the survivors of a clean stripe give its lost column
+  pub plan-back :
+      (t u : List ℕ) → isStripe p k s t ≡ true → isStripe p k s u ≡ true
+      → clean p k s u ≡ true
+      → ((x : ℕ) → x < p * (k + 2) → (diskAt p x ≡ f → ⊥) → cellAt s t x ≡ cellAt s u x)
+      → rebuiltBy p k s f ss t ≡ columnOf p s f u
+  plan-back t u ht hu cu same = columns-equal p k s f (followed p k s f ss t) u disk (followed-stripe p k s f (accepted-passes p k f ss ok) t ht) hu (steps-back p k s f ss ok t u ht hu (λ x l n e. same x l n) cu)
+
+  -- stripes alike in the survivors that the plan's sets hold give one column
+  alike :
+      (t u : List ℕ) → isStripe p k s t ≡ true → isStripe p k s u ≡ true
+      → ((x : ℕ) → x < p * (k + 2) → (diskAt p x ≡ f → ⊥) → holds p k x ss ≡ true → cellAt s t x ≡ cellAt s u x)
+      → rebuiltBy p k s f ss t ≡ rebuiltBy p k s f ss u
+  alike t u ht hu same =
+      let passes = accepted-passes p k f ss ok in
+      columns-equal p k s f (followed p k s f ss t) (followed p k s f ss u) disk (followed-stripe p k s f passes t ht) (followed-stripe p k s f passes u hu) (steps-agree p k s f ss ok t u ht hu same)
+
+  -- stripes alike off the lost disk do
+  pub plan-unused :
+      (t u : List ℕ) → isStripe p k s t ≡ true → isStripe p k s u ≡ true
+      → ((x : ℕ) → x < p * (k + 2) → (diskAt p x ≡ f → ⊥) → cellAt s t x ≡ cellAt s u x)
+      → rebuiltBy p k s f ss t ≡ rebuiltBy p k s f ss u
+  plan-unused t u ht hu same = alike t u ht hu (λ x l n e. same x l n)
+
+  -- and stripes alike in the cells marked 1 in the plan's read list
+  pub plan-only-read :
+      (t u : List ℕ) → isStripe p k s t ≡ true → isStripe p k s u ≡ true
+      → ((x : ℕ) → getD (listOf p k f ss) x 0 ≡ 1 → cellAt s t x ≡ cellAt s u x)
+      → rebuiltBy p k s f ss t ≡ rebuiltBy p k s f ss u
+  plan-only-read t u ht hu same = alike t u ht hu (λ x l n e. same x (list-marked p k f x ss l n e))
+
 -- our plan
 module _ (p k s f : ℕ) (ok : accepted p k f (planOf p k f) ≡ true) (disk : f < k + 2) where
   -- the survivors of a clean stripe give its lost column
@@ -47,35 +80,23 @@ module _ (p k s f : ℕ) (ok : accepted p k f (planOf p k f) ≡ true) (disk : f
       → ((x : ℕ) → x < p * (k + 2) → (diskAt p x ≡ f → ⊥) → cellAt s t x ≡ cellAt s u x)
       → rebuilt p k s f t ≡ columnOf p s f u
   unfolding rebuilt
-  one-back t u ht hu cu same =
-      let passes = accepted-passes p k f (planOf p k f) ok in
-      columns-equal p k s f (followed p k s f (planOf p k f) t) u disk (followed-stripe p k s f passes t ht) hu
-      (steps-back p k s f (planOf p k f) ok t u ht hu (λ x l n e. same x l n) cu)
-
-  -- stripes alike in the survivors that the plan's sets hold give one column
-  alike :
-      (t u : List ℕ) → isStripe p k s t ≡ true → isStripe p k s u ≡ true
-      → ((x : ℕ) → x < p * (k + 2) → (diskAt p x ≡ f → ⊥) → holds p k x (planOf p k f) ≡ true → cellAt s t x ≡ cellAt s u x)
-      → rebuilt p k s f t ≡ rebuilt p k s f u
-  unfolding rebuilt
-  alike t u ht hu same =
-      let passes = accepted-passes p k f (planOf p k f) ok in
-      columns-equal p k s f (followed p k s f (planOf p k f) t) (followed p k s f (planOf p k f) u) disk (followed-stripe p k s f passes t ht) (followed-stripe p k s f passes u hu)
-      (steps-agree p k s f (planOf p k f) ok t u ht hu same)
+  one-back t u ht hu cu same = plan-back p k s f (planOf p k f) ok disk t u ht hu cu same
 
   -- "What the stripe holds for the lost disk is never used": stripes alike off it give one column, dirty stripes too
   pub lost-unused :
       (t u : List ℕ) → isStripe p k s t ≡ true → isStripe p k s u ≡ true
       → ((x : ℕ) → x < p * (k + 2) → (diskAt p x ≡ f → ⊥) → cellAt s t x ≡ cellAt s u x)
       → rebuilt p k s f t ≡ rebuilt p k s f u
-  lost-unused t u ht hu same = alike t u ht hu (λ x l n e. same x l n)
+  unfolding rebuilt
+  lost-unused t u ht hu same = plan-unused p k s f (planOf p k f) ok disk t u ht hu same
 
   -- "Two accepted calls .., on stripes that agree in every cell marked 1 in that disk's read list, write the same column, on dirty stripes too."
   pub only-read :
       (t u : List ℕ) → isStripe p k s t ≡ true → isStripe p k s u ≡ true
       → ((x : ℕ) → getD (readList p k f) x 0 ≡ 1 → cellAt s t x ≡ cellAt s u x)
       → rebuilt p k s f t ≡ rebuilt p k s f u
-  only-read t u ht hu same = alike t u ht hu (λ x l n e. same x (read-marked p k f x l n e))
+  unfolding rebuilt
+  only-read t u ht hu same = plan-only-read p k s f (planOf p k f) ok disk t u ht hu same
 
   pub rebuilt-long : (t : List ℕ) → isStripe p k s t ≡ true → length (rebuilt p k s f t) ≡ p * s
   unfolding rebuilt

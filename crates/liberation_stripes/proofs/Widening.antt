@@ -167,7 +167,7 @@ module _ (p k s : ℕ) (t : List ℕ) (most : k ≤ p) (stripe : isStripe p k s 
     set-kept = ap (xorOver s full) in-full ∙ present-kept k p 0 (omega arith) (omega arith) ∙ sym (ap (xorOver s part) in-part)
 
   -- row sets end with their P cell, diagonal sets with their Q cell and the extra cell, if its disk is there
-  row-kept : (i : ℕ) → i < p → xorOver s full (setOf p p 0 i) ≡ xorOver s part (setOf p k 0 i)
+  pub row-kept : (i : ℕ) → i < p → xorOver s full (setOf p p 0 i) ≡ xorOver s part (setOf p k 0 i)
   unfolding xorOver rowSet
   row-kept i l =
       set-kept 0 i l (λ c. i) (λ c. l) (λ n c. rowFrom n p i c) (row-cells p i) (place p i p ∷ []) (place p i k ∷ []) (ends p) (ends k)
@@ -190,7 +190,7 @@ module _ (p k s : ℕ) (t : List ℕ) (most : k ≤ p) (stripe : isStripe p k s 
       go true false true e q = absurd (omega (arith, ltb-false (extraDisk p i) p e, ltb-true (extraDisk p i) k q))
       go true false false e q = refl
 
-  diagonal-kept : (i : ℕ) → i < p → xorOver s full (setOf p p 1 i) ≡ xorOver s part (setOf p k 1 i)
+  pub diagonal-kept : (i : ℕ) → i < p → xorOver s full (setOf p p 1 i) ≡ xorOver s part (setOf p k 1 i)
   unfolding xorOver diagonalSet ordinary
   diagonal-kept i l =
       set-kept 1 i l (λ c. (i + c) % p) (λ c. mod-lt (i + c) (omega arith)) (λ n c. diagonalFrom n p i c) (diagonal-cells p i)

@@ -151,14 +151,18 @@ return-one-fewer n w d h l t = one-more n (withBack w d) w d (after-lt n w d tru
 pub none-over : (k w d : ℕ) → w < 2 ^ (k + 2) → k + 1 < d → isLost w d ≡ false
 none-over k w d h l = ap (λ (x : ℕ). eqb x 1) (none-past w (k + 2) d h (omega arith))
 
-pub some-over : (k w : ℕ) → w < 2 ^ 64 → 2 ^ (k + 2) ≤ w → (d : ℕ) × (k + 1 < d) × (d < 64) × (isLost w d ≡ true)
-some-over k w h l =
-    let t = leading-top 64 w (lt-of-lt-of-le (pow-pos (k + 2)) l) h in
+below-power : (n : ℕ) → n < 2 ^ n
+below-power zero = omega arith
+below-power (suc n) = omega (arith, below-power n)
+
+pub some-over : (k w : ℕ) → 2 ^ (k + 2) ≤ w → (d : ℕ) × (k + 1 < d) × (isLost w d ≡ true)
+some-over k w l =
+    let t = leading-top w w (lt-of-lt-of-le (pow-pos (k + 2)) l) (below-power w) in
     let j = t .0 in
     let over : k + 1 < j = ⊎-elim (λ m. m) (λ m. absurd (lt-irrefl w (lt-of-lt-of-le (t .3) (le-trans (pow-mono (later m)) l)))) (lt-or-le (k + 1) j) in
     let least : 1 ≤ w / 2 ^ j = le-div-iff-mul-le (pow-pos j) .1 (le-trans (le-of-eq (one-mul (2 ^ j))) (t .2)) in
     let one : w / 2 ^ j ≡ 1 = omega (arith, shr-lt 1 j (subst (λ (x : ℕ). w < 2 ^ x) (sym (one-add j)) (t .3))) in
-    (j, over, omega (arith, t .1), ap (λ (x : ℕ). eqb (x % 2) 1) one)
+    (j, over, ap (λ (x : ℕ). eqb (x % 2) 1) one)
   where
     later : {j : ℕ} → j ≤ k + 1 → suc j ≤ k + 2
     later m = omega arith

@@ -16,7 +16,7 @@ pub fn is_lost(lost: u64, disk: usize) -> bool
     requires { ⌜ disk < 64 ⌝ }
     ensures { λ r. ⌜ r ≡ isLost lost disk ⌝ }
 {
-    (lost >> disk) % 2 == 1
+    (lost >> disk) & 1 == 1
 }
 
 // The word with a disk's bit set, or cleared.

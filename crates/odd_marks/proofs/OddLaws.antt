@@ -1,7 +1,7 @@
 -- The XOR over a list is the XOR over the places that occur in it an odd number of times: toggling a mark adds its cell to the XOR over the odd places, since a cell XORed twice is nothing.
 use mathlib.Core.Path.{_≡_, refl, sym, ap, _∙_}
 use mathlib.Core.Bool.{Bool, true, false, not}
-use mathlib.Core.List.{List, [], _∷_}
+use mathlib.Core.List.{List, [], _∷_, _++_}
 use Prim.Native.Nat.{ℕ, zero, suc, _+_, _*_, _/_, _%_, _≤_, _<_}
 use native.Mathlib.Nat.{mod-lt}
 use native.Mathlib.Omega.{arith}
@@ -20,7 +20,7 @@ use Rattle.offsets.proofs.OffsetLaws.{over-offsets}
 use Rattle.odd_marks.specs.Toggled.{isOdd, oddFrom, toggled, toggledAll}
 
 -- a toggled mark
-flip : (m : ℕ) → isOdd (bitXor m 1) ≡ not (isOdd m)
+pub flip : (m : ℕ) → isOdd (bitXor m 1) ≡ not (isOdd m)
 flip m = low (m % 2) refl (mod-lt m {m = 2} (omega arith))
   where
     low : (d : ℕ) → m % 2 ≡ d → d < 2 → isOdd (bitXor m 1) ≡ not (isOdd m)
@@ -31,6 +31,17 @@ flip m = low (m % 2) refl (mod-lt m {m = 2} (omega arith))
         let q : bitXor m 1 % 2 ≡ 0 = ap (λ (n : ℕ). n % 2) (xor-step m 1 ∙ ap (λ (k : ℕ). bitXor (m / 2) 0 * 2 + differ k 1) e) ∙ omega arith in
         ap (λ (n : ℕ). eqb n 1) q ∙ sym (ap (λ (n : ℕ). not (eqb n 1)) e)
     low (suc (suc d)) e h = absurd (omega arith)
+
+-- the marks stay as many, and lists are toggled one after the other
+pub toggled-long : (xs ms : List ℕ) → length (toggledAll xs ms) ≡ length ms
+unfolding toggledAll
+toggled-long [] ms = refl
+toggled-long (x ∷ xs) ms = toggled-long xs (toggled x ms) ∙ length-set ms x (bitXor (getD ms x 0) 1)
+
+pub toggled-append : (xs ys ms : List ℕ) → toggledAll (xs ++ ys) ms ≡ toggledAll ys (toggledAll xs ms)
+unfolding toggledAll
+toggled-append [] ys ms = refl
+toggled-append (x ∷ xs) ys ms = toggled-append xs ys (toggled x ms)
 
 -- the cells of the places that have marks have s bytes
 abbrev pub Cells : ℕ → (ℕ → List ℕ) → ℕ → Type 0

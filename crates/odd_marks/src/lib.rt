@@ -38,7 +38,7 @@ pub fn push_odd(marks: &[u8], size: usize, from: usize, at: &mut [usize], count:
         if n == room {
             return Listed { count: n, next: x };
         }
-        if marks[x] % 2 == 1 {
+        if marks[x] & 1 == 1 {
             at[n] = x * size;
             n += 1;
         }

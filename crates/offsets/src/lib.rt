@@ -1,6 +1,6 @@
 // Lists of offsets: the cells of a set on some data disks, pushed into a lent list.
 ghost use mathlib.Core.Path.{_≡_};
-ghost use Prim.Native.Nat.{_+_, _-_, _%_, _≤_, _<_};
+ghost use Prim.Native.Nat.{_-_, _≤_};
 ghost use lib.ListN.{length};
 ghost use Rattle.liberation.specs.Sets.{rowFrom, diagonalFrom};
 ghost use Rattle.offsets.specs.Offsets.{scaled, cellsFrom, Room, Pushed};
@@ -38,15 +38,6 @@ pub fn push_row(
     n
 }
 
-// The row of diagonal `number` on a data disk: it goes round the width at most once, so no remainder is taken.
-pub fn row_on(width: usize, number: usize, disk: usize) -> usize
-    requires { ⌜ (width ≤ 31) × (number < width) × (disk ≤ width + 3) ⌝ }
-    ensures { λ r. ⌜ (disk ≤ width → r ≡ (number + disk) % width) ⌝ }
-{
-    let row = number + disk;
-    if row < width { row } else { row - width }
-}
-
 // The same of diagonal `number`, on data disks. From disk to disk the row goes up by one and round.
 pub fn push_diagonal(
     width: usize,
@@ -62,7 +53,7 @@ pub fn push_diagonal(
 {
     let column = width * size;
     let mut top = lo * column;
-    let mut row = row_on(width, number, lo);
+    let mut row = sets::row_on(width, number, lo);
     let mut n = count;
     let mut disk = lo;
     while disk < hi {

@@ -1,5 +1,5 @@
 -- Which way the walk goes: the multiples of the gap tried one by one.
-use mathlib.Core.Path.{_≡_, refl, sym, ap, _∙_}
+use mathlib.Core.Path.{_≡_, refl, sym, ap, ap₂, _∙_}
 use mathlib.Core.Bool.{Bool, true, false, _&&_, _||_}
 use Prim.Native.Nat.{ℕ, zero, suc, _+_, _-_, _/_, _%_, _≤_, _<_}
 use native.Mathlib.Omega.{arith}
@@ -12,12 +12,12 @@ one-found zero p d r h e = absurd (omega arith)
 one-found (suc n) p d r h e = ap (λ (b : Bool). b || comesToOne n p d ((r + d) % p)) (eq-eqb r 1 e)
 
 -- the next multiple
-pub one-turn : (n p d r : ℕ) → 0 < n → (r ≡ 1 → ⊥) → comesToOne (n - 1) p d ((r + d) % p) ≡ comesToOne n p d r
+pub one-turn : (n p d r q : ℕ) → q ≡ (r + d) % p → 0 < n → (r ≡ 1 → ⊥) → comesToOne (n - 1) p d q ≡ comesToOne n p d r
 unfolding comesToOne
-one-turn zero p d r h e = absurd (omega arith)
-one-turn (suc n) p d r h e =
+one-turn zero p d r q f h e = absurd (omega arith)
+one-turn (suc n) p d r q f h e =
     let m : suc n - 1 ≡ n = omega arith in
-    ap (λ (i : ℕ). comesToOne i p d ((r + d) % p)) m ∙ sym (ap (λ (b : Bool). b || comesToOne n p d ((r + d) % p)) (ne-eqb r 1 e))
+    ap₂ (λ (i j : ℕ). comesToOne i p d j) m f ∙ sym (ap (λ (b : Bool). b || comesToOne n p d ((r + d) % p)) (ne-eqb r 1 e))
 
 pub one-none : (n p d r : ℕ) → n ≤ 0 → comesToOne n p d r ≡ false
 unfolding comesToOne

@@ -9,13 +9,13 @@ fn comes_to_one(width: usize, gap: usize) -> bool
     requires { ⌜ (width ≤ 31) × (gap < width) ⌝ }
     ensures { λ r. ⌜ r ≡ comesToOne ((width - 1) / 2) width gap gap ⌝ }
 {
-    let mut left = (width - 1) / 2;
+    let mut left = (width - 1) >> 1;
     let mut at = gap;
     while 0 < left {
         if at == 1 {
             return true;
         }
-        at = (at + gap) % width;
+        at = sets::row_on(width, at, gap);
         left -= 1;
     }
     false

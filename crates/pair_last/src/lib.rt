@@ -26,8 +26,8 @@ fn add_sets(
     let mut left = count;
     let mut on = row;
     while 0 < left {
-        let number = (on + width - x) % width;
-        on = (number + y) % width;
+        let number = sets::diagonal_of(width, x, on);
+        on = sets::row_on(width, number, y);
         lost_sums::add_set(width, disks, size, x, y, 1, number, y, on, stripe, at);
         lost_sums::add_set(width, disks, size, x, y, 0, on, x, on, stripe, at);
         left -= 1;

@@ -1,7 +1,6 @@
 -- The row of an extra cell.
 use mathlib.Core.Path.{_≡_}
-use Prim.Native.Nat.{ℕ, _+_, _*_, _/_, _%_, _≤_, _<_}
-use native.Mathlib.Nat.{mul-le-mul}
+use Prim.Native.Nat.{ℕ, _%_, _≤_, _<_}
 use native.Mathlib.Omega.{arith}
 use Rattle.liberation.specs.Plans.{secondRow, extraRowOn}
 use Rattle.liberation.proofs.LostLaws.{second-range}
@@ -9,9 +8,3 @@ use Rattle.liberation.proofs.LostLaws.{second-range}
 -- the extra cell's row is one of the rows, and can be counted with
 pub extra-below : (p c : ℕ) → p % 2 ≡ 1 → 1 ≤ c → c < p → (1 ≤ secondRow p c) × (extraRowOn p c < p)
 extra-below p c odd low high = let r = second-range p c odd low high in (r .0, omega arith)
-
-pub half-most : (p c : ℕ) → p ≤ 31 → c < p → c * ((p + 1) / 2) ≤ 496
-half-most p c h k =
-    let m : c ≤ 31 = omega arith in
-    let l : (p + 1) / 2 ≤ 16 = omega arith in
-    omega (arith, mul-le-mul m l)

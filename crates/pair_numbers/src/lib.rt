@@ -8,5 +8,5 @@ pub fn extra_row(width: usize, disk: usize) -> usize
     requires { ⌜ (width ≤ 31) × (width % 2 ≡ 1) × (1 ≤ disk) × (disk < width) ⌝ }
     ensures { λ r. ⌜ (r ≡ extraRowOn width disk) × (r < width) ⌝ }
 {
-    disk * ((width + 1) / 2) % width - 1
+    sets::half_of(width, disk) - 1
 }

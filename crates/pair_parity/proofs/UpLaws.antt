@@ -18,11 +18,11 @@ module _ (p k s f : ℕ) where
   up-first l = let z : p - 0 ≡ p = omega arith in ap (λ (n : ℕ). followed p k s f (upDiagonals n p f 0) l) z
 
   -- the next step done
-  pub up-turn : (j : ℕ) (l new : List ℕ) → j < p → new ≡ solved s (place p j f) (diagonalSet p k (diagonalOf p f j)) l → upRest (j + 1) new ≡ upRest j l
+  pub up-turn : (j n : ℕ) (l new : List ℕ) → n ≡ diagonalOf p f j → j < p → new ≡ solved s (place p j f) (diagonalSet p k n) l → upRest (j + 1) new ≡ upRest j l
   unfolding followed upDiagonals
-  up-turn j l new h e =
+  up-turn j n l new d h e =
       let m : p - j ≡ suc (p - (j + 1)) = omega arith in
-      ap₂ (λ (i : ℕ) (u : List ℕ). followed p k s f (upDiagonals (p - (j + 1)) p f i) u) (add-one j) e ∙ sym (ap (λ (n : ℕ). followed p k s f (upDiagonals n p f j) l) m)
+      ap₂ (λ (i : ℕ) (u : List ℕ). followed p k s f (upDiagonals (p - (j + 1)) p f i) u) (add-one j) (e ∙ ap (λ (i : ℕ). solved s (place p j f) (diagonalSet p k i) l) d) ∙ sym (ap (λ (n : ℕ). followed p k s f (upDiagonals n p f j) l) m)
 
   pub up-last : (j : ℕ) (l : List ℕ) → p ≤ j → upRest j l ≡ l
   unfolding followed upDiagonals

@@ -13,7 +13,7 @@ fn up_diagonals(width: usize, disks: usize, size: usize, disk: usize, stripe: &m
 {
     let mut i = 0;
     while i < width {
-        let number = (i + width - disk) % width;
+        let number = sets::diagonal_of(width, disk, i);
         stripes::solve(width, disks, size, 1, number, disk, i, stripe);
         i += 1;
     }

@@ -22,12 +22,12 @@ use Rattle.offsets.specs.Offsets.{scaled}
 use Rattle.offsets.proofs.OffsetLaws.{over-offsets}
 use Rattle.odd_marks.specs.Toggled.{isOdd, oddFrom, toggledAll}
 use Rattle.odd.specs.Gathered.{MarkedStripe}
-use Rattle.odd_marks.proofs.OddLaws.{odd-offsets}
+use Rattle.odd_marks.proofs.OddLaws.{toggled-long, odd-offsets}
 use Rattle.ordinary_offsets.specs.Cells.{survivors}
 use Rattle.liberation_stripes.specs.Limits.{Sized}
 use Rattle.pair_numbers.proofs.NumberLaws.{extra-below}
 use Rattle.pair_start.specs.Disks.{Walked}
-use Rattle.pair_start.proofs.ToggleLaws.{toggled-long, toggled-other}
+use Rattle.pair_start.proofs.ToggleLaws.{toggled-other}
 
 -- x and disk 0 are walked
 module _ (p k x : ℕ) (g : Walked p k x 0) (disks : k ≤ p) where

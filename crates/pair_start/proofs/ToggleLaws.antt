@@ -7,7 +7,7 @@ use native.Mathlib.Nat.{add-zero, mod-eq-of-lt}
 use native.Mathlib.Omega.{arith}
 use lib.Bits.{bitXor}
 use lib.Dec.{eqb}
-use lib.ListN.{length, getD, take, length-set}
+use lib.ListN.{length, getD, take}
 use lib.Seq.{getD-set-other}
 use borrow.Author.Tests.{eqb-false}
 use Rattle.laws.specs.Lists.{isIn, allBelow}
@@ -18,19 +18,10 @@ use Rattle.liberation.specs.Plans.{diagonalOf}
 use Rattle.liberation_pairs.specs.Pairs.{nextRow, startSets}
 use Rattle.offsets.specs.Offsets.{scaled, Pushed}
 use Rattle.odd_marks.specs.Toggled.{toggled, toggledAll}
+use Rattle.odd_marks.proofs.OddLaws.{toggled-append}
 use Rattle.ordinary_offsets.specs.Cells.{survivors}
 use Rattle.ordinary_offsets.proofs.OrdinaryLists.{survivors-append}
 use Rattle.set_offsets.proofs.SetLists.{survivors-none, survivors-swap}
-
-toggled-append : (xs ys ms : List ℕ) → toggledAll (xs ++ ys) ms ≡ toggledAll ys (toggledAll xs ms)
-unfolding toggledAll
-toggled-append [] ys ms = refl
-toggled-append (x ∷ xs) ys ms = toggled-append xs ys (toggled x ms)
-
-pub toggled-long : (xs ms : List ℕ) → length (toggledAll xs ms) ≡ length ms
-unfolding toggledAll
-toggled-long [] ms = refl
-toggled-long (x ∷ xs) ms = toggled-long xs (toggled x ms) ∙ length-set ms x (bitXor (getD ms x 0) 1)
 
 -- the mark of a place that is not in the list
 pub toggled-other : (d : ℕ) (xs ms : List ℕ) → isIn d xs ≡ false → getD (toggledAll xs ms) d 0 ≡ getD ms d 0
@@ -64,15 +55,15 @@ module _ (p k x : ℕ) where
       ∙ sym (toggled-append (survivors p x 0 xs) (survivors p x 0 ys) ms)
       ∙ sym (ap (λ (l : List ℕ). toggledAll l ms) (survivors-append p x 0 xs ys))
 
-  pub rows-turn : (n r : ℕ) (ms u v : List ℕ) → 0 < n → diagonalOf p x r < p → u ≡ toggledAll (survivors p x 0 (rowSet p k r)) ms → v ≡ toggledAll (survivors p x 0 (diagonalSet p k (diagonalOf p x r))) u → rowsRest (n - 1) (diagonalOf p x r) v ≡ rowsRest n r ms
+  pub rows-turn : (n r i : ℕ) (ms u v : List ℕ) → i ≡ diagonalOf p x r → 0 < n → i < p → u ≡ toggledAll (survivors p x 0 (rowSet p k r)) ms → v ≡ toggledAll (survivors p x 0 (diagonalSet p k i)) u → rowsRest (n - 1) i v ≡ rowsRest n r ms
   unfolding startSets
-  rows-turn zero r ms u v h l e q = absurd (omega arith)
-  rows-turn (suc n) r ms u v h l e q =
+  rows-turn zero r i ms u v d h l e q = absurd (omega arith)
+  rows-turn (suc n) r i ms u v d h l e q =
       let m : suc n - 1 ≡ n = omega arith in
       let rest : List ℕ = startSets n p k x 0 (nextRow p x 0 r) in
-      let next : nextRow p x 0 r ≡ diagonalOf p x r = ap (λ (i : ℕ). i % p) (add-zero (diagonalOf p x r)) ∙ mod-eq-of-lt l in
-      ap₂ (λ (i j : ℕ). rowsRest i j v) m (sym next)
-      ∙ then (diagonalSet p k (diagonalOf p x r)) rest u v q
+      let next : nextRow p x 0 r ≡ i = ap (λ (j : ℕ). j % p) (add-zero (diagonalOf p x r) ∙ sym d) ∙ mod-eq-of-lt l in
+      ap₂ (λ (c j : ℕ). rowsRest c j v) m (sym next)
+      ∙ then (diagonalSet p k (diagonalOf p x r)) rest u v (q ∙ ap (λ (j : ℕ). toggledAll (survivors p x 0 (diagonalSet p k j)) u) d)
       ∙ then (rowSet p k r) (diagonalSet p k (diagonalOf p x r) ++ rest) ms u e
 
   pub rows-last : (n r : ℕ) (ms : List ℕ) → n ≤ 0 → rowsRest n r ms ≡ ms

@@ -36,7 +36,7 @@ fn toggle_sets(width: usize, disks: usize, x: usize, row: usize, marks: &mut [u8
     let mut on = row;
     while 0 < left {
         toggle_set(width, disks, x, 0, on, marks, at);
-        on = (on + width - x) % width;
+        on = sets::diagonal_of(width, x, on);
         toggle_set(width, disks, x, 1, on, marks, at);
         left -= 1;
     }

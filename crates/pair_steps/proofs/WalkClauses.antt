@@ -7,6 +7,7 @@ use Rattle.liberation.specs.Sets.{place, rowSet, diagonalSet}
 use Rattle.liberation.specs.Plans.{diagonalOf}
 use Rattle.liberation_stripes.specs.Stripes.{solved}
 use Rattle.liberation_pairs.specs.Pairs.{nextRow, diagonalWalk, rowWalk}
+use Rattle.sets.proofs.NumberLaws.{next-is}
 use Rattle.liberation_pairs.proofs.WalkRows.{rowAfter, after-by}
 
 module _ (p k s x y : ℕ) where
@@ -21,12 +22,15 @@ module _ (p k s x y : ℕ) where
   row-none (suc n) r t e = absurd (omega arith)
 
   -- a diagonal step made u of t, and the walk from there on v of u
-  pub diagonal-more : (n r : ℕ) (t u v : List ℕ) → (n ≡ 0 → ⊥) → u ≡ solved s (place p (nextRow p x y r) y) (diagonalSet p k (diagonalOf p x r)) t → v ≡ rowWalk (n - 1) p k s x y (nextRow p x y r) u → v ≡ diagonalWalk n p k s x y r t
+  pub diagonal-more : (n r i j : ℕ) (t u v : List ℕ) → i ≡ diagonalOf p x r → j ≡ (i + y) % p → (n ≡ 0 → ⊥) → u ≡ solved s (place p j y) (diagonalSet p k i) t → v ≡ rowWalk (n - 1) p k s x y j u → v ≡ diagonalWalk n p k s x y r t
   unfolding diagonalWalk
-  diagonal-more zero r t u v h e q = absurd (h refl)
-  diagonal-more (suc n) r t u v h e q =
+  diagonal-more zero r i j t u v ei ej h e q = absurd (h refl)
+  diagonal-more (suc n) r i j t u v ei ej h e q =
       let m : suc n - 1 ≡ n = omega arith in
-      q ∙ ap₂ (λ (i : ℕ) (l : List ℕ). rowWalk i p k s x y (nextRow p x y r) l) m e
+      let f : j ≡ nextRow p x y r = next-is p x y r i j ei ej in
+      q
+      ∙ ap₂ (λ (i : ℕ) (l : List ℕ). rowWalk i p k s x y j l) m e
+      ∙ ap₂ (λ (b d : ℕ). rowWalk n p k s x y b (solved s (place p b y) (diagonalSet p k d) t)) f ei
 
   -- a row step
   pub row-more : (n r : ℕ) (t u v : List ℕ) → (n ≡ 0 → ⊥) → u ≡ solved s (place p r x) (rowSet p k r) t → v ≡ diagonalWalk (n - 1) p k s x y r u → v ≡ rowWalk n p k s x y r t

@@ -25,8 +25,8 @@ pub fn diagonal_step(
     if left == 0 {
         return;
     }
-    let number = (row + width - x) % width;
-    let next = (number + y) % width;
+    let number = sets::diagonal_of(width, x, row);
+    let next = sets::row_on(width, number, y);
     stripes::solve_by(width, disks, size, 1, number, y, next, stripe, at);
     row_step(left - 1, width, disks, size, x, y, next, stripe, at);
 }

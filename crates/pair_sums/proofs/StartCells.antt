@@ -33,17 +33,18 @@ module _ (p s x y : ℕ) where
 
   -- pushed: those of row r, after the first m numbers
   pub cells-turn :
-      (n r m : ℕ) (at : List ℕ) → 0 < n → m + 1 < length at
-      → take (m + 2) (set (set at m (place p r x * s)) (m + 1) (place p (nextRow p x y r) y * s)) ++ scaled s (cellsOf (startSteps (n - 1) p x y (nextRow p x y r))) ≡ take m at ++ scaled s (cellsOf (startSteps n p x y r))
+      (n r q m : ℕ) (at : List ℕ) → q ≡ nextRow p x y r → 0 < n → m + 1 < length at
+      → take (m + 2) (set (set at m (place p r x * s)) (m + 1) (place p q y * s)) ++ scaled s (cellsOf (startSteps (n - 1) p x y q)) ≡ take m at ++ scaled s (cellsOf (startSteps n p x y r))
   unfolding startSteps cellsOf scaled
-  cells-turn zero r m at h l = absurd (omega arith)
-  cells-turn (suc n) r m at h l =
+  cells-turn zero r q m at g h l = absurd (omega arith)
+  cells-turn (suc n) r q m at g h l =
       let a = place p r x * s in
       let b = place p (nextRow p x y r) y * s in
       let e : suc n - 1 ≡ n = omega arith in
       let f : m + 2 ≡ m + 1 + 1 = omega arith in
       let rest = scaled s (cellsOf (startSteps n p x y (nextRow p x y r))) in
-      ap₂ (λ (i j : ℕ). take i (set (set at m a) (m + 1) b) ++ scaled s (cellsOf (startSteps j p x y (nextRow p x y r)))) f e
+      ap (λ (i : ℕ). take (m + 2) (set (set at m a) (m + 1) (place p i y * s)) ++ scaled s (cellsOf (startSteps (suc n - 1) p x y i))) g
+      ∙ ap₂ (λ (i j : ℕ). take i (set (set at m a) (m + 1) b) ++ scaled s (cellsOf (startSteps j p x y (nextRow p x y r)))) f e
       ∙ ap (λ (w : List ℕ). w ++ rest) (pushed-then (pushed-one at m a (omega arith)) (pushed-one (set at m a) (m + 1) b (omega (arith, length-set at m a))) .list)
       ∙ append-assoc (take m at) (a ∷ (b ∷ [])) rest
 

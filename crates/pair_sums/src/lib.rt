@@ -25,7 +25,8 @@ fn push_sums(
     let mut n = 0;
     while 0 < left {
         at[n] = (x * width + on) * size;
-        on = ((on + width - x) % width + y) % width;
+        let number = sets::diagonal_of(width, x, on);
+        on = sets::row_on(width, number, y);
         at[n + 1] = (y * width + on) * size;
         n += 2;
         left -= 1;
@@ -46,7 +47,7 @@ pub fn start_sums(
     requires { ⌜ Lost width disks size x y (now stripe) (now at) × Walked width disks x y × (1 ≤ y) ⌝ }
     ensures { λ _. ⌜ now (stripe .exit) ≡ sumStarted width disks size x y (now (stripe .entry)) ⌝ }
 {
-    let count = (width - 1) / 2;
+    let count = (width - 1) >> 1;
     let from = pair_numbers::extra_row(width, y);
     let row = pair_numbers::extra_row(width, x);
     set_sums::sum_sets(count, width, disks, size, x, y, from, stripe, at);

@@ -1,5 +1,6 @@
 -- The walk to disk 0 after its first cell, and the walk from sums, from their parts one after another.
 use mathlib.Core.Path.{_≡_, sym, ap, ap₂, _∙_}
+use mathlib.Core.Logic.{⊎-elim}
 use mathlib.Core.List.{List, _∷_}
 use Prim.Native.Nat.{ℕ, _+_, _-_, _*_, _/_, _%_, _≤_, _<_}
 use native.Mathlib.Nat.{mod-eq-of-lt}
@@ -11,21 +12,67 @@ use Rattle.liberation_stripes.specs.Steps.{cellStep}
 use Rattle.liberation_pairs.specs.Pairs.{started, diagonalWalk, walked}
 use Rattle.liberation_pairs.specs.PairSteps.{walkSteps}
 use Rattle.liberation_sums.specs.Sums.{addedAll, sumStarted, sumWalked}
+use Rattle.laws.proofs.Modulo.{mod-unique}
+use Rattle.laws.proofs.OrderLaws.{lt-or-le}
+use Rattle.sets.proofs.NumberLaws.{half-even, half-odd}
 use Rattle.pair_steps.proofs.WalkClauses.{walk-halves}
 
 -- the other cell of the first cell's row, then the walk over the other rows
 abbrev pub walkedOn : ℕ → ℕ → ℕ → ℕ → List ℕ → List ℕ
 walkedOn p k s x u = diagonalWalk (2 * (p - 1)) p k s x 0 (extraRowOn p x) (solved s (place p (extraRowOn p x) 0) (rowSet p k (extraRowOn p x)) u)
 
+-- half of the rows after the extra cell's on x comes row x - 1: the walk goes back by x each time, so by x × (p - 1)/2 in all, which is half of x forward
+middle-even : (p x d h : ℕ) → p ≡ 2 * (d + h) + 1 → x ≡ h + h → 1 ≤ h → h - 1 + (2 * d + 1) * (d + h) ≡ p * d + (x - 1)
+middle-even p x d h e f l =
+    let b : x - 1 ≡ 2 * h - 1 = omega arith in
+    omega arith ∙ sym (ap₂ (λ (i j : ℕ). i * d + j) e b)
+
+middle-odd : (p x d h : ℕ) → p ≡ 2 * (d + h) + 1 → x ≡ h + h + 1 → h + (d + h) + 2 * d * (d + h) ≡ p * d + (x - 1)
+middle-odd p x d h e f =
+    let b : x - 1 ≡ 2 * h = omega arith in
+    omega arith ∙ sym (ap₂ (λ (i j : ℕ). i * d + j) e b)
+
+middle-is : (p x : ℕ) → p % 2 ≡ 1 → 1 ≤ x → x < p → (extraRowOn p x + (p - x) * ((p - 1) / 2)) % p ≡ x - 1
+middle-is p x odd low high = ⊎-elim even odds (lt-or-le (x % 2) 1)
+  where
+    h : ℕ
+    h = x / 2
+
+    d : ℕ
+    d = (p - 1) / 2 - h
+
+    half : (p - 1) / 2 ≡ d + h
+    half = omega arith
+
+    wide : p ≡ 2 * (d + h) + 1
+    wide = omega arith
+
+    reach : (a b : ℕ) → extraRowOn p x ≡ a → p - x ≡ b → a + b * (d + h) ≡ p * d + (x - 1) → (extraRowOn p x + (p - x) * ((p - 1) / 2)) % p ≡ x - 1
+    reach a b ea eb e =
+        ap (λ (n : ℕ). n % p) (ap₂ (λ (i j : ℕ). i + j) ea (ap₂ (λ (i j : ℕ). i * j) eb half) ∙ e) ∙ mod-unique p d (x - 1) (omega arith)
+
+    even : x % 2 < 1 → (extraRowOn p x + (p - x) * ((p - 1) / 2)) % p ≡ x - 1
+    even z =
+        let f : x ≡ h + h = omega arith in
+        let m : p - x ≡ 2 * d + 1 = omega arith in
+        reach (h - 1) (2 * d + 1) (ap (λ (n : ℕ). n - 1) (sym (half-even p x h odd high (sym f)))) m (middle-even p x d h wide f (omega arith))
+
+    odds : 1 ≤ x % 2 → (extraRowOn p x + (p - x) * ((p - 1) / 2)) % p ≡ x - 1
+    odds z =
+        let f : x ≡ h + h + 1 = omega arith in
+        let m : p - x ≡ 2 * d = omega arith in
+        let n : h + (p + 1) / 2 - 1 ≡ h + (d + h) = omega arith in
+        reach (h + (d + h)) (2 * d) (ap (λ (i : ℕ). i - 1) (sym (half-odd p x h odd high (sym f))) ∙ n) m (middle-odd p x d h wide f)
+
 -- the walk comes in two halves; disk x is not disk 0, so the way to the second one is known
 pub walk-done :
     (p k s x r : ℕ) (t u v w : List ℕ) → p % 2 ≡ 1 → 1 ≤ x → x < p → r < p → r ≡ extraRowOn p x
     → u ≡ solved s (place p r 0) (rowSet p k r) t
     → v ≡ diagonalWalk (2 * ((p - 1) / 2)) p k s x 0 r u
-    → w ≡ diagonalWalk (2 * ((p - 1) / 2)) p k s x 0 ((r + (p - x) * ((p - 1) / 2)) % p) v
+    → w ≡ diagonalWalk (2 * ((p - 1) / 2)) p k s x 0 (x - 1) v
     → w ≡ walkedOn p k s x t
 walk-done p k s x r t u v w odd low high l er eu ev ew =
-    walk-halves p k s x 0 r u v w odd (omega arith) l ev (ew ∙ ap (λ (i : ℕ). diagonalWalk (2 * ((p - 1) / 2)) p k s x 0 ((r + i * ((p - 1) / 2)) % p) v) (sym way))
+    walk-halves p k s x 0 r u v w odd (omega arith) l ev (ew ∙ ap (λ (i : ℕ). diagonalWalk (2 * ((p - 1) / 2)) p k s x 0 i v) (sym (ap₂ (λ (i j : ℕ). (i + j * ((p - 1) / 2)) % p) er way ∙ middle-is p x odd low high)))
     ∙ ap₂ (λ (i : ℕ) (m : List ℕ). diagonalWalk (2 * (p - 1)) p k s x 0 i m) er (eu ∙ ap (λ (i : ℕ). solved s (place p i 0) (rowSet p k i) t) er)
   where
     way : diagonalOf p x 0 ≡ p - x

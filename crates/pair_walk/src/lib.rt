@@ -9,7 +9,7 @@ ghost use Rattle.liberation_sums.specs.Sums.{sumWalked};
 ghost use Rattle.liberation_stripes.specs.Limits.{Sized};
 ghost use Rattle.pair_start.specs.Disks.{Walked};
 
-// Data disks x and 0 after the first cell: its row's other cell, then the walk over the other rows in two halves, so that it takes half of the stack. `middle` is the row at which the second half begins.
+// Data disks x and 0 after the first cell: its row's other cell, then the walk over the other rows in two halves, so that it takes half of the stack. The second half begins at row x - 1.
 pub fn walk_to_zero(width: usize, disks: usize, size: usize, x: usize, stripe: &mut [u8])
     requires { ⌜ Sized width disks size (now stripe) ⌝ }
     requires { ⌜ Walked width disks x 0 ⌝ }
@@ -18,10 +18,9 @@ pub fn walk_to_zero(width: usize, disks: usize, size: usize, x: usize, stripe: &
     let row = pair_numbers::extra_row(width, x);
     let mut at = offsets::no_offsets();
     stripes::solve_by(width, disks, size, 0, row, 0, row, stripe, &mut at);
-    let half = (width - 1) / 2;
-    let middle = (row + (width - x) * half) % width;
+    let half = (width - 1) >> 1;
     pair_steps::diagonal_step(2 * half, width, disks, size, x, 0, row, stripe, &mut at);
-    pair_steps::diagonal_step(2 * half, width, disks, size, x, 0, middle, stripe, &mut at);
+    pair_steps::diagonal_step(2 * half, width, disks, size, x, 0, x - 1, stripe, &mut at);
 }
 
 // Two data disks, y not disk 0: the walk from sums. Its start leaves in half of the rows the sums of their sets' surviving cells, so the walk ends with the first of these rows and the last steps add.
@@ -36,6 +35,6 @@ pub fn walk_sums(width: usize, disks: usize, size: usize, x: usize, y: usize, st
     pair_sums::start_sums(width, disks, size, x, y, stripe, &mut at);
     stripes::solve_by(width, disks, size, 0, row, x, row, stripe, &mut at);
     pair_steps::diagonal_step(width, width, disks, size, x, y, row, stripe, &mut at);
-    let rows = (width - 1) / 2 - 1;
+    let rows = ((width - 1) >> 1) - 1;
     pair_last::add_last(rows, width, disks, size, x, y, from, stripe, &mut at);
 }

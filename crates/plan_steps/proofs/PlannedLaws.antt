@@ -1,21 +1,26 @@
 -- Our plan by the kind of disk: its steps and its route word for a data disk, for P and for Q; and the promise of the call for accepted and refused calls. For every number k of data disks.
 use mathlib.Core.Path.{_≡_, sym, ap, ap₂, subst, _∙_}
-use mathlib.Core.Bool.{Bool}
+use mathlib.Core.Bool.{Bool, true}
 use mathlib.Core.List.{List, [], _++_}
-use Prim.Native.Nat.{ℕ, _-_, _^_, _≤_, _<_}
+use Prim.Native.Nat.{ℕ, _+_, _-_, _^_, _≤_, _<_}
 use native.Mathlib.Omega.{arith}
 use lib.Dec.{eqb}
 use lib.ListN.{take}
 use borrow.Author.Tests.{eq-eqb, ne-eqb, lt-ltb, le-ltb}
 use Rattle.laws.specs.Choice.{pick}
 use Rattle.laws.proofs.ChoiceLaws.{pick-refused, pick-done}
+use Rattle.liberation.specs.Limits.{InArray}
 use Rattle.liberation.specs.Sets.{planFault}
 use Rattle.liberation.specs.Plans.{Step, routes, wordFrom, rowSteps, diagonalSteps, dataPlan, allOf, planOf, routeWord}
+use Rattle.liberation.specs.Judging.{accepted}
+use Rattle.liberation.proofs.PartPlans.{plan-accepted}
+use Rattle.liberation.proofs.RecordLaws.{plan-length}
 use Rattle.refusals.specs.Answers.{Answers}
 use Rattle.refusals.proofs.AnswerLaws.{answers-as}
 use Rattle.routes.specs.Records.{RoutesAre}
 use Rattle.step_records.specs.declared.Steps.{Steps}
-use Rattle.step_records.specs.Records.{Holds}
+use Rattle.step_records.specs.Records.{Holds, held}
+use Rattle.step_records.proofs.HeldLaws.{held-is}
 use Rattle.plan_steps.specs.declared.Planned.{Planned}
 use Rattle.plan_steps.specs.Says.{OurPlan, plannedSteps, PlannedSays, Refused}
 
@@ -47,6 +52,14 @@ row-parity-word p k f e = sym (ap₂ (λ (a b : Bool). pick a (wordFrom 0 (route
 pub diagonal-parity-word : (p k f : ℕ) → k ≤ f → (f ≡ k → ⊥) → 2 ^ p - 1 ≡ routeWord p k f
 unfolding routeWord
 diagonal-parity-word p k f h n = sym (ap₂ (λ (a b : Bool). pick a (wordFrom 0 (routes p f)) (pick b 0 (2 ^ p - 1))) (le-ltb f k h) (ne-eqb f k n))
+
+-- a record that holds our plan has it as its steps
+pub ours-held : (p k f : ℕ) (s : Steps) → InArray p k → f ≤ k + 1 → Holds (planOf p k f) s → held p s ≡ planOf p k f
+ours-held p k f s a d h = held-is p (planOf p k f) s (plan-length p k f (a .width) (a .disks) d) h
+
+-- and they are accepted
+pub ours-accepted : (p k f : ℕ) (s : Steps) → InArray p k → f ≤ k + 1 → Holds (planOf p k f) s → accepted p k f (held p s) ≡ true
+ours-accepted p k f s a d h = ap (accepted p k f) (ours-held p k f s a d h) ∙ plan-accepted p k f (a .width) (a .disks) d
 
 -- A plan that is not refused, from what its record was made of.
 pub our-plan-is : (p k f w : ℕ) (s : Steps) (r : Planned) → Holds (planOf p k f) s → w ≡ routeWord p k f → Answers 0 (r .answer) × (r .steps ≡ s) × (r .routes ≡ w) → OurPlan p k f r

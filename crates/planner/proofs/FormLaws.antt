@@ -2,17 +2,16 @@
 use mathlib.Core.Path.{_≡_, _∙_}
 use mathlib.Core.List.{List}
 use Prim.Native.Nat.{ℕ, _*_}
-use native.Mathlib.Omega.{arith}
 use lib.ListN.{length}
 use Rattle.liberation.specs.Sets.{planFault}
 use Rattle.liberation.specs.Plans.{Step, planOf}
 use Rattle.liberation.specs.Records.{recorded, judgeForm}
 use Rattle.liberation.specs.Judging.{stepsIn}
 use Rattle.liberation.proofs.FaultLaws.{plan-of}
-use Rattle.liberation.proofs.RecordLaws.{length-form, form-steps, recorded-from, plan-length}
+use Rattle.liberation.proofs.RecordLaws.{length-form, form-steps}
 use Rattle.refusals.proofs.AnswerLaws.{answers-none}
 use Rattle.plan_steps.specs.Says.{plannedSteps}
-use Rattle.plan_steps.proofs.PlannedLaws.{held-as, planned-is}
+use Rattle.plan_steps.proofs.PlannedLaws.{held-as, ours-held, planned-is}
 use Rattle.planner.specs.declared.Plan.{Plan}
 use Rattle.planner.specs.Says.{PlanSays}
 
@@ -31,8 +30,7 @@ pub plan-held : (p k f : ℕ) (r : Plan) → PlanSays p k f r → r .answer .ref
 plan-held p k f r q z =
     let n : planFault p k f ≡ 0 = answers-none (planFault p k f) (r .answer) (q .answer) z in
     let w = plan-of p k f n in
-    let h = held-as (plannedSteps p k f) (planOf p k f) (r .steps) (planned-is p k f n) (q .steps) in
-    (λ j. recorded p 0 (h .rows j) (h .kinds j) (h .numbers j)) ∙ recorded-from p 0 (planOf p k f) (omega (arith, plan-length p k f (w .0 .width) (w .0 .disks) (w .1)))
+    ours-held p k f (r .steps) (w .0) (w .1) (held-as (plannedSteps p k f) (planOf p k f) (r .steps) (planned-is p k f n) (q .steps))
 
 -- "ours for the p steps of the planner's record, put in that form"
 pub plan-form : (p k f : ℕ) (r : Plan) → PlanSays p k f r → r .answer .refusal ≡ 0 → stepsIn p (formOf p r) ≡ planOf p k f

@@ -1,15 +1,14 @@
 -- Marking the cells that the steps of a plan read, step by step.
 use mathlib.Core.Path.{_≡_, refl, sym, ap, _∙_}
-use mathlib.Core.List.{List, []}
-use Prim.Native.Nat.{ℕ, _+_, _*_, _≤_, _<_}
+use mathlib.Core.List.{List, [], _∷_}
+use Prim.Native.Nat.{ℕ, suc, _+_, _*_, _≤_, _<_}
 use native.Mathlib.Numerals.{add-one}
 use native.Mathlib.Omega.{arith}
 use lib.ListN.{length, drop, drop-of-length-le}
 use Rattle.laws.specs.Lists.{added}
 use Rattle.liberation.specs.Sets.{setOf, survivingIn}
-use Rattle.liberation.specs.Plans.{Step, readFrom, cellsRead, readCount, marksFrom}
+use Rattle.liberation.specs.Plans.{Step, readFrom, cellsRead, readCount, marksFrom, listOf}
 use Rattle.liberation.proofs.SetLaws.{survivors-below}
-use Rattle.liberation.proofs.RecordLaws.{StepAt}
 use Rattle.cell_marks.specs.Marks.{Marked}
 use Rattle.cell_marks.proofs.MarkLaws.{marked-read, marked-few}
 
@@ -25,21 +24,21 @@ pub record Reading (p k f : ℕ) (ss : List Step) (m : List ℕ) (reads i : ℕ)
 pub reading-start : (p k f : ℕ) (ss : List Step) (m : List ℕ) → m ≡ marksFrom (p * (k + 2)) 0 [] → Reading p k f ss m 0 0
 reading-start p k f ss m e = record { within = omega arith; cells = []; marks = e; count = refl; few = omega arith; rest = refl }
 
-pub reading-turn : (p k f : ℕ) (ss : List Step) (m m′ : List ℕ) (reads i r : ℕ) (a : StepAt ss i) → i < length ss → a .this .number < p → Reading p k f ss m reads i → Marked m m′ (survivingIn p f (setOf p k (a .this .kind) (a .this .number))) r → Reading p k f ss m′ (reads + r) (i + 1)
+pub reading-turn : (p k f : ℕ) (ss : List Step) (m m′ : List ℕ) (reads i r : ℕ) (a : Step) → drop i ss ≡ a ∷ drop (suc i) ss → i < length ss → a .number < p → Reading p k f ss m reads i → Marked m m′ (survivingIn p f (setOf p k (a .kind) (a .number))) r → Reading p k f ss m′ (reads + r) (i + 1)
 unfolding readFrom
-reading-turn p k f ss m m′ reads i r a l n u d =
-    let xs : List ℕ = survivingIn p f (setOf p k (a .this .kind) (a .this .number)) in
-    let q = marked-read (p * (k + 2)) xs (u .cells) m m′ r (survivors-below p k f (a .this .kind) (a .this .number) n) (u .marks) d in
+reading-turn p k f ss m m′ reads i r a split l n u d =
+    let xs : List ℕ = survivingIn p f (setOf p k (a .kind) (a .number)) in
+    let q = marked-read (p * (k + 2)) xs (u .cells) m m′ r (survivors-below p k f (a .kind) (a .number) n) (u .marks) d in
     record {
       within = omega arith;
       cells = added xs (u .cells);
       marks = q .0;
       count = omega (arith, q .1, u .count);
-      few = omega (arith, u .few, marked-few p k f (a .this .kind) (a .this .number) d);
-      rest = ap (λ (j : ℕ). readFrom p k f (drop j ss) (added xs (u .cells))) (add-one i) ∙ sym (ap (λ (y : List Step). readFrom p k f y (u .cells)) (a .split)) ∙ u .rest;
+      few = omega (arith, u .few, marked-few p k f (a .kind) (a .number) d);
+      rest = ap (λ (j : ℕ). readFrom p k f (drop j ss) (added xs (u .cells))) (add-one i) ∙ sym (ap (λ (y : List Step). readFrom p k f y (u .cells)) split) ∙ u .rest;
     }
 
-pub reading-end : (p k f : ℕ) (ss : List Step) (m : List ℕ) (reads i : ℕ) → length ss ≤ i → Reading p k f ss m reads i → (reads ≡ readCount p k f ss) × (m ≡ marksFrom (p * (k + 2)) 0 (cellsRead p k f ss))
+pub reading-end : (p k f : ℕ) (ss : List Step) (m : List ℕ) (reads i : ℕ) → length ss ≤ i → Reading p k f ss m reads i → (reads ≡ readCount p k f ss) × (m ≡ listOf p k f ss)
 unfolding readFrom
 reading-end p k f ss m reads i l u =
     let all : u .cells ≡ cellsRead p k f ss = ap (λ (y : List Step). readFrom p k f y (u .cells)) (sym (drop-of-length-le ss l)) ∙ u .rest in

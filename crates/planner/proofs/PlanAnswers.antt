@@ -1,37 +1,36 @@
--- The promise of the planner for accepted and refused calls. For every number k of data disks.
-use mathlib.Core.Path.{_≡_, sym, subst, _∙_}
-use mathlib.Core.List.{[]}
+-- The promise of a planner for accepted and refused calls. For every number k of data disks.
+use mathlib.Core.Path.{_≡_, sym, ap, subst, _∙_}
+use mathlib.Core.List.{List, []}
 use Prim.Native.Nat.{ℕ}
+use lib.Dec.{eqb}
+use Rattle.laws.specs.Choice.{pick}
 use Rattle.laws.proofs.ChoiceLaws.{pick-refused, pick-done}
-use Rattle.liberation.specs.Sets.{planFault}
-use Rattle.liberation.specs.Plans.{planOf, routeWord, readCount}
+use Rattle.liberation.specs.Plans.{Step, readCount}
 use Rattle.refusals.specs.Answers.{Answers}
 use Rattle.refusals.proofs.AnswerLaws.{answers-as}
 use Rattle.step_records.specs.declared.Steps.{Steps}
-use Rattle.step_records.specs.Records.{Holds}
+use Rattle.step_records.specs.Records.{Holds, held}
 use Rattle.plan_steps.specs.declared.Planned.{Planned}
-use Rattle.plan_steps.specs.Says.{OurPlan, plannedSteps}
-use Rattle.plan_steps.proofs.PlannedLaws.{held-as, planned-says}
+use Rattle.plan_steps.proofs.PlannedLaws.{held-as}
 use Rattle.planner.specs.declared.Plan.{Plan}
-use Rattle.planner.specs.Says.{PlanSays}
+use Rattle.planner.specs.Says.{Finished, NoPlan, GivesPlan}
 
 -- an accepted call
-pub plan-says : (p k f : ℕ) (r : Plan) (q : Planned) → planFault p k f ≡ 0 → OurPlan p k f q → r .answer ≡ q .answer → r .steps ≡ q .steps → r .routes ≡ q .routes → r .reads ≡ readCount p k f (planOf p k f) → PlanSays p k f r
-plan-says p k f r q z o n a b e =
-    let says = planned-says p k f q z o in
+pub plan-gives : (p k f n : ℕ) (ss : List Step) (w : ℕ) (r : Plan) (q : Planned) → n ≡ 0 → Answers 0 (q .answer) → Holds ss (q .steps) → q .routes ≡ w → held p (q .steps) ≡ ss → Finished p k f q r → GivesPlan p k f n ss w r
+plan-gives p k f n ss w r q z a h v e d =
     record {
-      answer = subst (Answers (planFault p k f)) (sym n) (says .answer);
-      steps = subst (λ (x : Steps). Holds (plannedSteps p k f) x) (sym a) (says .steps);
-      routes = b ∙ says .routes;
-      reads = e ∙ pick-done (planFault p k f) (readCount p k f (planOf p k f)) 0 z;
+      answer = answers-as 0 n (r .answer) (sym z) (subst (Answers 0) (sym (d .answer)) a);
+      steps = held-as ss (pick (eqb n 0) ss []) (r .steps) (pick-done n ss [] z) (subst (λ (x : Steps). Holds ss x) (sym (d .steps)) h);
+      routes = d .routes ∙ v ∙ pick-done n w 0 z;
+      reads = d .reads ∙ ap (readCount p k f) e ∙ pick-done n (readCount p k f ss) 0 z;
     }
 
 -- a refused call
-pub plan-refused : (p k f n : ℕ) (r : Plan) → n ≡ planFault p k f → (n ≡ 0 → ⊥) → Answers n (r .answer) → Holds [] (r .steps) → r .routes ≡ 0 → r .reads ≡ 0 → PlanSays p k f r
-plan-refused p k f n r e z a h c d =
+pub plan-refused : (p k f n m : ℕ) (ss : List Step) (w : ℕ) (r : Plan) → n ≡ m → (n ≡ 0 → ⊥) → NoPlan n r → GivesPlan p k f m ss w r
+plan-refused p k f n m ss w r e z d =
     record {
-      answer = answers-as n (planFault p k f) (r .answer) e a;
-      steps = held-as [] (plannedSteps p k f) (r .steps) (pick-refused n (planFault p k f) (planOf p k f) [] e z) h;
-      routes = c ∙ pick-refused n (planFault p k f) (routeWord p k f) 0 e z;
-      reads = d ∙ pick-refused n (planFault p k f) (readCount p k f (planOf p k f)) 0 e z;
+      answer = answers-as n m (r .answer) e (d .answer);
+      steps = held-as [] (pick (eqb m 0) ss []) (r .steps) (pick-refused n m ss [] e z) (d .steps);
+      routes = d .routes ∙ pick-refused n m w 0 e z;
+      reads = d .reads ∙ pick-refused n m (readCount p k f ss) 0 e z;
     }

@@ -1,13 +1,13 @@
 // Our plan for one lost disk with its read count. Nothing here knows of bytes in stripes.
 ghost use mathlib.Core.Path.{_≡_};
+ghost use mathlib.Core.Bool.{true};
 ghost use mathlib.Core.List.{[]};
 ghost use Prim.Native.Nat.{_+_, _*_, _≤_};
 ghost use Rattle.liberation.specs.Limits.{InArray};
-ghost use Rattle.liberation.specs.Sets.{planFault};
-ghost use Rattle.liberation.specs.Plans.{planOf, readCount, readList, marksFrom};
-ghost use Rattle.step_records.specs.Records.{Holds};
-ghost use Rattle.plan_steps.specs.Says.{OurPlan};
-ghost use Rattle.planner.specs.Says.{PlanSays};
+ghost use Rattle.liberation.specs.Plans.{readCount, listOf, marksFrom};
+ghost use Rattle.liberation.specs.Judging.{accepted};
+ghost use Rattle.step_records.specs.Records.{held};
+ghost use Rattle.planner.specs.Says.{Finished, NoPlan, PlanSays};
 use plan_steps::Planned;
 use refusals::Answer;
 use step_records::Steps;
@@ -21,10 +21,10 @@ pub struct Plan {
     pub reads: u32,
 }
 
-// Marks the cells that our plan reads in a list of zeros, and counts them.
+// Marks the cells that an accepted plan reads in a list of zeros, and counts them.
 pub fn mark_steps(width: usize, disks: usize, lost: usize, s: Steps, marks: &mut [u8]) -> u32
-    requires { ⌜ InArray width disks × (lost ≤ disks + 1) × Holds (planOf width disks lost) s × (now marks ≡ marksFrom (width * (disks + 2)) 0 []) ⌝ }
-    ensures { λ r. ⌜ (r ≡ readCount width disks lost (planOf width disks lost)) × (now (marks .exit) ≡ readList width disks lost) ⌝ }
+    requires { ⌜ InArray width disks × (lost ≤ disks + 1) × (accepted width disks lost (held width s) ≡ true) × (now marks ≡ marksFrom (width * (disks + 2)) 0 []) ⌝ }
+    ensures { λ r. ⌜ (r ≡ readCount width disks lost (held width s)) × (now (marks .exit) ≡ listOf width disks lost (held width s)) ⌝ }
 {
     let kinds = s.kinds;
     let numbers = s.numbers;
@@ -39,10 +39,10 @@ pub fn mark_steps(width: usize, disks: usize, lost: usize, s: Steps, marks: &mut
     reads
 }
 
-// The plan record of a plan within limits: its reads are counted.
-fn finished(width: usize, disks: usize, lost: usize, p: Planned) -> Plan
-    requires { ⌜ (planFault width disks lost ≡ 0) × OurPlan width disks lost p ⌝ }
-    ensures { λ r. ⌜ PlanSays width disks lost r ⌝ }
+// The plan record of an accepted plan: its reads are counted.
+pub fn finished(width: usize, disks: usize, lost: usize, p: Planned) -> Plan
+    requires { ⌜ InArray width disks × (lost ≤ disks + 1) × (accepted width disks lost (held width (p .steps)) ≡ true) ⌝ }
+    ensures { λ r. ⌜ Finished width disks lost p r ⌝ }
 {
     let s = p.steps;
     let n = width * (disks + 2);
@@ -57,19 +57,26 @@ fn finished(width: usize, disks: usize, lost: usize, p: Planned) -> Plan
     }
 }
 
+// A refusal of a planner: every other field is zero.
+pub fn refused_plan(refusal: u8) -> Plan
+    ensures { λ r. ⌜ NoPlan refusal r ⌝ }
+{
+    let steps = step_records::no_steps();
+    Plan {
+        answer: refusals::answered(refusal),
+        steps: steps,
+        routes: 0,
+        reads: 0,
+    }
+}
+
 // Our plan for a lost disk. Refusals: 1, 13, 3.
 pub fn plan_disk(width: usize, disks: usize, lost: usize) -> Plan
     ensures { λ r. ⌜ PlanSays width disks lost r ⌝ }
 {
     let fault = refusals::plan_fault(width, disks, lost);
     if fault != 0 {
-        let steps = step_records::no_steps();
-        return Plan {
-            answer: refusals::answered(fault),
-            steps: steps,
-            routes: 0,
-            reads: 0,
-        };
+        return refused_plan(fault);
     }
     let p = plan_steps::our_plan(width, disks, lost);
     finished(width, disks, lost, p)

@@ -26,7 +26,7 @@ pub list-ones : (p k f : ℕ) → isWidth p ≡ true → k ≤ p → f ≤ k + 1
 list-ones p k f w most h = marks-count p k f (planOf p k f) (named-numbers p (planOf p k f) (accepted-named p k f (planOf p k f) (plan-accepted p k f w most h)))
 
 -- marks are ones and zeros
-marks-ones : (n x : ℕ) (ys : List ℕ) → onesIn (marksFrom n x ys) ≡ total (marksFrom n x ys)
+pub marks-ones : (n x : ℕ) (ys : List ℕ) → onesIn (marksFrom n x ys) ≡ total (marksFrom n x ys)
 unfolding onesIn total marksFrom
 marks-ones zero x ys = refl
 marks-ones (suc n) x ys = ap (λ (i : ℕ). when (eqb (when (isIn x ys) 1) 1) 1 + i) (marks-ones n (suc x) ys) ∙ ap (λ (i : ℕ). i + total (marksFrom n (suc x) ys)) (mark (isIn x ys))

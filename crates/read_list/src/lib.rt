@@ -5,7 +5,7 @@ ghost use Rattle.read_list.specs.Says.{ListSays};
 use refusals::Answer;
 
 // Every byte becomes 0.
-fn clear(list: &mut [u8])
+pub fn clear(list: &mut [u8])
     ensures { λ _. ⌜ now (list .exit) ≡ replicate (length (now (list .entry))) 0 ⌝ }
 {
     let mut i = 0;

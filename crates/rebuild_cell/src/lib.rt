@@ -40,7 +40,7 @@ fn other_row(
     if extra != row {
         return extra;
     }
-    offsets::row_on(width, number, disk)
+    sets::row_on(width, number, disk)
 }
 
 // One step: the lost disk's cell of this row becomes the XOR of the set's other cells. The surviving ones come from the stripe; another lost one, which an earlier step has rebuilt, from the column.

@@ -1,4 +1,4 @@
--- The promise of `rebuild_one`: its refusals 1, 13, 2, 3 and 5 in this order, which leave the column as it was, and the accepted call.
+-- The promise of a rebuild: the refusals 1, 13, 2, 3 and 5 in this order, which leave the column as it was, and the accepted call.
 use mathlib.Core.Path.{_≡_, sym, _∙_}
 use mathlib.Core.Bool.{Bool, true, not}
 use mathlib.Core.List.{List}
@@ -11,12 +11,12 @@ use Rattle.laws.specs.Xor.{allBytes}
 use Rattle.laws.proofs.ChoiceLaws.{first-none, when-none, pick-refused, pick-done}
 use Rattle.liberation.specs.Sets.{numbersFault, longFault}
 use Rattle.liberation.proofs.FaultLaws.{numbers-of, long-of}
-use Rattle.liberation_stripes.specs.Stripes.{stripeLong, rebuilt}
+use Rattle.liberation_stripes.specs.Stripes.{stripeLong}
 use Rattle.liberation_stripes.specs.Limits.{Sized}
 use Rattle.refusals.specs.declared.Answer.{Answer}
 use Rattle.refusals.specs.Answers.{Answers}
 use Rattle.refusals.proofs.AnswerLaws.{answers-as}
-use Rattle.rebuild_one.specs.Says.{lengthsFault, oneFault, OneSays}
+use Rattle.rebuild_one.specs.Says.{lengthsFault, Writes}
 
 -- none of the refusals: the stripe is within the limits, the disk is one of the array's, and the column, of m bytes, has its length
 pub fault-none : (p k s f m : ℕ) (t : List ℕ) → lengthsFault p k s f (length t) m ≡ 0 → Sized p k s t × (f ≤ k + 1) × (m ≡ p * s)
@@ -29,11 +29,9 @@ fault-none p k s f m t e =
     (record { array = q .0; small = q .2; long = long-of (stripeLong p k s) t (v .0) }, q .3, eqb-true m (p * s) (not-false b (when-none (not b) 4 (v .1))))
 
 -- a refusal
-pub refused : (p k s f n : ℕ) (t o : List ℕ) (r : Answer) → n ≡ oneFault p k s f t o → (n ≡ 0 → ⊥) → Answers n r → allBytes t ≡ true → OneSays p k s f t o o r
-refused p k s f n t o r e z a b =
-    record { answer = answers-as n (oneFault p k s f t o) r e a; column = pick-refused n (oneFault p k s f t o) (rebuilt p k s f t) o e z; bytes = b }
+pub refused : (n m : ℕ) (new t o : List ℕ) (r : Answer) → n ≡ m → (n ≡ 0 → ⊥) → Answers n r → allBytes t ≡ true → Writes m new t o o r
+refused n m new t o r e z a b = record { answer = answers-as n m r e a; column = pick-refused n m new o e z; bytes = b }
 
 -- the accepted call
-pub accepted : (p k s f : ℕ) (t o o′ : List ℕ) (r : Answer) → oneFault p k s f t o ≡ 0 → o′ ≡ rebuilt p k s f t → Answers 0 r → allBytes t ≡ true → OneSays p k s f t o o′ r
-accepted p k s f t o o′ r z e a b =
-    record { answer = answers-as 0 (oneFault p k s f t o) r (sym z) a; column = e ∙ pick-done (oneFault p k s f t o) (rebuilt p k s f t) o z; bytes = b }
+pub accepted : (m : ℕ) (new t o o′ : List ℕ) (r : Answer) → m ≡ 0 → o′ ≡ new → Answers 0 r → allBytes t ≡ true → Writes m new t o o′ r
+accepted m new t o o′ r z e a b = record { answer = answers-as 0 m r (sym z) a; column = e ∙ pick-done m new o z; bytes = b }

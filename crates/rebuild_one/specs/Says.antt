@@ -20,9 +20,13 @@ lengthsFault p k s f n m = firstOf (numbersFault p k s f) (firstOf (when (not (e
 abbrev pub oneFault : ℕ → ℕ → ℕ → ℕ → List ℕ → List ℕ → ℕ
 oneFault p k s f t o = lengthsFault p k s f (length t) (length o)
 
--- the column o becomes o′: the rebuilt disk, or as it was on a refusal
-pub record OneSays (p k s f : ℕ) (t o o′ : List ℕ) (r : Answer) : Type 0 where
-  pub answer : Answers (oneFault p k s f t o) r
-  pub column : o′ ≡ pick (eqb (oneFault p k s f t o) 0) (rebuilt p k s f t) o
+-- a rebuild from the stripe t that refuses by n, 0 for none: the column o becomes o′, the new one, or stays as it was on a refusal
+pub record Writes (n : ℕ) (new t o o′ : List ℕ) (r : Answer) : Type 0 where
+  pub answer : Answers n r
+  pub column : o′ ≡ pick (eqb n 0) new o
   -- what was lent are bytes
   pub bytes : allBytes t ≡ true
+
+-- by our plan
+abbrev pub OneSays : ℕ → ℕ → ℕ → ℕ → List ℕ → List ℕ → List ℕ → Answer → Type 0
+OneSays p k s f t o o′ r = Writes (oneFault p k s f t o) (rebuilt p k s f t) t o o′ r

@@ -1,14 +1,15 @@
-// The steps of our plan, one after another, from a lent stripe into a lent column. Each cell goes to its own stretch of the column.
+// The steps of an accepted plan, one after another, from a lent stripe into a lent column. Each cell goes to its own stretch of the column.
 use step_records::Steps;
 ghost use mathlib.Core.Path.{_≡_};
+ghost use mathlib.Core.Bool.{true};
 ghost use Prim.Native.Nat.{_+_, _*_, _≤_};
 ghost use lib.ListN.{length};
-ghost use Rattle.liberation.specs.Plans.{planOf};
-ghost use Rattle.liberation_stripes.specs.Stripes.{rebuilt};
+ghost use Rattle.liberation.specs.Judging.{accepted};
+ghost use Rattle.liberation_stripes.specs.Stripes.{rebuiltBy};
 ghost use Rattle.liberation_stripes.specs.Limits.{Sized};
-ghost use Rattle.step_records.specs.Records.{Holds};
+ghost use Rattle.step_records.specs.Records.{held};
 
-// The steps of our plan, in order.
+// The steps of an accepted plan, in order.
 pub fn follow(
     width: usize,
     disks: usize,
@@ -19,8 +20,8 @@ pub fn follow(
     column: &mut [u8],
 )
     requires { ⌜ Sized width disks size (now stripe) ⌝ }
-    requires { ⌜ (disk ≤ disks + 1) × (length (now column) ≡ width * size) × Holds (planOf width disks disk) steps ⌝ }
-    ensures { λ _. ⌜ now (column .exit) ≡ rebuilt width disks size disk (now (stripe .entry)) ⌝ }
+    requires { ⌜ (disk ≤ disks + 1) × (length (now column) ≡ width * size) × (accepted width disks disk (held width steps) ≡ true) ⌝ }
+    ensures { λ _. ⌜ now (column .exit) ≡ rebuiltBy width disks size disk (held width steps) (now (stripe .entry)) ⌝ }
 {
     let rows = steps.rows;
     let kinds = steps.kinds;

@@ -1,5 +1,5 @@
 -- Routes in an array of 31 places, the first p of which count, and their word: what the functions leave there is what the definitions say.
-use mathlib.Core.Path.{_≡_, sym, ap, ap₂, _∙_}
+use mathlib.Core.Path.{_≡_, sym, ap, ap₂, subst, _∙_}
 use mathlib.Core.Bool.{Bool, true, false, _||_}
 use mathlib.Core.List.{List}
 use Prim.Native.Nat.{ℕ, suc, _+_, _-_, _*_, _/_, _^_, _≤_, _<_}
@@ -37,9 +37,9 @@ first-are p f w h l e q =
     record { long = zero-are p f h l .long; routes = zero-are p f h l .routes ∙ only; word = q ∙ zero-are p f h l .word ∙ ap (wordFrom 0) only }
 
 -- and for f > 0 a second row
-pub second-are : (p f v w : ℕ) → p ≤ 31 → f < p → (f ≡ 0 → ⊥) → v ≡ bitOr 0 (2 ^ f) → w ≡ bitOr v (2 ^ secondRow p f) → RoutesAre p (firstRoutes p f) (set (set (replicate 31 0) f 2) (secondRow p f) 2) (w)
+second-row : (p f v w : ℕ) → p ≤ 31 → f < p → (f ≡ 0 → ⊥) → v ≡ bitOr 0 (2 ^ f) → w ≡ bitOr v (2 ^ secondRow p f) → RoutesAre p (firstRoutes p f) (set (set (replicate 31 0) f 2) (secondRow p f) 2) (w)
 unfolding firstRoutes
-second-are p f v w h l n q e =
+second-row p f v w h l n q e =
     let both : set (zeroRoutes p f) (secondRow p f) 2 ≡ firstRoutes p f = ap (λ (b : Bool). pick b (set (zeroRoutes p f) (secondRow p f) 2) (zeroRoutes p f)) (sym (le-leb 1 f (omega arith))) in
     let m : secondRow p f < p = mod-lt (f * ((p + 1) / 2)) (omega arith) in
     let long : length (zeroRoutes p f) ≡ p = length-set (replicate p 0) f 2 ∙ length-replicate {A = ℕ} p 0 in
@@ -48,6 +48,9 @@ second-are p f v w h l n q e =
       routes = take-set-lt p (set (replicate 31 0) f 2) (secondRow p f) 2 m ∙ ap (λ (r : List ℕ). set r (secondRow p f) 2) (zero-are p f h l .routes) ∙ both;
       word = e ∙ ap (λ (x : ℕ). bitOr x (2 ^ secondRow p f)) (q ∙ zero-are p f h l .word) ∙ set-word (zeroRoutes p f) (secondRow p f) (omega arith) ∙ ap (wordFrom 0) both;
     }
+
+pub second-are : (p f r v w : ℕ) → p ≤ 31 → f < p → (f ≡ 0 → ⊥) → r ≡ secondRow p f → v ≡ bitOr 0 (2 ^ f) → w ≡ bitOr v (2 ^ r) → RoutesAre p (firstRoutes p f) (set (set (replicate 31 0) f 2) r 2) w
+second-are p f r v w h l n g q e = subst (λ (i : ℕ). w ≡ bitOr v (2 ^ i) → RoutesAre p (firstRoutes p f) (set (set (replicate 31 0) f 2) i 2) w) (sym g) (second-row p f v w h l n q) e
 
 -- a row whose partner is itself or has a diagonal
 row-are : (p f j w : ℕ) (R : List ℕ) → p ≤ 31 → length R ≡ 31 → j < p → w ≡ wordFrom 0 (take p R) → getD R j 0 ≡ 0 → (eqb (partner p f j) j || eqb (getD (take p R) (partner p f j) 0) 2) ≡ true → RoutesAre p (decided p f j (take p R)) (set R j 1) (w)
@@ -68,9 +71,9 @@ taken-are p f j w R h k l q z e =
     (or-r (eqb (partner p f j) j) (eqb (getD (take p R) (partner p f j) 0) 2) (eq-eqb (getD (take p R) (partner p f j) 0) 2 (getD-take p R (partner p f j) 0 (partner-lt p f j l) ∙ e)))
 
 -- a row that takes a diagonal, and its partner the row set
-pub diagonal-are : (p f j v w : ℕ) (R : List ℕ) → p ≤ 31 → length R ≡ 31 → j < p → v ≡ wordFrom 0 (take p R) → w ≡ bitOr v (2 ^ j) → (partner p f j ≡ j → ⊥) → (getD R (partner p f j) 0 ≡ 2 → ⊥) → RoutesAre p (decided p f j (take p R)) (set (set R j 2) (partner p f j) 1) (w)
+with-partner : (p f j v w : ℕ) (R : List ℕ) → p ≤ 31 → length R ≡ 31 → j < p → v ≡ wordFrom 0 (take p R) → w ≡ bitOr v (2 ^ j) → (partner p f j ≡ j → ⊥) → (getD R (partner p f j) 0 ≡ 2 → ⊥) → RoutesAre p (decided p f j (take p R)) (set (set R j 2) (partner p f j) 1) (w)
 unfolding decided
-diagonal-are p f j v w R h k l q e n m =
+with-partner p f j v w R h k l q e n m =
     let rs : List ℕ = take p R in
     let i : ℕ = partner p f j in
     let ll : i < p = partner-lt p f j l in
@@ -87,6 +90,10 @@ diagonal-are p f j v w R h k l q e n m =
           ∙ sym (word-same (set rs j 2) i 1 (λ x. m (sym at ∙ sym other ∙ x)) (λ x. omega arith))
           ∙ ap (wordFrom 0) here;
     }
+
+pub diagonal-are : (p f j i v w : ℕ) (R : List ℕ) → i ≡ partner p f j → p ≤ 31 → length R ≡ 31 → j < p → v ≡ wordFrom 0 (take p R) → w ≡ bitOr v (2 ^ j) → (i ≡ j → ⊥) → (getD R i 0 ≡ 2 → ⊥) → RoutesAre p (decided p f j (take p R)) (set (set R j 2) i 1) w
+diagonal-are p f j i v w R g h k l q e =
+    subst (λ (x : ℕ). (x ≡ j → ⊥) → (getD R x 0 ≡ 2 → ⊥) → RoutesAre p (decided p f j (take p R)) (set (set R j 2) x 1) w) (sym g) (with-partner p f j v w R h k l q e)
 
 -- a turn at an undecided row, and at a decided one
 pub turn-decides : (p f j : ℕ) (R N : List ℕ) (w : ℕ) → j < p → getD R j 0 ≡ 0 → RoutesAre p (decided p f j (take p R)) N w → RoutesAre p (turned p f j (take p R)) N w

@@ -1,6 +1,6 @@
 // The route of each row of a lost data disk, a row set or a diagonal, with the rows that take a diagonal as a word. Routes depend on the width and the disk alone, not on the number of data disks.
 ghost use mathlib.Core.Path.{_≡_};
-ghost use Prim.Native.Nat.{_^_, _≤_, _<_};
+ghost use Prim.Native.Nat.{_%_, _^_, _≤_, _<_};
 ghost use lib.ListN.{length, getD, take};
 ghost use lib.Bits.{bitOr};
 ghost use Rattle.liberation.specs.Plans.{firstRoutes, decided, turned, routes, wordFrom};
@@ -13,7 +13,7 @@ pub struct Routes {
 }
 
 // The word with a row's bit set.
-fn with_bit(word: u32, row: usize) -> u32
+pub fn with_bit(word: u32, row: usize) -> u32
     requires { ⌜ row < 32 ⌝ }
     ensures { λ r. ⌜ r ≡ bitOr word (2 ^ row) ⌝ }
 {
@@ -22,7 +22,7 @@ fn with_bit(word: u32, row: usize) -> u32
 
 // The rows that take a diagonal before any row is decided.
 fn first_routes(width: usize, disk: usize) -> Routes
-    requires { ⌜ (width ≤ 31) × (disk < width) ⌝ }
+    requires { ⌜ (width ≤ 31) × (width % 2 ≡ 1) × (disk < width) ⌝ }
     ensures { λ r. ⌜ RoutesAre width (firstRoutes width disk) (r .routes) (r .word) ⌝ }
 {
     let mut routes = [0u8; 31];
@@ -34,7 +34,7 @@ fn first_routes(width: usize, disk: usize) -> Routes
             word: word,
         };
     }
-    let second = disk * ((width + 1) / 2) % width;
+    let second = sets::half_of(width, disk);
     routes[second] = 2;
     Routes {
         routes: routes,
@@ -47,7 +47,7 @@ fn decide(width: usize, disk: usize, row: usize, routes: &mut [u8; 31], word: u3
     requires { ⌜ (width ≤ 31) × (disk < width) × (row < width) × (length (now routes) ≡ 31) × (word ≡ wordFrom 0 (take width (now routes))) × (getD (now routes) row 0 ≡ 0) ⌝ }
     ensures { λ r. ⌜ RoutesAre width (decided width disk row (take width (now (routes .entry)))) (now (routes .exit)) r ⌝ }
 {
-    let partner = width - 1 - (row + width - disk) % width;
+    let partner = width - 1 - sets::diagonal_of(width, disk, row);
     if partner == row {
         routes[row] = 1;
         return word;
@@ -74,10 +74,10 @@ fn turn(width: usize, disk: usize, row: usize, routes: &mut [u8; 31], word: u32)
 
 // Rows upward, until at least half of the other rows have a diagonal.
 pub fn all_routes(width: usize, disk: usize) -> Routes
-    requires { ⌜ (width ≤ 31) × (disk < width) ⌝ }
+    requires { ⌜ (width ≤ 31) × (width % 2 ≡ 1) × (disk < width) ⌝ }
     ensures { λ r. ⌜ RoutesAre width (routes width disk) (r .routes) (r .word) ⌝ }
 {
-    let half = (width - 1) / 2;
+    let half = (width - 1) >> 1;
     let first = first_routes(width, disk);
     let mut routes = first.routes;
     let mut word = first.word;

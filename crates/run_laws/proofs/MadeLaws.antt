@@ -126,6 +126,7 @@ calls-on x es l m =
     let e = made-run x es m in
     let d : ahead es x .next - ahead es x .skipped ≡ x .next - x .skipped + stepped es = omega arith in
     record {
+      next = ap (λ (y : Run). y .next) e;
       skips = ap (λ (y : Run). y .skipped) e;
       steps = ap (λ (y : Run). y .next - y .skipped) e ∙ d;
       few = made-few x es m;
@@ -190,6 +191,7 @@ module _ (p k s f n : ℕ) (r : RunAnswer) (es : List Event) (o : OpenSays p k s
       let left : (n : ℕ) → 0 + n ≡ n = λ n. omega arith in
       let rebuilt : 0 - 0 + stepped es ≡ stepped es = omega arith in
       record {
+        next = ap (λ (y : Run). y .next) last ∙ d .next ∙ left (stepped es + skipped es);
         skips = ap (λ (y : Run). y .skipped) last ∙ d .skips ∙ left (skipped es);
         steps = ap (λ (y : Run). y .next - y .skipped) last ∙ d .steps ∙ rebuilt;
         few = omega (arith, d .few (omega arith));

@@ -113,6 +113,7 @@ rebuiltEach p k s f (c ∷ cs) = rebuilt p k s f (c .stripe) ∷ rebuiltEach p k
 
 -- Events on a record that was opened over n stripes: skipped is the number of accepted skips, and next less skipped that of accepted steps; together they are no more than n, and the run is over exactly when they are n, not before; cells read are the accepted steps times the read count; accepted events took the stripes in order, and each column is the rebuilt disk of the stripe given with it.
 pub record RunMade (p k s f n : ℕ) (x : Run) (es : List Event) : Type 0 where
+  pub next : lastRun x es .next ≡ stepped es + skipped es
   pub skips : lastRun x es .skipped ≡ skipped es
   pub steps : lastRun x es .next - lastRun x es .skipped ≡ stepped es
   pub few : stepped es + skipped es ≤ n
@@ -126,6 +127,7 @@ Calls-right = (p k s f n : ℕ) (r : RunAnswer) (es : List Event) → OpenSays p
 
 -- The same from a record x on: accepted skips and steps are added to what it had.
 pub record RunOn (x : Run) (es : List Event) : Type 0 where
+  pub next : lastRun x es .next ≡ x .next + (stepped es + skipped es)
   pub skips : lastRun x es .skipped ≡ x .skipped + skipped es
   pub steps : lastRun x es .next - lastRun x es .skipped ≡ x .next - x .skipped + stepped es
   pub few : x .next ≤ x .stripes → x .next + (stepped es + skipped es) ≤ x .stripes

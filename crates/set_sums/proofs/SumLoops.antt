@@ -1,7 +1,7 @@
 -- The loop over rows: the rows still to come, summed in the stripe as it is, give what all rows give in the stripe as it was.
 use mathlib.Core.Path.{_≡_, refl, ap, ap₂, _∙_}
 use mathlib.Core.List.{List}
-use Prim.Native.Nat.{ℕ, zero, suc, _-_, _≤_, _<_}
+use Prim.Native.Nat.{ℕ, zero, suc, _+_, _-_, _%_, _≤_, _<_}
 use native.Mathlib.Omega.{arith}
 use lib.ListN.{length}
 use Rattle.liberation.specs.Sets.{place}
@@ -10,6 +10,7 @@ use Rattle.liberation_stripes.specs.Steps.{cellStep}
 use Rattle.liberation_pairs.specs.Pairs.{nextRow}
 use Rattle.liberation_sums.specs.Sums.{summed, summedAll, startSteps}
 use Rattle.liberation_stripes.proofs.SizedLaws.{sized-kept}
+use Rattle.sets.proofs.NumberLaws.{next-is}
 use Rattle.set_sums.specs.Disks.{Lost}
 
 -- a stripe and a list that are as long
@@ -19,16 +20,17 @@ still-lost t at q e f = record { sized = sized-kept _ _ _ _ t (q .sized) e; one 
 module _ (p k s x y : ℕ) where
   -- the row set and the diagonal set of row r were summed, which made v of t
   pub sums-turn :
-      (n r : ℕ) (t u v : List ℕ) → 0 < n
+      (n r i j : ℕ) (t u v : List ℕ) → i ≡ diagonalOf p x r → j ≡ (i + y) % p → 0 < n
       → u ≡ summed p k s x y (cellStep (place p r x) 0 r) t
-      → v ≡ summed p k s x y (cellStep (place p (nextRow p x y r) y) 1 (diagonalOf p x r)) u
-      → summedAll p k s x y (startSteps (n - 1) p x y (nextRow p x y r)) v ≡ summedAll p k s x y (startSteps n p x y r) t
+      → v ≡ summed p k s x y (cellStep (place p j y) 1 i) u
+      → summedAll p k s x y (startSteps (n - 1) p x y j) v ≡ summedAll p k s x y (startSteps n p x y r) t
   unfolding startSteps summedAll
-  sums-turn zero r t u v h e q = absurd (omega arith)
-  sums-turn (suc n) r t u v h e q =
+  sums-turn zero r i j t u v ei ej h e q = absurd (omega arith)
+  sums-turn (suc n) r i j t u v ei ej h e q =
       let m : suc n - 1 ≡ n = omega arith in
-      ap₂ (λ (i : ℕ) (l : List ℕ). summedAll p k s x y (startSteps i p x y (nextRow p x y r)) l) m
-      (q ∙ ap (summed p k s x y (cellStep (place p (nextRow p x y r) y) 1 (diagonalOf p x r))) e)
+      let f : j ≡ nextRow p x y r = next-is p x y r i j ei ej in
+      ap₂ (λ (c : ℕ) (l : List ℕ). summedAll p k s x y (startSteps c p x y j) l) m (q ∙ ap (summed p k s x y (cellStep (place p j y) 1 i)) e)
+      ∙ ap₂ (λ (b d : ℕ). summedAll p k s x y (startSteps n p x y b) (summed p k s x y (cellStep (place p b y) 1 d) (summed p k s x y (cellStep (place p r x) 0 r) t))) f ei
 
   pub sums-last : (n r : ℕ) (t : List ℕ) → n ≤ 0 → summedAll p k s x y (startSteps n p x y r) t ≡ t
   unfolding startSteps summedAll

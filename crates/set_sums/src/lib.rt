@@ -49,8 +49,8 @@ pub fn sum_sets(
     let mut on = row;
     while 0 < left {
         sum_set(width, disks, size, x, y, 0, on, x, on, stripe, at);
-        let number = (on + width - x) % width;
-        let next = (number + y) % width;
+        let number = sets::diagonal_of(width, x, on);
+        let next = sets::row_on(width, number, y);
         sum_set(width, disks, size, x, y, 1, number, y, next, stripe, at);
         on = next;
         left -= 1;

@@ -1,2 +1,3 @@
 -- Steps put into a record one by one.
 pub mod StepRecord
+pub mod HeldLaws

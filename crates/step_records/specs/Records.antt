@@ -4,7 +4,7 @@ use mathlib.Core.List.{List}
 use Prim.Native.Nat.{ℕ}
 use lib.ListN.{length}
 use Rattle.liberation.specs.Plans.{Step}
-use Rattle.liberation.specs.Records.{rowsOf, kindsOf, numbersOf, padded}
+use Rattle.liberation.specs.Records.{rowsOf, kindsOf, numbersOf, padded, recorded}
 use Rattle.step_records.specs.declared.Steps.{Steps}
 
 -- the steps ss, held in three arrays
@@ -19,3 +19,7 @@ pub record Counts (ss : List Step) (rs ks ns : List ℕ) (n : ℕ) : Type 0 wher
   pub kinds : ks ≡ padded (kindsOf ss)
   pub numbers : ns ≡ padded (numbersOf ss)
   pub count : n ≡ length ss
+
+-- the p steps of a record, whatever they are
+abbrev pub held : ℕ → Steps → List Step
+held p s = recorded p 0 (s .rows) (s .kinds) (s .numbers)

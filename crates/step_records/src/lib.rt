@@ -56,10 +56,11 @@ fn diagonal_steps(width: usize, disk: usize, routes: [u8; 31], first: Counted) -
     let mut count = first.count;
     let mut row = 0;
     while row < width {
+        let number = sets::diagonal_of(width, disk, row);
         if routes[row] == 2 {
             rows[count] = row as u8;
             kinds[count] = 1;
-            numbers[count] = ((row + width - disk) % width) as u8;
+            numbers[count] = number as u8;
             count += 1;
         }
         row += 1;

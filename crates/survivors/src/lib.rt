@@ -52,7 +52,7 @@ pub fn equations_passed(
 {
     let mut passed = 0;
     while passed < width {
-        let number = offsets::row_on(width, from, passed);
+        let number = sets::row_on(width, from, passed);
         if !equation_holds(width, disks, size, disk, number, stripe, at) {
             return passed;
         }

@@ -32,7 +32,7 @@ fn start(width: usize, disks: usize, disk: usize, dirty: usize) -> usize
     if disks <= disk {
         return dirty;
     }
-    (dirty + width - disk) % width
+    sets::diagonal_of(width, disk, dirty)
 }
 
 // The number of the diagonal whose extra cell is on a data disk. Where every cell of one disk has changed by the same bytes, the two sets of most equations cancel, but the three of this one do not. No answer depends on it either.
@@ -40,11 +40,14 @@ fn extra_diagonal(width: usize, disk: usize) -> usize
     requires { ⌜ (0 < width) × (width ≤ 31) × (disk ≤ width + 1) ⌝ }
     ensures { λ r. ⌜ r < width ⌝ }
 {
-    let twice = 2 * width - disk;
-    if twice % 2 == 0 {
-        return twice / 2 % width;
+    let half = disk >> 1;
+    if half + half == disk {
+        return sets::diagonal_of(width, half, 0);
     }
-    (twice + width) / 2 % width
+    if width <= disk {
+        return 0;
+    }
+    (width - disk) >> 1
 }
 
 // The number of the equation of a disk that is tested first: that of the extra cell, or the one that has a set that is not clean.

@@ -33,7 +33,7 @@ fn stretches_are_zero(t: &[u8], n: usize, at: &[usize]) -> bool
 fn stretched(n: usize) -> usize
     ensures { λ r. ⌜ (r ≤ n) × (r % 2048 ≡ 0) ⌝ }
 {
-    n - n % 2048
+    n - (n & 2047)
 }
 
 // Is the XOR of the parts of n bytes zero? The stretches, then what is left block by block.

@@ -60,7 +60,7 @@ mark-set-requires c κs =
     let a = c .before .before .before .before .before .before .before .before .before .before .before .before .before .args in
     let q = c .before .before .before .before .before .before .before .before .before .before .before .before .before .pre in
     let l = c .before .before .before .before .before .before .before .before .before .before .loop in
-    ((q .0 .0, form (c .before) .number), ap length (l .inv .marks) ∙ length-marks (a .width * (a .disks + 2)) 0 (l .inv .cells))
+    ((q .0 .0, q .0 .1, form (c .before) .number), ap length (l .inv .marks) ∙ length-marks (a .width * (a .disks + 2)) 0 (l .inv .cells))
 
 -- the loop's state after one more step
 turned : (c : tie.After-slice-known2 Inv-loop μ-loop) → let a = c .before .before .before .before .before .before .before .before .before .before .before .before .before .before .before .before .args in let l = c .before .before .before .before .before .before .before .before .before .before .before .before .before .loop in Halfway (a .width) (a .disks) (a .lost) (a .plan .now) (set (l .done) (c .before .before .before .before .before .before .before .before .before .before .wide .result) 1) (c .before .before .mark-set .last .1 .1 .1 .1 .1 .0) (l .reads + c .before .before .mark-set .result) (l .i + 1)

@@ -1,10 +1,10 @@
 -- `comes_to_one`: each turn tries one multiple. The invariant: 1 is among those still to come exactly if it is among all.
 use mathlib.Core.Path.{_≡_, refl, sym, _∙_}
-use Prim.Native.Nat.{_+_, _-_, _/_, _<_}
+use Prim.Native.Nat.{_-_, _/_, _<_}
 use native.Mathlib.Omega.{arith}
-use native.Mathlib.Nat.{mod-lt}
 use borrow.Author.Needs.{needs}
 use Rattle.liberation_pairs.specs.Pairs.{comesToOne}
+use Rattle.sets.proofs.NumberLaws.{next-below}
 use Rattle.pair_data.proofs.RoleLaws.{one-found, one-turn, one-none}
 use Rattle.pair_data.proofs.comes_to_one.Statement.{statement}
 use Rattle.pair_data.proofs.comes_to_one.Tie as tie
@@ -24,11 +24,16 @@ returns c =
     let a = c .before .before .before .args in
     sym (one-found (l .left) (a .width) (a .gap) (l .at) (c .before .loop-test .taken) (c .if1 .taken)) ∙ l .inv .1
 
+row-on-requires : tie.Need-row-on-requires Inv-loop μ-loop
+row-on-requires c κs = (c .before .before .before .pre .0, c .before .before .loop .inv .0, omega arith)
+
 loop-again : tie.Need-loop-again Inv-loop μ-loop
 loop-again c =
-    let l = c .before .before .loop in
-    let a = c .before .before .before .args in
-    (mod-lt (l .at + a .gap) (omega arith), one-turn (l .left) (a .width) (a .gap) (l .at) (c .before .loop-test .taken) (c .if1 .left) ∙ l .inv .1)
+    let i = c .before .before in
+    let l = i .before .loop in
+    let a = i .before .before .args in
+    let e = c .row-on .ensures (omega arith) in
+    (next-below (a .width) (l .at) (a .gap) (c .row-on .result) (omega arith) e, one-turn (l .left) (a .width) (a .gap) (l .at) (c .row-on .result) e (i .loop-test .taken) (c .before .if1 .left) ∙ l .inv .1)
 
 returns-2 : tie.Need-returns-2 Inv-loop μ-loop
 returns-2 c =
@@ -45,8 +50,7 @@ comes-to-one-spec =
     (λ c. search needs)
     loop-holds
     returns
-    (λ c. search needs)
-    (λ c. search needs)
+    row-on-requires
     (λ c. search needs)
     (λ c. search needs)
     loop-again

@@ -1,12 +1,10 @@
 -- `add_sets`: each turn does the two steps of a row. The invariant: the rows still to come, done to the stripe as it is, give what all rows give to the stripe as it was.
 use mathlib.Core.Path.{_≡_, refl, sym, _∙_}
-use Prim.Native.Nat.{_+_, _-_, _<_}
-use native.Mathlib.Nat.{mod-lt}
+use Prim.Native.Nat.{_+_, _%_, _<_}
 use native.Mathlib.Omega.{arith}
 use lib.ListN.{length}
 use borrow.Author.Needs.{needs}
-use Rattle.liberation.specs.Plans.{diagonalOf}
-use Rattle.liberation_pairs.specs.Pairs.{nextRow}
+use Rattle.sets.proofs.NumberLaws.{numbered, next-below}
 use Rattle.liberation_pairs.specs.PairSteps.{walkSteps}
 use Rattle.liberation_sums.specs.Sums.{addedAll}
 use Rattle.set_sums.proofs.SumLoops.{still-lost}
@@ -23,44 +21,62 @@ abbrev μ-loop : tie.MeasureT-loop
 loop-holds : tie.Need-loop-holds Inv-loop μ-loop
 loop-holds c = (c .before .before .pre .1, refl, refl, refl)
 
--- the diagonal's number, and the next row
-numbered : (i : tie.In-loop Inv-loop μ-loop) → let a = i .before .before .before .before .args in diagonalOf (a .width) (a .x) (i .before .loop .on) < a .width
-numbered i = let a = i .before .before .before .before .args in mod-lt (i .before .loop .on + a .width - a .x) (omega arith)
+diagonal-of-requires : tie.Need-diagonal-of-requires Inv-loop μ-loop
+diagonal-of-requires i κs =
+    let q = i .before .before .before .before .pre .0 in
+    (q .sized .array .widest, i .before .loop .inv .0, omega (arith, q .one, q .sized .array .disks))
 
-next : (i : tie.In-loop Inv-loop μ-loop) → let a = i .before .before .before .before .args in nextRow (a .width) (a .x) (a .y) (i .before .loop .on) < a .width
-next i =
+-- the diagonal's number, and the next row
+below : (d : tie.After-diagonal-of Inv-loop μ-loop) → d .diagonal-of .result < d .before .before .before .before .before .args .width
+below d =
+    let i = d .before in
     let a = i .before .before .before .before .args in
-    mod-lt (diagonalOf (a .width) (a .x) (i .before .loop .on) + a .y) (omega arith)
+    numbered (a .width) (a .x) (i .before .loop .on) (d .diagonal-of .result) (omega arith) (d .diagonal-of .ensures)
+
+row-on-requires : tie.Need-row-on-requires Inv-loop μ-loop
+row-on-requires d κs =
+    let q = d .before .before .before .before .before .pre .0 in
+    (q .sized .array .widest, below d, omega (arith, q .other, q .sized .array .disks))
+
+turned : (r : tie.After-row-on Inv-loop μ-loop) → let a = r .before .before .before .before .before .before .args in r .row-on .result ≡ (r .before .diagonal-of .result + a .y) % a .width
+turned r =
+    let q = r .before .before .before .before .before .before .pre .0 in
+    r .row-on .ensures (omega (arith, q .other, q .sized .array .disks))
+
+next : (r : tie.After-row-on Inv-loop μ-loop) → r .row-on .result < r .before .before .before .before .before .before .args .width
+next r =
+    let a = r .before .before .before .before .before .before .args in
+    next-below (a .width) (r .before .diagonal-of .result) (a .y) (r .row-on .result) (omega arith) (turned r)
 
 add-set-requires : tie.Need-add-set-requires Inv-loop μ-loop
 add-set-requires c κs =
-    let i = c .before .before in
+    let r = c .before .before in
+    let i = r .before .before in
     let l = i .before .loop in
     let o = i .before .before .before .before in
-    (still-lost (l .stripe) (l .at) (o .pre .0) (l .inv .1) (l .inv .2), numbered i, next i, o .pre .0 .other)
+    (still-lost (l .stripe) (l .at) (o .pre .0) (l .inv .1) (l .inv .2), below (r .before), next r, o .pre .0 .other)
 
 add-set-requires-2 : tie.Need-add-set-requires-2 Inv-loop μ-loop
 add-set-requires-2 c κs =
     let v = c .before .before .before .before .before .before in
-    let i = v .before .before .before in
+    let r = v .before .before .before in
+    let i = r .before .before in
     let l = i .before .loop in
     let o = i .before .before .before .before in
-    (still-lost (v .add-set .last .1 .1 .1 .1 .1 .1 .1 .1 .1 .0) (v .add-set .last .1 .1 .1 .1 .1 .1 .1 .1 .1 .1 .0) (o .pre .0) (v .add-set .kept .1 .1 .1 .1 .1 .1 .1 .1 .1 .0 ∙ l .inv .1) (v .add-set .kept .1 .1 .1 .1 .1 .1 .1 .1 .1 .1 .0 ∙ l .inv .2), next i, next i, o .pre .0 .one)
-
-add-on : tie.Need-add-on Inv-loop μ-loop
-add-on i = omega (arith, numbered i, i .before .before .before .before .pre .0 .sized .array .widest)
+    (still-lost (v .add-set .last .1 .1 .1 .1 .1 .1 .1 .1 .1 .0) (v .add-set .last .1 .1 .1 .1 .1 .1 .1 .1 .1 .1 .0) (o .pre .0) (v .add-set .kept .1 .1 .1 .1 .1 .1 .1 .1 .1 .0 ∙ l .inv .1) (v .add-set .kept .1 .1 .1 .1 .1 .1 .1 .1 .1 .1 .0 ∙ l .inv .2), next r, next r, o .pre .0 .one)
 
 loop-again : tie.Need-loop-again Inv-loop μ-loop
 loop-again c =
     let w = c .before .before .before .before in
     let v = w .before .before .before .before .before .before .before in
-    let i = v .before .before .before in
+    let r = v .before .before .before in
+    let i = r .before .before in
     let l = i .before .loop in
     let a = i .before .before .before .before .args in (
-      next i,
+      next r,
       w .add-set2 .kept .1 .1 .1 .1 .1 .1 .1 .1 .1 .0 ∙ v .add-set .kept .1 .1 .1 .1 .1 .1 .1 .1 .1 .0 ∙ l .inv .1,
       w .add-set2 .kept .1 .1 .1 .1 .1 .1 .1 .1 .1 .1 .0 ∙ v .add-set .kept .1 .1 .1 .1 .1 .1 .1 .1 .1 .1 .0 ∙ l .inv .2,
-      adds-turn (a .width) (a .disks) (a .size) (a .x) (a .y) (l .left) (l .on) (l .stripe) (v .add-set .last .1 .1 .1 .1 .1 .1 .1 .1 .1 .0) (w .add-set2 .last .1 .1 .1 .1 .1 .1 .1 .1 .1 .0) (omega arith) (v .add-set .ensures) (w .add-set2 .ensures) ∙ l .inv .3,
+      adds-turn (a .width) (a .disks) (a .size) (a .x) (a .y) (l .left) (l .on) (r .before .diagonal-of .result) (r .row-on .result) (l .stripe) (v .add-set .last .1 .1 .1 .1 .1 .1 .1 .1 .1 .0) (w .add-set2 .last .1 .1 .1 .1 .1 .1 .1 .1 .1 .0) (r .before .diagonal-of .ensures) (turned r) (omega arith) (v .add-set .ensures) (w .add-set2 .ensures) ∙ l .inv .3,
     )
 
 same-length : tie.Need-same-length Inv-loop μ-loop
@@ -82,11 +98,8 @@ add-sets-spec =
     Inv-loop
     μ-loop
     loop-holds
-    (λ c. search needs)
-    (λ c. search needs)
-    (λ c. search needs)
-    add-on
-    (λ c. search needs)
+    diagonal-of-requires
+    row-on-requires
     add-set-requires
     add-set-requires-2
     (λ c. search needs)

@@ -1,14 +1,13 @@
 -- `up_diagonals`: each turn does the next step. The invariant: the steps still to come, done to the stripe as it is, give what all steps give to the stripe as it was.
-use mathlib.Core.Path.{_≡_, refl, sym, _∙_}
-use Prim.Native.Nat.{_+_, _-_, _≤_}
-use native.Mathlib.Nat.{mod-lt}
+use mathlib.Core.Path.{_≡_, refl, sym, ap, _∙_}
+use Prim.Native.Nat.{ℕ, _+_, _-_, _%_, _≤_}
 use native.Mathlib.Omega.{arith}
 use lib.ListN.{length}
 use borrow.Author.Needs.{needs}
-use Rattle.liberation.specs.Plans.{diagonalOf}
 use Rattle.liberation.proofs.RowSteps.{ordinary-row}
 use Rattle.liberation_stripes.specs.Stripes.{followed}
 use Rattle.liberation_pairs.specs.Pairs.{upDiagonals}
+use Rattle.sets.proofs.NumberLaws.{numbered}
 use Rattle.stripes.proofs.OrdinaryLaws.{diagonal-own}
 use Rattle.liberation_stripes.proofs.SizedLaws.{sized-kept}
 use Rattle.pair_parity.proofs.UpLaws.{upRest, up-first, up-turn, up-last}
@@ -25,20 +24,28 @@ abbrev μ-loop : tie.MeasureT-loop
 loop-holds : tie.Need-loop-holds Inv-loop μ-loop
 loop-holds c = let a = c .before .args in (omega arith, refl, up-first (a .width) (a .disks) (a .size) (a .disk) (a .stripe .now))
 
+diagonal-of-requires : tie.Need-diagonal-of-requires Inv-loop μ-loop
+diagonal-of-requires c κs =
+    let q = c .before .before .before .pre in
+    (q .0 .array .widest, omega arith, omega (arith, q .1, q .0 .array .disks))
+
 solve-requires : tie.Need-solve-requires Inv-loop μ-loop
 solve-requires c κs =
-    let z = c .before .before .before .before in
+    let d = c .before in
+    let z = d .before .before .before .before in
     let a = z .args in
-    let l = c .before .before .loop in
-    let b = mod-lt (l .i + a .width - a .disk) {m = a .width} (omega arith) in
-    (sized-kept (a .width) (a .disks) (a .size) (a .stripe .now) (l .stripe) (z .pre .0) (l .inv .1), diagonal-own (a .width) (a .disks) (diagonalOf (a .width) (a .disk) (l .i)) (a .disk) (l .i) b (omega arith) (omega arith) (sym (ordinary-row (a .width) (a .disk) (l .i) (omega arith) (omega arith))))
+    let l = d .before .before .loop in
+    let n = d .diagonal-of .result in
+    let b = numbered (a .width) (a .disk) (l .i) n (omega arith) (d .diagonal-of .ensures) in
+    (sized-kept (a .width) (a .disks) (a .size) (a .stripe .now) (l .stripe) (z .pre .0) (l .inv .1), diagonal-own (a .width) (a .disks) n (a .disk) (l .i) b (omega arith) (omega arith) (sym (ordinary-row (a .width) (a .disk) (l .i) (omega arith) (omega arith)) ∙ ap (λ (i : ℕ). (i + a .disk) % a .width) (sym (d .diagonal-of .ensures))))
 
 loop-again : tie.Need-loop-again Inv-loop μ-loop
 loop-again c =
     let v = c .before .before .solve in
-    let l = c .before .before .before .before .before .loop in
-    let a = c .before .before .before .before .before .before .before .args in
-    (omega arith, omega (arith, l .inv .1), up-turn (a .width) (a .disks) (a .size) (a .disk) (l .i) (l .stripe) (v .last .1 .1 .1 .1 .1 .1 .1 .0) (omega arith) (v .ensures) ∙ l .inv .2)
+    let d = c .before .before .before .before in
+    let l = d .before .before .loop in
+    let a = d .before .before .before .before .args in
+    (omega arith, omega (arith, l .inv .1), up-turn (a .width) (a .disks) (a .size) (a .disk) (l .i) (d .diagonal-of .result) (l .stripe) (v .last .1 .1 .1 .1 .1 .1 .1 .0) (d .diagonal-of .ensures) (omega arith) (v .ensures) ∙ l .inv .2)
 
 same-length : tie.Need-same-length Inv-loop μ-loop
 same-length c = c .before .loop .inv .1
@@ -56,9 +63,7 @@ up-diagonals-spec =
     Inv-loop
     μ-loop
     loop-holds
-    (λ c. search needs)
-    (λ c. search needs)
-    (λ c. search needs)
+    diagonal-of-requires
     solve-requires
     (λ c. search needs)
     (λ c. search needs)

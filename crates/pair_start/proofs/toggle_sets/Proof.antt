@@ -1,11 +1,10 @@
 -- `toggle_sets`: each turn toggles for the two sets of a row. The invariant: the rows still to come, toggled in the marks as they are, give what all rows give in the marks as they were.
 use mathlib.Core.Path.{_≡_, refl, sym, _∙_}
-use Prim.Native.Nat.{_+_, _-_, _<_}
-use native.Mathlib.Nat.{mod-lt}
+use Prim.Native.Nat.{_<_}
 use native.Mathlib.Omega.{arith}
 use lib.ListN.{length}
 use borrow.Author.Needs.{needs}
-use Rattle.liberation.specs.Plans.{diagonalOf}
+use Rattle.sets.proofs.NumberLaws.{numbered}
 use Rattle.pair_start.proofs.ToggleLaws.{rowsRest, rows-turn, rows-last}
 use Rattle.pair_start.proofs.toggle_sets.Statement.{statement}
 use Rattle.pair_start.proofs.toggle_sets.Tie as tie
@@ -25,29 +24,40 @@ toggle-set-requires c κs =
     let o = c .before .before .before .before .before .before in
     (o .pre .0, l .inv .0, o .pre .2, l .inv .1 ∙ o .pre .3, l .inv .2 ∙ o .pre .4)
 
+diagonal-of-requires : tie.Need-diagonal-of-requires Inv-loop μ-loop
+diagonal-of-requires c κs =
+    let i = c .before .before .before .before .before .before .before in
+    let q = i .before .before .before .before .pre in
+    (q .0 .widest, i .before .loop .inv .0, omega (arith, q .2, q .0 .disks))
+
 -- the diagonal's number
-numbered : (c : tie.In-loop Inv-loop μ-loop) → let a = c .before .before .before .before .args in diagonalOf (a .width) (a .x) (c .before .loop .on) < a .width
-numbered c = let a = c .before .before .before .before .args in mod-lt (c .before .loop .on + a .width - a .x) (omega arith)
+below : (d : tie.After-diagonal-of Inv-loop μ-loop) → d .diagonal-of .result < d .before .before .before .before .before .before .before .before .before .before .before .before .args .width
+below d =
+    let i = d .before .before .before .before .before .before .before .before in
+    let a = i .before .before .before .before .args in
+    numbered (a .width) (a .x) (i .before .loop .on) (d .diagonal-of .result) (omega arith) (d .diagonal-of .ensures)
 
 toggle-set-requires-2 : tie.Need-toggle-set-requires-2 Inv-loop μ-loop
 toggle-set-requires-2 c κs =
-    let v = c .before .before .before .before .before .before in
+    let d = c .before .before in
+    let v = d .before .before .before .before .before in
     let i = v .before .before .before in
     let l = i .before .loop in
     let o = i .before .before .before .before in
-    (o .pre .0, numbered i, o .pre .2, v .toggle-set .kept .1 .1 .1 .1 .1 .0 ∙ l .inv .1 ∙ o .pre .3, v .toggle-set .kept .1 .1 .1 .1 .1 .1 .0 ∙ l .inv .2 ∙ o .pre .4)
+    (o .pre .0, below d, o .pre .2, v .toggle-set .kept .1 .1 .1 .1 .1 .0 ∙ l .inv .1 ∙ o .pre .3, v .toggle-set .kept .1 .1 .1 .1 .1 .1 .0 ∙ l .inv .2 ∙ o .pre .4)
 
 loop-again : tie.Need-loop-again Inv-loop μ-loop
 loop-again c =
     let w = c .before .before .before .before in
-    let v = w .before .before .before .before .before .before .before in
+    let d = w .before .before .before in
+    let v = d .before .before .before .before .before in
     let i = v .before .before .before in
     let l = i .before .loop in
     let a = i .before .before .before .before .args in (
-      numbered i,
+      below d,
       w .toggle-set2 .kept .1 .1 .1 .1 .1 .0 ∙ v .toggle-set .kept .1 .1 .1 .1 .1 .0 ∙ l .inv .1,
       w .toggle-set2 .kept .1 .1 .1 .1 .1 .1 .0 ∙ v .toggle-set .kept .1 .1 .1 .1 .1 .1 .0 ∙ l .inv .2,
-      rows-turn (a .width) (a .disks) (a .x) (l .left) (l .on) (l .marks) (v .toggle-set .last .1 .1 .1 .1 .1 .0) (w .toggle-set2 .last .1 .1 .1 .1 .1 .0) (omega arith) (numbered i) (v .toggle-set .ensures) (w .toggle-set2 .ensures) ∙ l .inv .3,
+      rows-turn (a .width) (a .disks) (a .x) (l .left) (l .on) (d .diagonal-of .result) (l .marks) (v .toggle-set .last .1 .1 .1 .1 .1 .0) (w .toggle-set2 .last .1 .1 .1 .1 .1 .0) (d .diagonal-of .ensures) (omega arith) (below d) (v .toggle-set .ensures) (w .toggle-set2 .ensures) ∙ l .inv .3,
     )
 
 same-length : tie.Need-same-length Inv-loop μ-loop
@@ -70,9 +80,7 @@ toggle-sets-spec =
     μ-loop
     loop-holds
     toggle-set-requires
-    (λ c. search needs)
-    (λ c. search needs)
-    (λ c. search needs)
+    diagonal-of-requires
     toggle-set-requires-2
     (λ c. search needs)
     (λ c. search needs)

@@ -1,14 +1,13 @@
 -- `diagonal_step` and `row_step` call each other, and the number of missing cells falls by one at each call. Each step is the next clause of the walk.
-use mathlib.Core.Path.{refl}
-use Prim.Native.Nat.{ℕ, _+_, _-_, _<_}
+use Prim.Native.Nat.{ℕ, _<_}
 use native.Mathlib.Omega.{arith}
-use native.Mathlib.Nat.{mod-lt}
 use borrow.Author.Needs.{needs}
 use borrow.Fn.Kinds.{In}
 use borrow.Fn.PlainCycle.{Measures, is, falls, and}
-use Rattle.liberation.specs.Plans.{diagonalOf}
-use Rattle.liberation_pairs.specs.Pairs.{nextRow}
+use Rattle.sets.proofs.NumberLaws.{numbered, next-below}
 use Rattle.stripes.proofs.OrdinaryLaws.{row-own, diagonal-own}
+use Rattle.sets.proofs.diagonal_of.Reads as diagonal-of-reads
+use Rattle.sets.proofs.row_on.Reads as row-on-reads
 use Rattle.stripes.proofs.solve_by.Reads as solve-by-reads
 use Rattle.liberation_stripes.proofs.SizedLaws.{sized-kept}
 use Rattle.pair_steps.proofs.WalkClauses.{diagonal-none, diagonal-more, row-none, row-more}
@@ -47,6 +46,10 @@ row-step-below t =
     and 2 row-step-kinds.ps (falls 2 row-step-kinds.ps _<_ μ-row-step t) row-step.Pre
 
 diagonal-step-returns : (t : ℕ) → diagonal-step-lts.Need-returns (
+  diagonal-of-reads.Asked,
+  diagonal-of-reads.Learnt,
+  row-on-reads.Asked,
+  row-on-reads.Learnt,
   solve-by-reads.Asked,
   solve-by-reads.Learnt,
   row-step-below t,
@@ -56,31 +59,56 @@ diagonal-step-returns t c =
     let a = c .before .before .before .args in
     diagonal-none (a .width) (a .disks) (a .size) (a .x) (a .y) (a .left) (a .row) (a .stripe .now) (c .if1 .taken)
 
-diagonal-step-add-next : (t : ℕ) → diagonal-step-lts.Need-add-next (
+diagonal-step-diagonal-of-requires : (t : ℕ) → diagonal-step-lts.Need-diagonal-of-requires (
+  diagonal-of-reads.Asked,
+  diagonal-of-reads.Learnt,
+  row-on-reads.Asked,
+  row-on-reads.Learnt,
   solve-by-reads.Asked,
   solve-by-reads.Learnt,
   row-step-below t,
   row-step.Post,
 ) (diagonal-step-at t) diagonal-step.Post
-diagonal-step-add-next t c =
-    let z = c .before .before .before in
+diagonal-step-diagonal-of-requires t c κs = let z = c .before .before .before in (z .pre .1 .0 .array .widest, z .pre .1 .1 .0 .2, omega (arith, z .pre .1 .0 .array .disks))
+
+diagonal-step-row-on-requires : (t : ℕ) → diagonal-step-lts.Need-row-on-requires (
+  diagonal-of-reads.Asked,
+  diagonal-of-reads.Learnt,
+  row-on-reads.Asked,
+  row-on-reads.Learnt,
+  solve-by-reads.Asked,
+  solve-by-reads.Learnt,
+  row-step-below t,
+  row-step.Post,
+) (diagonal-step-at t) diagonal-step.Post
+diagonal-step-row-on-requires t c κs =
+    let z = c .before .before .before .before in
     let a = z .args in
-    let h : 0 < a .width = omega arith in
-    omega (arith, z .pre .1 .0 .array .widest, mod-lt (a .row + a .width - a .x) h)
+    (z .pre .1 .0 .array .widest, numbered (a .width) (a .x) (a .row) (c .diagonal-of .result) (omega arith) (c .diagonal-of .ensures), omega (arith, z .pre .1 .0 .array .disks))
 
 diagonal-step-solve-by-requires : (t : ℕ) → diagonal-step-lts.Need-solve-by-requires (
+  diagonal-of-reads.Asked,
+  diagonal-of-reads.Learnt,
+  row-on-reads.Asked,
+  row-on-reads.Learnt,
   solve-by-reads.Asked,
   solve-by-reads.Learnt,
   row-step-below t,
   row-step.Post,
 ) (diagonal-step-at t) diagonal-step.Post
 diagonal-step-solve-by-requires t c κs =
-    let z = c .before .before .before .before .before in
+    let o = c .before .before in
+    let z = o .before .before .before .before .before in
     let a = z .args in
-    let number = diagonalOf (a .width) (a .x) (a .row) in
-    ((z .pre .1 .0, diagonal-own (a .width) (a .disks) number (a .y) (nextRow (a .width) (a .x) (a .y) (a .row)) (mod-lt (a .row + a .width - a .x) (omega arith)) (mod-lt (number + a .y) (omega arith)) (omega arith) refl), z .pre .1 .1 .1)
+    let number = o .before .diagonal-of .result in
+    let e = o .row-on .ensures (omega (arith, z .pre .1 .0 .array .disks)) in
+    ((z .pre .1 .0, diagonal-own (a .width) (a .disks) number (a .y) (o .row-on .result) (numbered (a .width) (a .x) (a .row) number (omega arith) (o .before .diagonal-of .ensures)) (next-below (a .width) number (a .y) (o .row-on .result) (omega arith) e) (omega arith) e), z .pre .1 .1 .1)
 
 diagonal-step-row-step-requires : (t : ℕ) → diagonal-step-lts.Need-row-step-requires (
+  diagonal-of-reads.Asked,
+  diagonal-of-reads.Learnt,
+  row-on-reads.Asked,
+  row-on-reads.Learnt,
   solve-by-reads.Asked,
   solve-by-reads.Learnt,
   row-step-below t,
@@ -88,11 +116,17 @@ diagonal-step-row-step-requires : (t : ℕ) → diagonal-step-lts.Need-row-step-
 ) (diagonal-step-at t) diagonal-step.Post
 diagonal-step-row-step-requires t c κs =
     let v = c .before .before .before .before .before .before in
-    let z = v .before .before .before .before .before .before in
+    let o = v .before .before .before in
+    let z = o .before .before .before .before .before in
     let a = z .args in
-    (omega arith, (sized-kept (a .width) (a .disks) (a .size) (a .stripe .now) (v .solve-by .last .1 .1 .1 .1 .1 .1 .1 .0) (z .pre .1 .0) (v .solve-by .kept .1 .1 .1 .1 .1 .1 .1 .0), ((omega arith, omega arith, mod-lt (diagonalOf (a .width) (a .x) (a .row) + a .y) (omega arith)), search needs)))
+    let e = o .row-on .ensures (omega (arith, z .pre .1 .0 .array .disks)) in
+    (omega arith, (sized-kept (a .width) (a .disks) (a .size) (a .stripe .now) (v .solve-by .last .1 .1 .1 .1 .1 .1 .1 .0) (z .pre .1 .0) (v .solve-by .kept .1 .1 .1 .1 .1 .1 .1 .0), ((omega arith, omega arith, next-below (a .width) (o .before .diagonal-of .result) (a .y) (o .row-on .result) (omega arith) e), search needs)))
 
 diagonal-step-returns-2 : (t : ℕ) → diagonal-step-lts.Need-returns-2 (
+  diagonal-of-reads.Asked,
+  diagonal-of-reads.Learnt,
+  row-on-reads.Asked,
+  row-on-reads.Learnt,
   solve-by-reads.Asked,
   solve-by-reads.Learnt,
   row-step-below t,
@@ -101,9 +135,11 @@ diagonal-step-returns-2 : (t : ℕ) → diagonal-step-lts.Need-returns-2 (
 diagonal-step-returns-2 t c =
     let w = c .before .before .before .before in
     let v = w .before .before .before .before .before .before .before in
-    let z = v .before .before .before .before .before .before in
+    let o = v .before .before .before in
+    let z = o .before .before .before .before .before in
     let a = z .args in
-    diagonal-more (a .width) (a .disks) (a .size) (a .x) (a .y) (a .left) (a .row) (a .stripe .now) (v .solve-by .last .1 .1 .1 .1 .1 .1 .1 .0) (w .row-step .last .1 .1 .1 .1 .1 .1 .1 .0) (v .before .before .before .if1 .left) (v .solve-by .ensures) (w .row-step .ensures)
+    let e = o .row-on .ensures (omega (arith, z .pre .1 .0 .array .disks)) in
+    diagonal-more (a .width) (a .disks) (a .size) (a .x) (a .y) (a .left) (a .row) (o .before .diagonal-of .result) (o .row-on .result) (a .stripe .now) (v .solve-by .last .1 .1 .1 .1 .1 .1 .1 .0) (w .row-step .last .1 .1 .1 .1 .1 .1 .1 .0) (o .before .diagonal-of .ensures) e (o .before .before .if1 .left) (v .solve-by .ensures) (w .row-step .ensures)
 
 row-step-returns : (t : ℕ) → row-step-lts.Need-returns (
   solve-by-reads.Asked,
@@ -153,6 +189,10 @@ row-step-returns-2 t c =
 
 pub +diagonal-step+row-step-spec : {M : Type 1} → statement M
 +diagonal-step+row-step-spec = close μ-diagonal-step μ-row-step (λ t. diagonal-step-lts.spec (
+  diagonal-of-reads.Asked,
+  diagonal-of-reads.Learnt,
+  row-on-reads.Asked,
+  row-on-reads.Learnt,
   solve-by-reads.Asked,
   solve-by-reads.Learnt,
   row-step-below t,
@@ -161,11 +201,8 @@ pub +diagonal-step+row-step-spec : {M : Type 1} → statement M
     (diagonal-step-at t)
     diagonal-step.Post
     (diagonal-step-returns t)
-    (λ c. search needs)
-    (λ c. search needs)
-    (λ c. search needs)
-    (diagonal-step-add-next t)
-    (λ c. search needs)
+    (diagonal-step-diagonal-of-requires t)
+    (diagonal-step-row-on-requires t)
     (diagonal-step-solve-by-requires t)
     (λ c. search needs)
     (diagonal-step-row-step-requires t)

@@ -1,7 +1,5 @@
 -- `walk_to_zero`: the other cell of the first cell's row, then the walk on the stripe that it left, in two halves: the second begins at the row that the first one comes to.
 use mathlib.Core.Path.{_∙_}
-use Prim.Native.Nat.{_+_, _-_, _*_, _/_, _≤_}
-use native.Mathlib.Nat.{mod-lt, mul-le-mul}
 use native.Mathlib.Omega.{arith}
 use borrow.Author.Needs.{needs}
 use Rattle.stripes.proofs.OrdinaryLaws.{row-own}
@@ -16,24 +14,6 @@ solve-by-requires c κs =
     let z = n .before .before .before in
     let r = n .before .extra-row in
     ((z .pre .0, row-own (z .args .width) (z .args .disks) (r .result) 0 (r .ensures .1) (omega arith)), n .no-offsets .ensures)
-
--- the way of the first half is a small number
-way : (u : tie.After-solve-by) → let a = u .before .before .before .before .before .before .args in (a .width - a .x) * ((a .width - 1) / 2) ≤ 31 * 31
-way u =
-    let z = u .before .before .before .before .before .before in
-    let a = z .args in
-    let d : a .width - a .x ≤ 31 = omega (arith, z .pre .0 .array .widest) in
-    let h : (a .width - 1) / 2 ≤ 31 = omega (arith, z .pre .0 .array .widest) in
-    mul-le-mul d h
-
-mul-middle : tie.Need-mul-middle
-mul-middle c = omega (arith, way (c .before .before .before))
-
-add-middle : tie.Need-add-middle
-add-middle c =
-    let u = c .before .before .before in
-    let k = u .before .before .before .before in
-    omega (arith, way u, k .extra-row .ensures .1, k .before .before .pre .0 .array .widest)
 
 diagonal-step-requires : tie.Need-diagonal-step-requires
 diagonal-step-requires c κs =
@@ -50,7 +30,7 @@ diagonal-step-requires-2 c κs =
     let k = u .before .before .before .before in
     let z = k .before .before in
     let a = z .args in
-    (sized-kept (a .width) (a .disks) (a .size) (a .stripe .now) (w .diagonal-step .last .1 .1 .1 .1 .1 .1 .1 .0) (z .pre .0) (w .diagonal-step .kept .1 .1 .1 .1 .1 .1 .1 .0 ∙ u .solve-by .kept .1 .1 .1 .1 .1 .1 .1 .0), ((z .pre .1 .high, z .pre .1 .other, mod-lt (k .extra-row .result + (a .width - a .x) * ((a .width - 1) / 2)) (omega (arith, z .pre .0 .array .disks, z .pre .1 .high))), search needs))
+    (sized-kept (a .width) (a .disks) (a .size) (a .stripe .now) (w .diagonal-step .last .1 .1 .1 .1 .1 .1 .1 .0) (z .pre .0) (w .diagonal-step .kept .1 .1 .1 .1 .1 .1 .1 .0 ∙ u .solve-by .kept .1 .1 .1 .1 .1 .1 .1 .0), ((z .pre .1 .high, z .pre .1 .other, omega (arith, z .pre .0 .array .disks, z .pre .1 .high)), search needs))
 
 returns : tie.Need-returns
 returns c =
@@ -73,12 +53,9 @@ walk-to-zero-spec =
     solve-by-requires
     (λ c. search needs)
     (λ c. search needs)
-    mul-middle
-    add-middle
-    (λ c. search needs)
-    (λ c. search needs)
     (λ c. search needs)
     diagonal-step-requires
+    (λ c. search needs)
     (λ c. search needs)
     (λ c. search needs)
     diagonal-step-requires-2

@@ -3,11 +3,12 @@ use mathlib.Core.Path.{_∙_}
 use native.Mathlib.Omega.{arith}
 use borrow.Author.Needs.{needs}
 use Rattle.plan_steps.proofs.PlannedLaws.{data-steps-are, data-word, parity-steps, row-parity-word, diagonal-parity-word, our-plan-is}
+use Rattle.liberation.proofs.Widths.{width-odd}
 use Rattle.plan_steps.proofs.our_plan.Statement.{statement}
 use Rattle.plan_steps.proofs.our_plan.Tie as tie
 
 all-routes-requires : tie.Need-all-routes-requires
-all-routes-requires c κs = let q = c .before .pre .0 in (q .widest, omega (arith, q .disks))
+all-routes-requires c κs = let q = c .before .pre .0 in (q .widest, width-odd (c .before .args .width) (q .width), omega (arith, q .disks))
 
 data-steps-requires : tie.Need-data-steps-requires
 data-steps-requires c κs = let q = c .before .before .before .pre .0 in (q .widest, omega (arith, q .disks))

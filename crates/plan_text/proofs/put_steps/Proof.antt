@@ -48,7 +48,9 @@ array-read-number : tie.Need-array-read-number Inv-loop μ-loop
 array-read-number c = omega (arith, small c)
 
 mark-set-requires : tie.Need-mark-set-requires Inv-loop μ-loop
-mark-set-requires c κs = ((c .before .before .before .before .before .before .before .before .pre .0, omega (arith, this (c .before) .number, this (c .before) .number-below)), marked (c .before .before) .0)
+mark-set-requires c κs =
+    let q = c .before .before .before .before .before .before .before .before .pre in
+    ((q .0, q .1, omega (arith, this (c .before) .number, this (c .before) .number-below)), marked (c .before .before) .0)
 
 array-read-put-line : tie.Need-array-read-put-line Inv-loop μ-loop
 array-read-put-line c = omega (arith, small (c .before .before .before .before .before))

@@ -1,4 +1,4 @@
--- `finished`: the record holds our plan's steps, and its read count is what marking all of them counts.
+-- `finished`: the record has the plan's steps, and its read count is what marking all of them counts.
 use mathlib.Core.Path.{_≡_, refl, sym, ap, _∙_}
 use mathlib.Core.List.{List, []}
 use Prim.Native.Nat.{ℕ, _+_, _*_, _≤_}
@@ -6,8 +6,6 @@ use native.Mathlib.Omega.{arith}
 use lib.ListN.{length, take}
 use lib.Seq.{length-take-le}
 use Rattle.liberation.proofs.MarkLists.{length-marks, take-marks, cells-most}
-use Rattle.liberation.proofs.FaultLaws.{plan-of}
-use Rattle.planner.proofs.PlanAnswers.{plan-says}
 use borrow.Author.Needs.{needs}
 use Rattle.planner.proofs.finished.Statement.{statement}
 use Rattle.planner.proofs.finished.Tie as tie
@@ -16,7 +14,7 @@ use Rattle.planner.proofs.finished.Tie as tie
 cells : (c : tie.After-s) → (c .before .args .disks ≤ 31) × (c .before .args .width * (c .before .args .disks + 2) ≤ 1023)
 cells c =
     let a = c .before .args in
-    let v = plan-of (a .width) (a .disks) (a .lost) (c .before .pre .0) .0 in
+    let v = c .before .pre .0 in
     (omega (arith, v .widest, v .disks), cells-most (a .width) (a .disks) (v .widest) (v .disks))
 
 all-marks : (c : tie.After-no-marks) → length (c .no-marks .result) ≡ 1023
@@ -37,16 +35,11 @@ slice-aggregate-mark-steps c = sym (length-take-le _ (c .before .no-marks .resul
 mark-steps-requires : tie.Need-mark-steps-requires
 mark-steps-requires c κs =
     let q = c .before .before .before in
-    let w = plan-of (q .args .width) (q .args .disks) (q .args .lost) (q .pre .0) in
     let n = q .args .width * (q .args .disks + 2) in
-    (w .0, w .1, q .pre .1 .steps, ap (take n) (c .before .no-marks .ensures) ∙ take-marks n 1023 0 [] (omega (arith, cells (c .before .before))))
+    (q .pre .0, q .pre .1, q .pre .2, ap (take n) (c .before .no-marks .ensures) ∙ take-marks n 1023 0 [] (omega (arith, cells (c .before .before))))
 
 returns : tie.Need-returns
-returns c =
-    let k = c .before .before in
-    let q = k .before .before .before .before in
-    let a = q .args in
-    plan-says (a .width) (a .disks) (a .lost) _ (a .p) (q .pre .0) (q .pre .1) refl refl refl (k .mark-steps .ensures .0)
+returns c = record { answer = refl; steps = refl; routes = refl; reads = c .before .before .mark-steps .ensures .0 }
 
 pub finished-spec : {M : Type 1} → statement M
 finished-spec =

@@ -1,20 +1,22 @@
--- `mark_steps`: each turn marks the set of the next step. The invariant: the marks stand for the cells read so far, and with the steps still to come they give all that the plan reads.
+-- `mark_steps`: each turn marks the set of the next step. The invariant: the marks stand for the cells read so far, and with the steps still to come they give all that the plan reads, whatever rows its steps have.
 use mathlib.Core.Path.{_≡_, refl, ap, _∙_}
 use mathlib.Core.List.{List, []}
 use Prim.Native.Nat.{ℕ, _+_, _-_, _*_, _≤_, _<_}
 use native.Mathlib.Nat.{mul-le-mul}
 use native.Mathlib.Omega.{arith}
 use lib.ListN.{length, getD}
+use Rattle.liberation.specs.Plans.{step}
+use Rattle.liberation.specs.Records.{recorded}
 use Rattle.liberation.proofs.MarkLists.{length-marks}
-use Rattle.liberation.specs.Plans.{planOf}
+use Rattle.liberation.proofs.RecordLaws.{length-recorded, recorded-at}
+use Rattle.step_records.proofs.HeldLaws.{held-passed}
 use Rattle.planner.proofs.MarkingLoop.{Reading, reading-start, reading-turn, reading-end}
-use Rattle.liberation.proofs.RecordLaws.{StepAt, step-at, plan-length, plan-number}
 use borrow.Author.Needs.{needs}
 use Rattle.planner.proofs.mark_steps.Statement.{statement}
 use Rattle.planner.proofs.mark_steps.Tie as tie
 
 abbrev Inv-loop : tie.InvT-loop
-Inv-loop width disks lost marks₀ kinds numbers reads₀ i₀ marks reads i = Reading width disks lost (planOf width disks lost) marks reads i × (length marks ≡ length marks₀)
+Inv-loop width disks lost marks₀ kinds numbers reads₀ i₀ marks reads i = ((rows : List ℕ) → Reading width disks lost (recorded width 0 rows kinds numbers) marks reads i) × (length marks ≡ length marks₀)
 
 abbrev μ-loop : tie.MeasureT-loop
 μ-loop width disks lost marks₀ kinds numbers reads₀ i₀ marks reads i = width - i
@@ -22,31 +24,24 @@ abbrev μ-loop : tie.MeasureT-loop
 small : (c : tie.In-loop Inv-loop μ-loop) → c .before .before .before .before .before .args .width ≤ 31
 small c = c .before .before .before .before .before .pre .0 .widest
 
--- the step of this turn, and where the record has it
-this : (c : tie.In-loop Inv-loop μ-loop) → let a = c .before .before .before .before .before .args in StepAt (planOf (a .width) (a .disks) (a .lost)) (c .before .loop .i)
-this c =
-    let q = c .before .before .before .before .before in
-    step-at _ _ (omega (arith, plan-length (q .args .width) (q .args .disks) (q .args .lost) (q .pre .0 .width) (q .pre .0 .disks) (q .pre .1)))
-
-kind : (c : tie.In-loop Inv-loop μ-loop) → getD (c .before .before .before .before .before .args .s .kinds) (c .before .loop .i) 0 ≡ this c .this .kind
-kind c = ap (λ (x : List ℕ). getD x (c .before .loop .i) 0) (c .before .before .before .before .before .pre .2 .kinds) ∙ this c .held (λ s. s .kind)
-
-number : (c : tie.In-loop Inv-loop μ-loop) → (getD (c .before .before .before .before .before .args .s .numbers) (c .before .loop .i) 0 ≡ this c .this .number) × (this c .this .number < c .before .before .before .before .before .args .width)
-number c =
-    let q = c .before .before .before .before .before in
-    (ap (λ (x : List ℕ). getD x (c .before .loop .i) 0) (q .pre .2 .numbers) ∙ this c .held (λ s. s .number), plan-number (q .args .width) (q .args .disks) (q .args .lost) (c .before .loop .i) (q .pre .0 .width) (q .pre .0 .disks) (q .pre .1) (this c) (c .loop-test .taken))
+-- the step of this turn names a set
+number : (c : tie.In-loop Inv-loop μ-loop) → getD (c .before .before .before .before .before .args .s .numbers) (c .before .loop .i) 0 < c .before .before .before .before .before .args .width
+number c = let q = c .before .before .before .before .before in held-passed (q .args .width) (q .args .disks) (q .args .lost) (c .before .loop .i) (q .args .s) (q .pre .2) (c .loop-test .taken) .1 .number-below
 
 -- the loop's state after one more step
-turned : (c : tie.After-slice-known2 Inv-loop μ-loop) → let a = c .before .before .before .before .before .before .before .before .before .args in let l = c .before .before .before .before .before .loop in Reading (a .width) (a .disks) (a .lost) (planOf (a .width) (a .disks) (a .lost)) (c .before .before .mark-set .last .1 .1 .1 .1 .1 .0) (l .reads + c .before .before .mark-set .result) (l .i + 1)
-turned c =
+turned : (c : tie.After-slice-known2 Inv-loop μ-loop) → (rows : List ℕ) → let a = c .before .before .before .before .before .before .before .before .before .args in let l = c .before .before .before .before .before .loop in Reading (a .width) (a .disks) (a .lost) (recorded (a .width) 0 rows (a .s .kinds) (a .s .numbers)) (c .before .before .mark-set .last .1 .1 .1 .1 .1 .0) (l .reads + c .before .before .mark-set .result) (l .i + 1)
+turned c rows =
     let t = c .before .before .before .before in
-    let q = t .before .before .before .before .before in
+    let a = t .before .before .before .before .before .args in
     let l = t .before .loop in
     let m = c .before .before .mark-set in
-    reading-turn (q .args .width) (q .args .disks) (q .args .lost) _ (l .marks) (m .last .1 .1 .1 .1 .1 .0) (l .reads) (l .i) (m .result) (this t) (omega (arith, plan-length (q .args .width) (q .args .disks) (q .args .lost) (q .pre .0 .width) (q .pre .0 .disks) (q .pre .1))) (number t .1) (l .inv .0) (rw (kind t, number t .0) at (m .ensures))
+    let ks = a .s .kinds in
+    let ns = a .s .numbers in
+    reading-turn (a .width) (a .disks) (a .lost) _ (l .marks) (m .last .1 .1 .1 .1 .1 .0) (l .reads) (l .i) (m .result) (step (getD rows (l .i) 0) (getD ks (l .i) 0) (getD ns (l .i) 0))
+    (recorded-at (a .width) 0 (l .i) (l .i) rows ks ns (omega arith) (t .loop-test .taken)) (omega (arith, t .loop-test .taken, length-recorded (a .width) 0 rows ks ns)) (number t) (l .inv .0 rows) (m .ensures)
 
 loop-holds : tie.Need-loop-holds Inv-loop μ-loop
-loop-holds c = (reading-start _ _ _ _ _ (c .before .before .before .pre .3), refl)
+loop-holds c = (λ rows. reading-start _ _ _ _ _ (c .before .before .before .pre .3), refl)
 
 array-read-kind : tie.Need-array-read-kind Inv-loop μ-loop
 array-read-kind c = omega (arith, small c)
@@ -60,13 +55,13 @@ mark-set-requires c κs =
     let a = q .args in
     let l = c .before .before .loop in
     let n : getD (a .s .numbers) (l .i) 0 < a .width = omega (arith, number (c .before)) in
-    ((q .pre .0, n), omega (arith, l .inv .1, ap (λ (x : List ℕ). length x) (q .pre .3), length-marks (a .width * (a .disks + 2)) 0 []))
+    ((q .pre .0, q .pre .1, n), omega (arith, l .inv .1, ap (λ (x : List ℕ). length x) (q .pre .3), length-marks (a .width * (a .disks + 2)) 0 []))
 
 add-reads : tie.Need-add-reads Inv-loop μ-loop
 add-reads c =
     let a = c .before .before .before .before .before .before .before .before .before .args in
     let w : a .width ≤ 31 = small (c .before .before .before .before) in
-    let k = turned c in
+    let k = turned c [] in
     let h : a .disks + 2 ≤ 33 = omega arith in
     let i : c .before .before .before .before .before .loop .i + 1 ≤ 31 = omega arith in
     let m : (a .disks + 2) * (c .before .before .before .before .before .loop .i + 1) ≤ 33 * 31 = mul-le-mul h i in
@@ -77,9 +72,9 @@ loop-again c = (turned c, c .before .before .mark-set .kept .1 .1 .1 .1 .1 .0 �
 
 returns : tie.Need-returns Inv-loop μ-loop
 returns c =
-    let q = c .before .before .before .before .before in
+    let a = c .before .before .before .before .before .args in
     let l = c .before .loop in
-    reading-end _ _ _ _ _ (l .reads) (l .i) (omega (arith, plan-length (q .args .width) (q .args .disks) (q .args .lost) (q .pre .0 .width) (q .pre .0 .disks) (q .pre .1))) (l .inv .0)
+    reading-end _ _ _ _ _ (l .reads) (l .i) (omega (arith, length-recorded (a .width) 0 (a .s .rows) (a .s .kinds) (a .s .numbers))) (l .inv .0 (a .s .rows))
 
 pub mark-steps-spec : {M : Type 1} → statement M
 mark-steps-spec =

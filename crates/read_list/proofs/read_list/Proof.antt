@@ -5,8 +5,10 @@ use native.Mathlib.Omega.{arith}
 use lib.ListN.{replicate}
 use Rattle.liberation.specs.Limits.{InArray}
 use Rattle.liberation.specs.Sets.{planFault}
+use Rattle.liberation.specs.Plans.{listOf}
 use Rattle.liberation.proofs.FaultLaws.{plan-of}
 use Rattle.liberation.proofs.MarkLists.{no-cells, cells-most}
+use Rattle.plan_steps.proofs.PlannedLaws.{ours-held, ours-accepted}
 use Rattle.read_list.proofs.ListAnswers.{list-refused, list-first, list-long, list-says}
 use borrow.Author.Needs.{needs}
 use Rattle.read_list.proofs.read_list.Statement.{statement}
@@ -48,14 +50,16 @@ mark-steps-requires c κs =
     let k = o .before .before .before in
     let e = k .before .before in
     let w = wide (e .before) in
-    (w .0, w .1, o .our-plan .ensures .steps, k .clear .ensures ∙ ap (λ (n : ℕ). replicate n 0) (e .if2 .left) ∙ no-cells _ 0)
+    (w .0, w .1, ours-accepted _ _ _ (o .our-plan .result .steps) (w .0) (w .1) (o .our-plan .ensures .steps), k .clear .ensures ∙ ap (λ (n : ℕ). replicate n 0) (e .if2 .left) ∙ no-cells _ 0)
 
 returns-3 : tie.Need-returns-3
 returns-3 c =
     let m = c .before .before .before in
-    let e = m .before .before .before .before .before .before .before .before in
+    let o = m .before .before .before in
+    let e = o .before .before .before .before .before in
     let a = e .before .before .before .before .args in
-    list-says (a .width) (a .disks) (a .lost) (a .list .now) _ (c .answered3 .result) (none (e .before)) (e .if2 .left) (m .mark-steps .ensures .1) (c .answered3 .ensures)
+    let w = wide (e .before) in
+    list-says (a .width) (a .disks) (a .lost) (a .list .now) _ (c .answered3 .result) (none (e .before)) (e .if2 .left) (m .mark-steps .ensures .1 ∙ ap (listOf (a .width) (a .disks) (a .lost)) (ours-held (a .width) (a .disks) (a .lost) (o .our-plan .result .steps) (w .0) (w .1) (o .our-plan .ensures .steps))) (c .answered3 .ensures)
 
 pub read-list-spec : {M : Type 1} → statement M
 read-list-spec =

@@ -22,7 +22,7 @@ returns c =
     let i = c .before in
     let f = i .before .one-fault in
     let a = i .before .before .before .before .args in
-    refused (a .shape .width) (a .shape .disks) (a .shape .«cell_size») (a .lost) (f .result) (a .stripe .now) (a .column .now) (c .answered .result) (f .ensures) (i .if1 .taken) (c .answered .ensures) (bytes (i .before .before .before))
+    refused (f .result) _ _ (a .stripe .now) (a .column .now) (c .answered .result) (f .ensures) (i .if1 .taken) (c .answered .ensures) (bytes (i .before .before .before))
 
 rebuild-column-requires : tie.Need-rebuild-column-requires
 rebuild-column-requires c κs = passed (c .before)
@@ -32,7 +32,7 @@ returns-2 c =
     let g = c .before .before .before in
     let i = g .before .before in
     let a = i .before .before .before .before .args in
-    accepted (a .shape .width) (a .shape .disks) (a .shape .«cell_size») (a .lost) (a .stripe .now) (a .column .now) (g .rebuild-column .last .1 .1 .1 .1 .1 .0) (c .answered2 .result) (passed i) (g .rebuild-column .ensures) (c .answered2 .ensures) (bytes (i .before .before .before))
+    accepted _ _ (a .stripe .now) (a .column .now) (g .rebuild-column .last .1 .1 .1 .1 .1 .0) (c .answered2 .result) (passed i) (g .rebuild-column .ensures) (c .answered2 .ensures) (bytes (i .before .before .before))
 
 pub rebuild-one-spec : {M : Type 1} → statement M
 rebuild-one-spec = tie.close (tie.spec (λ c κs. search needs) (λ c κs. search needs) returns rebuild-column-requires (λ c κs. search needs) (λ c. search needs) returns-2)

@@ -1,19 +1,18 @@
--- `follow`: each turn does the next step of our plan. The invariant: the steps still to come, on the stripe with the column as it stands, give what all steps give.
-use mathlib.Core.Path.{_≡_, sym, ap, _∙_}
-use mathlib.Core.List.{List}
-use Prim.Native.Nat.{ℕ, _-_, _≤_}
+-- `follow`: each turn does the next step of the plan. The invariant: the steps still to come, on the stripe with the column as it stands, give what all steps give.
+use mathlib.Core.Path.{sym, _∙_}
+use Prim.Native.Nat.{_-_, _≤_}
 use native.Mathlib.Omega.{arith}
-use lib.ListN.{getD}
 use borrow.Author.Needs.{needs}
-use Rattle.liberation.specs.Plans.{planOf}
-use Rattle.liberation.proofs.RecordLaws.{StepAt, step-at, plan-length, plan-passed}
+use Rattle.liberation.specs.Records.{recorded}
+use Rattle.step_records.specs.Records.{held}
+use Rattle.step_records.proofs.HeldLaws.{stepAt, held-at, held-passed}
 use Rattle.xor.proofs.SourceLaws.{bytes-all}
 use Rattle.rebuild_steps.proofs.FollowLaws.{Stepping, stepping-start, stepping-turn, stepping-end}
 use Rattle.rebuild_steps.proofs.follow.Statement.{statement}
 use Rattle.rebuild_steps.proofs.follow.Tie as tie
 
 abbrev Inv-loop : tie.InvT-loop
-Inv-loop width disks size disk stripe column₀ rows kinds numbers i₀ column i = Stepping width disks size disk stripe column₀ column i
+Inv-loop width disks size disk stripe column₀ rows kinds numbers i₀ column i = Stepping width disks size disk (recorded width 0 rows kinds numbers) stripe column₀ column i
 
 abbrev μ-loop : tie.MeasureT-loop
 μ-loop width disks size disk stripe column₀ rows kinds numbers i₀ column i = width - i
@@ -21,24 +20,8 @@ abbrev μ-loop : tie.MeasureT-loop
 small : (c : tie.In-loop Inv-loop μ-loop) → let z = c .before .before .before .before .before .before .before in z .args .width ≤ 31
 small c = c .before .before .before .before .before .before .before .pre .0 .array .widest
 
--- the step of this turn
-this : (c : tie.In-loop Inv-loop μ-loop) → let a = c .before .before .before .before .before .before .before .args in StepAt (planOf (a .width) (a .disks) (a .disk)) (c .before .loop .i)
-this c =
-    let z = c .before .before .before .before .before .before .before in
-    step-at _ _ (omega (arith, plan-length (z .args .width) (z .args .disks) (z .args .disk) (z .pre .0 .array .width) (z .pre .0 .array .disks) (z .pre .1 .0)))
-
--- and where the arrays have it
-row : (c : tie.In-loop Inv-loop μ-loop) → getD (c .before .before .before .before .before .before .before .args .steps .rows) (c .before .loop .i) 0 ≡ this c .this .row
-row c = ap (λ (x : List ℕ). getD x (c .before .loop .i) 0) (c .before .before .before .before .before .before .before .pre .1 .2 .rows) ∙ this c .held (λ s. s .row)
-
-kind : (c : tie.In-loop Inv-loop μ-loop) → getD (c .before .before .before .before .before .before .before .args .steps .kinds) (c .before .loop .i) 0 ≡ this c .this .kind
-kind c = ap (λ (x : List ℕ). getD x (c .before .loop .i) 0) (c .before .before .before .before .before .before .before .pre .1 .2 .kinds) ∙ this c .held (λ s. s .kind)
-
-number : (c : tie.In-loop Inv-loop μ-loop) → getD (c .before .before .before .before .before .before .before .args .steps .numbers) (c .before .loop .i) 0 ≡ this c .this .number
-number c = ap (λ (x : List ℕ). getD x (c .before .loop .i) 0) (c .before .before .before .before .before .before .before .pre .1 .2 .numbers) ∙ this c .held (λ s. s .number)
-
 loop-holds : tie.Need-loop-holds Inv-loop μ-loop
-loop-holds c = stepping-start _ _ _ _ _ _ (c .before .before .before .before .before .pre .1 .1)
+loop-holds c = stepping-start _ _ _ _ _ _ _ (c .before .before .before .before .before .pre .1 .1)
 
 array-read-row : tie.Need-array-read-row Inv-loop μ-loop
 array-read-row c = omega (arith, small c)
@@ -54,9 +37,8 @@ rebuild-cell-requires c κs =
     let t = c .before in
     let z = t .before .before .before .before .before .before .before in
     let a = z .args in
-    let d = z .pre .1 .0 in
-    let passed = plan-passed (a .width) (a .disks) (a .disk) (t .before .loop .i) (z .pre .0 .array .width) (z .pre .0 .array .disks) d (this t) (t .loop-test .taken) .1 in
-    (z .pre .0, (d, t .before .loop .inv .long, omega (arith, number t, passed .number-below), omega (arith, row t, passed .row-below), rw (row t, kind t, number t) (passed .lost)))
+    let passed = held-passed (a .width) (a .disks) (a .disk) (t .before .loop .i) (a .steps) (z .pre .1 .2) (t .loop-test .taken) .1 in
+    (z .pre .0, (z .pre .1 .0, t .before .loop .inv .long, passed .number-below, passed .row-below, passed .lost))
 
 loop-again : tie.Need-loop-again Inv-loop μ-loop
 loop-again c =
@@ -64,7 +46,7 @@ loop-again c =
     let t = c .before .before .before .before in
     let l = t .before .loop in
     let a = t .before .before .before .before .before .before .before .args in
-    stepping-turn (a .width) (a .disks) (a .size) (a .disk) (a .stripe .now) (a .column .now) (l .column) (m .last .1 .1 .1 .1 .1 .1 .1 .1 .0) (l .i) (this t) (t .loop-test .taken) (m .kept .1 .1 .1 .1 .1 .1 .1 .1 .0) (rw (row t, kind t, number t) at (m .ensures)) (l .inv)
+    stepping-turn (a .width) (a .disks) (a .size) (a .disk) (held (a .width) (a .steps)) (a .stripe .now) (a .column .now) (l .column) (m .last .1 .1 .1 .1 .1 .1 .1 .1 .0) (l .i) (stepAt (a .steps) (l .i)) (held-at (a .width) (l .i) (a .steps) (t .loop-test .taken)) (t .loop-test .taken) (m .kept .1 .1 .1 .1 .1 .1 .1 .1 .0) (m .ensures) (l .inv)
 
 same-length : tie.Need-same-length Inv-loop μ-loop
 same-length c = let z = c .before .before .before .before .before .before .before in c .before .loop .inv .long ∙ sym (z .pre .1 .1)
@@ -75,7 +57,7 @@ returns c =
     let k = c .before .before .before .before .before in
     let z = k .before .before in
     let a = z .args in
-    stepping-end (a .width) (a .disks) (a .size) (a .disk) (z .pre .0 .array .width) (z .pre .0 .array .disks) (z .pre .1 .0) (a .stripe .now) (a .column .now) (l .column) (l .i) (omega arith) (z .pre .0 .long) (z .pre .1 .1)
+    stepping-end (a .width) (a .disks) (a .size) (a .disk) (held (a .width) (a .steps)) (z .pre .1 .2) (z .pre .0 .array .some) (z .pre .1 .0) (a .stripe .now) (a .column .now) (l .column) (l .i) (omega arith) (z .pre .0 .long) (z .pre .1 .1)
     (bytes-all (a .stripe .now) (k .before .shared-slice-known .given)) (bytes-all (a .column .now) (k .slice-known .given)) (l .inv)
 
 pub follow-spec : {M : Type 1} → statement M

@@ -1,13 +1,11 @@
 -- `sum_sets`: each turn sums the two sets of a row. The invariant: the rows still to come, summed in the stripe as it is, give what all rows give in the stripe as it was.
 use mathlib.Core.Path.{_≡_, refl, sym, _∙_}
 use mathlib.Core.Logic.{inl, inr}
-use Prim.Native.Nat.{_+_, _-_, _<_}
-use native.Mathlib.Nat.{mod-lt}
+use Prim.Native.Nat.{_+_, _%_, _<_}
 use native.Mathlib.Omega.{arith}
 use lib.ListN.{length}
 use borrow.Author.Needs.{needs}
-use Rattle.liberation.specs.Plans.{diagonalOf}
-use Rattle.liberation_pairs.specs.Pairs.{nextRow}
+use Rattle.sets.proofs.NumberLaws.{numbered, next-below}
 use Rattle.liberation_sums.specs.Sums.{summedAll, startSteps}
 use Rattle.set_sums.proofs.SumLoops.{still-lost, sums-turn, sums-last}
 use Rattle.set_sums.proofs.sum_sets.Statement.{statement}
@@ -22,14 +20,33 @@ abbrev μ-loop : tie.MeasureT-loop
 loop-holds : tie.Need-loop-holds Inv-loop μ-loop
 loop-holds c = (c .before .before .pre .1, refl, refl, refl)
 
--- the diagonal's number, and the next row
-numbered : (i : tie.In-loop Inv-loop μ-loop) → let a = i .before .before .before .before .args in diagonalOf (a .width) (a .x) (i .before .loop .on) < a .width
-numbered i = let a = i .before .before .before .before .args in mod-lt (i .before .loop .on + a .width - a .x) (omega arith)
+diagonal-of-requires : tie.Need-diagonal-of-requires Inv-loop μ-loop
+diagonal-of-requires c κs =
+    let i = c .before .before .before .before .before .before .before in
+    let q = i .before .before .before .before .pre .0 in
+    (q .sized .array .widest, i .before .loop .inv .0, omega (arith, q .one, q .sized .array .disks))
 
-next : (i : tie.In-loop Inv-loop μ-loop) → let a = i .before .before .before .before .args in nextRow (a .width) (a .x) (a .y) (i .before .loop .on) < a .width
-next i =
+-- the diagonal's number, and the next row
+below : (d : tie.After-diagonal-of Inv-loop μ-loop) → d .diagonal-of .result < d .before .before .before .before .before .before .before .before .before .before .before .before .args .width
+below d =
+    let i = d .before .before .before .before .before .before .before .before in
     let a = i .before .before .before .before .args in
-    mod-lt (diagonalOf (a .width) (a .x) (i .before .loop .on) + a .y) (omega arith)
+    numbered (a .width) (a .x) (i .before .loop .on) (d .diagonal-of .result) (omega arith) (d .diagonal-of .ensures)
+
+row-on-requires : tie.Need-row-on-requires Inv-loop μ-loop
+row-on-requires d κs =
+    let q = d .before .before .before .before .before .before .before .before .before .before .before .before .pre .0 in
+    (q .sized .array .widest, below d, omega (arith, q .other, q .sized .array .disks))
+
+turned : (r : tie.After-row-on Inv-loop μ-loop) → let a = r .before .before .before .before .before .before .before .before .before .before .before .before .before .args in r .row-on .result ≡ (r .before .diagonal-of .result + a .y) % a .width
+turned r =
+    let q = r .before .before .before .before .before .before .before .before .before .before .before .before .before .pre .0 in
+    r .row-on .ensures (omega (arith, q .other, q .sized .array .disks))
+
+next : (r : tie.After-row-on Inv-loop μ-loop) → r .row-on .result < r .before .before .before .before .before .before .before .before .before .before .before .before .before .args .width
+next r =
+    let a = r .before .before .before .before .before .before .before .before .before .before .before .before .before .args in
+    next-below (a .width) (r .before .diagonal-of .result) (a .y) (r .row-on .result) (omega arith) (turned r)
 
 sum-set-requires : tie.Need-sum-set-requires Inv-loop μ-loop
 sum-set-requires c κs =
@@ -40,28 +57,25 @@ sum-set-requires c κs =
 
 sum-set-requires-2 : tie.Need-sum-set-requires-2 Inv-loop μ-loop
 sum-set-requires-2 c κs =
-    let v = c .before .before .before .before .before .before in
+    let r = c .before .before in
+    let v = r .before .before .before .before .before .before in
     let i = v .before .before .before in
     let l = i .before .loop in
     let o = i .before .before .before .before in
-    (still-lost (v .sum-set .last .1 .1 .1 .1 .1 .1 .1 .1 .1 .0) (v .sum-set .last .1 .1 .1 .1 .1 .1 .1 .1 .1 .1 .0) (o .pre .0) (v .sum-set .kept .1 .1 .1 .1 .1 .1 .1 .1 .1 .0 ∙ l .inv .1) (v .sum-set .kept .1 .1 .1 .1 .1 .1 .1 .1 .1 .1 .0 ∙ l .inv .2), numbered i, next i, inr refl)
-
-add-next : tie.Need-add-next Inv-loop μ-loop
-add-next c =
-    let i = c .before .before .before .before .before .before .before in
-    omega (arith, numbered i, i .before .before .before .before .pre .0 .sized .array .widest)
+    (still-lost (v .sum-set .last .1 .1 .1 .1 .1 .1 .1 .1 .1 .0) (v .sum-set .last .1 .1 .1 .1 .1 .1 .1 .1 .1 .1 .0) (o .pre .0) (v .sum-set .kept .1 .1 .1 .1 .1 .1 .1 .1 .1 .0 ∙ l .inv .1) (v .sum-set .kept .1 .1 .1 .1 .1 .1 .1 .1 .1 .1 .0 ∙ l .inv .2), below (r .before), next r, inr refl)
 
 loop-again : tie.Need-loop-again Inv-loop μ-loop
 loop-again c =
     let w = c .before .before .before .before in
-    let v = w .before .before .before .before .before .before .before in
+    let r = w .before .before .before in
+    let v = r .before .before .before .before .before .before in
     let i = v .before .before .before in
     let l = i .before .loop in
     let a = i .before .before .before .before .args in (
-      next i,
+      next r,
       w .sum-set2 .kept .1 .1 .1 .1 .1 .1 .1 .1 .1 .0 ∙ v .sum-set .kept .1 .1 .1 .1 .1 .1 .1 .1 .1 .0 ∙ l .inv .1,
       w .sum-set2 .kept .1 .1 .1 .1 .1 .1 .1 .1 .1 .1 .0 ∙ v .sum-set .kept .1 .1 .1 .1 .1 .1 .1 .1 .1 .1 .0 ∙ l .inv .2,
-      sums-turn (a .width) (a .disks) (a .size) (a .x) (a .y) (l .left) (l .on) (l .stripe) (v .sum-set .last .1 .1 .1 .1 .1 .1 .1 .1 .1 .0) (w .sum-set2 .last .1 .1 .1 .1 .1 .1 .1 .1 .1 .0) (omega arith) (v .sum-set .ensures) (w .sum-set2 .ensures) ∙ l .inv .3,
+      sums-turn (a .width) (a .disks) (a .size) (a .x) (a .y) (l .left) (l .on) (r .before .diagonal-of .result) (r .row-on .result) (l .stripe) (v .sum-set .last .1 .1 .1 .1 .1 .1 .1 .1 .1 .0) (w .sum-set2 .last .1 .1 .1 .1 .1 .1 .1 .1 .1 .0) (r .before .diagonal-of .ensures) (turned r) (omega arith) (v .sum-set .ensures) (w .sum-set2 .ensures) ∙ l .inv .3,
     )
 
 same-length : tie.Need-same-length Inv-loop μ-loop
@@ -84,11 +98,8 @@ sum-sets-spec =
     μ-loop
     loop-holds
     sum-set-requires
-    (λ c. search needs)
-    (λ c. search needs)
-    (λ c. search needs)
-    add-next
-    (λ c. search needs)
+    diagonal-of-requires
+    row-on-requires
     sum-set-requires-2
     (λ c. search needs)
     (λ c. search needs)

@@ -3,12 +3,12 @@ use mathlib.Core.Path.{_≡_, refl, sym, _∙_}
 use mathlib.Core.List.{_++_}
 use mathlib.Core.Logic.{⊎-elim}
 use Prim.Native.Nat.{_+_, _-_, _≤_, _<_}
-use native.Mathlib.Nat.{mod-lt}
 use native.Mathlib.Omega.{arith}
 use lib.ListN.{length, take, drop, length-append}
 use lib.Seq.{length-take-le, getD-take}
 use Rattle.liberation.specs.Plans.{step, diagonalOf, rowSteps, diagonalSteps}
 use Rattle.liberation.proofs.RowSteps.{steps-long}
+use Rattle.sets.proofs.NumberLaws.{numbered}
 use Rattle.step_records.proofs.StepRecord.{Collected, collect-push, collect-skip, collect-end, collect-room, diagonal-some, diagonal-none, diagonal-last}
 use borrow.Author.Needs.{needs}
 use Rattle.step_records.proofs.diagonal_steps.Statement.{statement}
@@ -26,13 +26,14 @@ long : (c : tie.Start Inv-loop μ-loop) → length (take (c .args .width) (c .ar
 long c = let n : length (c .args .t3) ≡ 31 = search needs in length-take-le (c .args .width) (c .args .t3) (omega arith)
 
 -- a row that takes a diagonal comes next, and there is room for its step
-room : (c : tie.Then1 Inv-loop μ-loop) → c .before .before .loop .count < 31
+room : (c : tie.Then1 Inv-loop μ-loop) → c .before .before .before .loop .count < 31
 room c =
-    let q = c .before .before .before .before .before .before .before in
+    let i = c .before .before in
+    let q = i .before .before .before .before .before .before in
     let a = q .args in
-    let l = c .before .before .loop in
+    let l = i .before .loop in
     let rs = take (a .width) (a .t3) in
-    let at = getD-take (a .width) (a .t3) (l .row) 0 (c .before .loop-test .taken) in
+    let at = getD-take (a .width) (a .t3) (l .row) 0 (i .loop-test .taken) in
     collect-room (rowSteps 0 rs ++ diagonalSteps (a .width) (a .disk) 0 rs) (diagonalSteps (a .width) (a .disk) (l .row + 1) (drop (l .row + 1) rs)) (diagonalSteps (a .width) (a .disk) (l .row) (drop (l .row) rs)) (step (l .row) 1 (diagonalOf (a .width) (a .disk) (l .row))) (l .rows) (l .kinds) (l .numbers) (l .count)
     (diagonal-some (a .width) (a .disk) (l .row) rs (omega (arith, long q)) (at ∙ c .if1 .taken)) (omega (arith, long q, length-append (rowSteps 0 rs) (diagonalSteps (a .width) (a .disk) 0 rs), steps-long (a .width) (a .disk) 0 rs)) (l .inv .1)
 
@@ -49,8 +50,10 @@ array-write-kinds c = room c
 
 cast-numbers : tie.Need-cast-numbers Inv-loop μ-loop
 cast-numbers c =
-    let a = c .before .before .before .before .before .before .before .args in
-    omega (arith, mod-lt (c .before .before .loop .row + a .width - a .disk) {m = a .width} (omega arith))
+    let d = c .before in
+    let i = d .before in
+    let a = i .before .before .before .before .before .before .args in
+    omega (arith, numbered (a .width) (a .disk) (i .before .loop .row) (d .diagonal-of .result) (omega arith) (d .diagonal-of .ensures))
 
 array-write-numbers : tie.Need-array-write-numbers Inv-loop μ-loop
 array-write-numbers c = room c
@@ -60,18 +63,19 @@ add-count c = omega (arith, room c)
 
 loop-again : tie.Need-loop-again Inv-loop μ-loop
 loop-again c =
-    let q = c .before .before .before .before .before .before .before in
+    let i = c .before .before in
+    let q = i .before .before .before .before .before .before in
     let a = q .args in
-    let l = c .before .before .loop in
+    let l = i .before .loop in
     let rs = take (a .width) (a .t3) in
     let whole = rowSteps 0 rs ++ diagonalSteps (a .width) (a .disk) 0 rs in
     let rest = diagonalSteps (a .width) (a .disk) (l .row + 1) (drop (l .row + 1) rs) in
     let all = diagonalSteps (a .width) (a .disk) (l .row) (drop (l .row) rs) in
     let h : l .row < length rs = omega (arith, long q) in
-    let at = getD-take (a .width) (a .t3) (l .row) 0 (c .before .loop-test .taken) in (
+    let at = getD-take (a .width) (a .t3) (l .row) 0 (i .loop-test .taken) in (
       omega arith,
       ⊎-elim
-          (λ w. rw (w .1, w .2, w .3, w .4) (collect-push whole rest all (step (l .row) 1 (diagonalOf (a .width) (a .disk) (l .row))) (l .rows) (l .kinds) (l .numbers) (l .count) (diagonal-some (a .width) (a .disk) (l .row) rs h (at ∙ w .0 .taken)) (room (record { before = c .before; if1 = w .0 })) (l .inv .1)))
+          (λ w. rw (w .1, w .2, w .3, w .4, c .before .diagonal-of .ensures) (collect-push whole rest all (step (l .row) 1 (diagonalOf (a .width) (a .disk) (l .row))) (l .rows) (l .kinds) (l .numbers) (l .count) (diagonal-some (a .width) (a .disk) (l .row) rs h (at ∙ w .0 .taken)) (room (record { before = c .before; if1 = w .0 })) (l .inv .1)))
           (λ w. rw (w .1, w .2, w .3, w .4) (collect-skip whole rest all (l .rows) (l .kinds) (l .numbers) (l .count) (diagonal-none (a .width) (a .disk) (l .row) rs h (λ e. w .0 .left (sym at ∙ e))) (l .inv .1)))
           (c .if1 .came),
     )
@@ -92,13 +96,11 @@ diagonal-steps-spec =
     Inv-loop
     μ-loop
     loop-holds
+    (λ c κs. search needs)
     (λ c. search needs)
     (λ c. search needs)
     array-write-rows
     array-write-kinds
-    (λ c. search needs)
-    (λ c. search needs)
-    (λ c. search needs)
     cast-numbers
     array-write-numbers
     add-count

@@ -1,25 +1,24 @@
--- `extra_diagonal`: both answers are remainders by the width.
-use native.Mathlib.Nat.{mod-lt}
+-- `extra_diagonal`: the answers are below the width.
 use native.Mathlib.Omega.{arith}
-use Prim.Native.Nat.{_+_, _*_, _-_, _/_}
 use borrow.Author.Needs.{needs}
+use Prim.Native.Nat.{_/_}
+use Rattle.sets.proofs.NumberLaws.{numbered}
 use Rattle.suspects.proofs.extra_diagonal.Statement.{statement}
 use Rattle.suspects.proofs.extra_diagonal.Tie as tie
 
-returns : tie.Need-returns
-returns c = let a = c .before .args in mod-lt ((2 * a .width - a .disk) / 2) (omega arith)
+diagonal-of-requires : tie.Need-diagonal-of-requires
+diagonal-of-requires c κs = let q = c .before .pre in (q .1, q .0, omega (arith, q .2, q .0))
 
-returns-2 : tie.Need-returns-2
-returns-2 c = let a = c .before .args in mod-lt ((2 * a .width - a .disk + a .width) / 2) (omega arith)
+returns : tie.Need-returns
+returns c = let a = c .before .before .args in numbered (a .width) (a .disk / 2) 0 (c .diagonal-of .result) (c .before .before .pre .0) (c .diagonal-of .ensures)
 
 pub extra-diagonal-spec : {M : Type 1} → statement M
 extra-diagonal-spec =
     tie.close
     (tie.spec
     (λ c. search needs)
-    (λ c. search needs)
-    (λ c. search needs)
+    diagonal-of-requires
     returns
     (λ c. search needs)
     (λ c. search needs)
-    returns-2)
+    (λ c. search needs))

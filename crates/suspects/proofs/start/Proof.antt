@@ -1,13 +1,17 @@
 -- `start`: each of the three numbers is below the width.
-use native.Mathlib.Nat.{mod-lt}
 use native.Mathlib.Omega.{arith}
-use Prim.Native.Nat.{_+_, _-_}
 use borrow.Author.Needs.{needs}
+use Rattle.sets.proofs.NumberLaws.{numbered}
 use Rattle.suspects.proofs.start.Statement.{statement}
 use Rattle.suspects.proofs.start.Tie as tie
 
+diagonal-of-requires : tie.Need-diagonal-of-requires
+diagonal-of-requires c κs = let q = c .before .before .pre in (q .0, omega (arith, c .before .if1 .left), omega (arith, c .if2 .left, q .1))
+
 returns-3 : tie.Need-returns-3
-returns-3 c = let a = c .before .before .args in mod-lt (a .dirty + a .width - a .disk) (omega arith)
+returns-3 c =
+    let a = c .before .before .before .args in
+    numbered (a .width) (a .disk) (a .dirty) (c .diagonal-of .result) (omega arith) (c .diagonal-of .ensures)
 
 pub start-spec : {M : Type 1} → statement M
 start-spec =
@@ -15,7 +19,5 @@ start-spec =
     (tie.spec
     (λ c. search needs)
     (λ c. search needs)
-    (λ c. search needs)
-    (λ c. search needs)
-    (λ c. search needs)
+    diagonal-of-requires
     returns-3)

@@ -1,0 +1,2 @@
+-- What the balanced planner promises.
+pub mod Says

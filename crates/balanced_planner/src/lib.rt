@@ -1,0 +1,15 @@
+// The balanced plan for one lost disk with its read count. Nothing here knows of bytes in stripes.
+ghost use Rattle.balanced_planner.specs.Says.{BalancedSays};
+use planner::Plan;
+
+// The balanced plan for a lost disk: for a data disk it reads as few cells as ours, spread over the survivors; for P and Q it is our plan. Refusals: 1, 13, 3.
+pub fn balanced_plan(width: usize, disks: usize, lost: usize) -> Plan
+    ensures { λ r. ⌜ BalancedSays width disks lost r ⌝ }
+{
+    let fault = refusals::plan_fault(width, disks, lost);
+    if fault != 0 {
+        return planner::refused_plan(fault);
+    }
+    let p = balanced_steps::balanced_steps(width, disks, lost);
+    planner::finished(width, disks, lost, p)
+}

@@ -1,0 +1,2 @@
+-- The routes by squares.
+pub mod SquareRoutes

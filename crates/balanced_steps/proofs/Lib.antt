@@ -1,0 +1,2 @@
+-- The balanced plan by the kind of disk.
+pub mod BalancedLaws

@@ -1,0 +1,2 @@
+-- What the balanced plan without its read count promises.
+pub mod Says

@@ -1,0 +1,3 @@
+-- Equations over bits, as words.
+pub mod Parity
+pub mod Rows

@@ -1,0 +1,1 @@
+// Equations over bits as words, and their reduction: definitions, with the theorems about them. No functions.

@@ -1,0 +1,2 @@
+-- What a list of missing cells is.
+pub mod Listed

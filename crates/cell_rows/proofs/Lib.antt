@@ -1,0 +1,4 @@
+-- The loops over marks, cells and sets.
+pub mod MarkLoops
+pub mod NumberedLaws
+pub mod WordLoops

@@ -1,0 +1,2 @@
+-- Words made from marks.
+pub mod Words

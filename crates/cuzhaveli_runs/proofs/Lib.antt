@@ -1,0 +1,2 @@
+-- What both calls that store a record share.
+pub mod GuardLaws

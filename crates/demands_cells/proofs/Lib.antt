@@ -1,0 +1,2 @@
+-- What the mend of missing cells means.
+pub mod Cells

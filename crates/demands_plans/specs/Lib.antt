@@ -1,0 +1,2 @@
+-- What the theorems count.
+pub mod Counts

@@ -1,0 +1,3 @@
+-- Squares mod p, and the balanced plan.
+pub mod Squares
+pub mod Balanced

@@ -1,0 +1,8 @@
+-- Theorems about the mend of cells lost one by one.
+pub mod WordLaws
+pub mod OddCells
+pub mod MendLaws
+pub mod LitStripes
+pub mod Exact
+pub mod Marked
+pub mod WholeDisks

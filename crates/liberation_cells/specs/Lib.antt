@@ -1,0 +1,2 @@
+-- Cells lost one by one, on any disks.
+pub mod Mending

@@ -1,0 +1,2 @@
+-- The bytes of each step in their places.
+pub mod FillLaws

@@ -1,0 +1,2 @@
+-- The promise of the read list of a plan.
+pub mod PlanListLaws

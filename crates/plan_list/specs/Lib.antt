@@ -1,0 +1,2 @@
+-- What the read list of a plan promises.
+pub mod Says

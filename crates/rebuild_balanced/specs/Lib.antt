@@ -1,0 +1,2 @@
+-- What the rebuild by the balanced plan promises.
+pub mod Says

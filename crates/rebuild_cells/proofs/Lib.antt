@@ -1,0 +1,2 @@
+-- The refusals, and the promise from what was refused or done.
+pub mod MendRefusals

@@ -1,0 +1,46 @@
+// The mend of missing cells, on any disks of a stripe, in place. Refusals are tested here; the mend is below.
+ghost use mathlib.Core.Path.{_≡_};
+ghost use mathlib.Core.Bool.{not};
+ghost use Prim.Native.Nat.{_+_, _*_};
+ghost use lib.Dec.{eqb};
+ghost use Rattle.laws.specs.Choice.{when, firstOf};
+ghost use Rattle.liberation.specs.Sets.{shapeFault};
+ghost use Rattle.liberation_stripes.specs.Stripes.{stripeLong};
+ghost use Rattle.rebuild_cells.specs.Says.{RebuildCellsSays};
+use refusals::Answer;
+use refusals::Shape;
+
+// The refusal by 1, 13, 2 or 5 of a call with `marks` marks on a stripe of `long` bytes, 0 for none.
+fn lent_fault(width: usize, disks: usize, size: usize, marks: usize, long: usize) -> u8
+    ensures { λ r. ⌜ r ≡ firstOf (shapeFault width disks size) (firstOf (when (not (eqb marks (width * (disks + 2)))) 5) (when (not (eqb long (stripeLong width disks size))) 5)) ⌝ }
+{
+    let fault = refusals::shape_fault(width, disks, size);
+    if fault != 0 {
+        return fault;
+    }
+    let first = number_tests::length_fault(marks, width * (disks + 2));
+    if first != 0 {
+        return first;
+    }
+    number_tests::length_fault(long, (disks + 2) * (width * size))
+}
+
+// Mends the cells whose marks are not 0, in place. Refusals: 1, 13, 2, 5, and 23 where the other cells do not determine them; a refused call leaves the stripe as it was.
+pub fn rebuild_cells(shape: Shape, missing: &[u8], stripe: &mut [u8]) -> Answer
+    ensures { λ r. ⌜ RebuildCellsSays (shape .width) (shape .disks) (shape .«cell_size») (now (missing .entry)) (now (stripe .entry)) (now (stripe .exit)) r ⌝ }
+{
+    let refusal = lent_fault(
+        shape.width,
+        shape.disks,
+        shape.cell_size,
+        missing.len(),
+        stripe.len(),
+    );
+    if refusal != 0 {
+        return refusals::answered(refusal);
+    }
+    if cell_mends::mend(shape.width, shape.disks, shape.cell_size, missing, stripe) {
+        return refusals::answered(0);
+    }
+    refusals::answered(23)
+}

@@ -1,0 +1,2 @@
+-- What the first tests leave.
+pub mod ByPlanLaws

@@ -1,0 +1,2 @@
+-- What the rebuild by a given plan promises.
+pub mod Says

@@ -1,0 +1,2 @@
+-- The steps of the routes are the plan.
+pub mod PlanLaws

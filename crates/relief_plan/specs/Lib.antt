@@ -1,0 +1,2 @@
+-- What the planner that relieves a disk promises.
+pub mod Says

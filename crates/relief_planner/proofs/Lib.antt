@@ -1,0 +1,2 @@
+-- The relief plan by the kind of disk.
+pub mod ReliefLaws

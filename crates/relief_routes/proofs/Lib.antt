@@ -1,0 +1,2 @@
+-- The routes after each step of the walk.
+pub mod StepLaws

@@ -1,0 +1,1 @@
+-- Nothing beyond the theory's definitions.

@@ -1,0 +1,2 @@
+-- The loops of the reduction.
+pub mod RowLoops

@@ -1,0 +1,2 @@
+-- Rows that are lent as two slices of words.
+pub mod Lent
