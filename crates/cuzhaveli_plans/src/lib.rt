@@ -1,7 +1,10 @@
 // The calls on plans for C and Rust: each hands its numbers and slices on to the proved call and promises what that call promises.
 // Widths, disks, sizes and lengths come in as `usize`, so nothing is narrowed before it is tested.
 ghost use Rattle.planner.specs.Says.{PlanSays};
+ghost use Rattle.balanced_planner.specs.Says.{BalancedSays};
+ghost use Rattle.relief_planner.specs.Says.{ReliefSays};
 ghost use Rattle.read_list.specs.Says.{ListSays};
+ghost use Rattle.plan_list.specs.Says.{PlanListSays};
 ghost use Rattle.judge.specs.Says.{JudgeSays};
 ghost use Rattle.judge_text.specs.Says.{JudgeTextSays};
 ghost use Rattle.plan_files.specs.Says.{WriteSays, PlainSays};
@@ -20,6 +23,27 @@ pub extern "C" fn cuzhaveli_plan_disk(width: usize, disks: usize, lost: usize) -
     planner::plan_disk(width, disks, lost)
 }
 
+// The balanced plan for a lost disk.
+#[no_mangle]
+pub extern "C" fn cuzhaveli_balanced_plan(width: usize, disks: usize, lost: usize) -> Plan
+    ensures { λ r. ⌜ BalancedSays width disks lost r ⌝ }
+{
+    balanced_planner::balanced_plan(width, disks, lost)
+}
+
+// The plan for a lost disk that relieves another data disk.
+#[no_mangle]
+pub extern "C" fn cuzhaveli_relief_plan(
+    width: usize,
+    disks: usize,
+    lost: usize,
+    relieved: usize,
+) -> Plan
+    ensures { λ r. ⌜ ReliefSays width disks lost relieved r ⌝ }
+{
+    relief_planner::relief_plan(width, disks, lost, relieved)
+}
+
 // The read list of our plan, into a lent slice of p(k + 2) bytes.
 #[no_mangle]
 pub extern "C" fn cuzhaveli_read_list(
@@ -31,6 +55,20 @@ pub extern "C" fn cuzhaveli_read_list(
     ensures { λ r. ⌜ ListSays width disks lost (now (list .entry)) (now (list .exit)) r ⌝ }
 {
     read_list::read_list(width, disks, lost, list)
+}
+
+// The read list of an accepted plan of 3 × p bytes, into a lent slice of p(k + 2) bytes.
+#[no_mangle]
+pub extern "C" fn cuzhaveli_plan_list(
+    width: usize,
+    disks: usize,
+    lost: usize,
+    plan: &[u8],
+    list: &mut [u8],
+) -> Answer
+    ensures { λ r. ⌜ PlanListSays width disks lost (now (plan .entry)) (now (list .entry)) (now (list .exit)) r ⌝ }
+{
+    plan_list::plan_list(width, disks, lost, plan, list)
 }
 
 // The judge of a plan of 3 × p bytes.

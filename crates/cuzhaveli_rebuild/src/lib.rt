@@ -1,6 +1,8 @@
 // The calls for C and Rust that rebuild lost disks of a stripe.
 // Each hands its arguments on to the proved call and promises what that call promises.
 ghost use Rattle.rebuild_one.specs.Says.{OneSays};
+ghost use Rattle.rebuild_plan.specs.Says.{ByPlanSays};
+ghost use Rattle.rebuild_balanced.specs.Says.{BalancedOneSays};
 ghost use Rattle.rebuild_two.specs.Says.{TwoSays};
 use refusals::Answer;
 use refusals::Shape;
@@ -16,6 +18,33 @@ pub extern "C" fn cuzhaveli_rebuild_one(
     ensures { λ r. ⌜ OneSays (shape .width) (shape .disks) (shape .«cell_size») lost (now (stripe .entry)) (now (column .entry)) (now (column .exit)) r ⌝ }
 {
     rebuild_one::rebuild_one(shape, lost, stripe, column)
+}
+
+// Rebuilds one lost disk by an accepted plan of 3 × p bytes.
+#[no_mangle]
+pub extern "C" fn cuzhaveli_rebuild_by_plan(
+    shape: Shape,
+    lost: usize,
+    plan: &[u8],
+    stripe: &[u8],
+    column: &mut [u8],
+) -> Answer
+    ensures { λ r. ⌜ ByPlanSays (shape .width) (shape .disks) (shape .«cell_size») lost (now (plan .entry)) (now (stripe .entry)) (now (column .entry)) (now (column .exit)) r ⌝ }
+{
+    rebuild_plan::rebuild_by_plan(shape, lost, plan, stripe, column)
+}
+
+// Rebuilds one lost disk by the balanced plan.
+#[no_mangle]
+pub extern "C" fn cuzhaveli_rebuild_balanced(
+    shape: Shape,
+    lost: usize,
+    stripe: &[u8],
+    column: &mut [u8],
+) -> Answer
+    ensures { λ r. ⌜ BalancedOneSays (shape .width) (shape .disks) (shape .«cell_size») lost (now (stripe .entry)) (now (column .entry)) (now (column .exit)) r ⌝ }
+{
+    rebuild_balanced::rebuild_balanced(shape, lost, stripe, column)
 }
 
 // Rebuilds two lost disks of a lent stripe in place.
