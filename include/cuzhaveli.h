@@ -57,21 +57,21 @@ extern "C" {
 #define CUZHAVELI_STRIPE_BYTES(shape) (((shape).disks + 2) * CUZHAVELI_COLUMN_BYTES(shape))
 #define CUZHAVELI_SERVERS_BYTES(shape, m) (((size_t)(m) + 1) * CUZHAVELI_STRIPE_BYTES(shape)) /* of all servers */
 #define CUZHAVELI_LOSSES_BYTES(m) ((size_t)2 * ((size_t)(m) + 1))                             /* of all servers */
-#define CUZHAVELI_LIST_BYTES(p, k) (((size_t)(k) + 2) * (size_t)(p)) /* a read list */
-#define CUZHAVELI_PLAN_BYTES(p) ((size_t)3 * (size_t)(p))            /* a plan for the judge */
+#define CUZHAVELI_LIST_BYTES(p, k) (((size_t)(k) + 2) * (size_t)(p)) /* a read list, or marks of missing cells */
+#define CUZHAVELI_PLAN_BYTES(p) ((size_t)3 * (size_t)(p))            /* a plan as bytes */
 
 /* A byte of a server's losses that names no disk. */
 #define CUZHAVELI_NO_LOSS 255
 
-/* The place of a cell in a read list; times the cell size, its first byte in a stripe. */
+/* The place of a cell in a read list or among marks; times the cell size, its first byte in a stripe. */
 #define CUZHAVELI_CELL(p, row, disk) ((size_t)(disk) * (size_t)(p) + (size_t)(row))
 
 enum cuzhaveli_refusal {
     CUZHAVELI_OK = 0,
     CUZHAVELI_BAD_WIDTH = 1,          /* p is not one of the ten */
     CUZHAVELI_BAD_CELL_SIZE = 2,      /* s is 0 or over 4096 */
-    CUZHAVELI_NO_SUCH_DISK = 3,       /* a disk number over k + 1; of a cell to be updated, k or more */
-    CUZHAVELI_SAME_DISK = 4,          /* the two lost disks are one */
+    CUZHAVELI_NO_SUCH_DISK = 3,       /* a disk number over k + 1; of an updated cell or a relieved disk, k or more */
+    CUZHAVELI_SAME_DISK = 4,          /* two disks that must differ are the same */
     CUZHAVELI_BAD_LENGTH = 5,         /* a length is another than the one required */
     CUZHAVELI_STEP_RANGE = 6,         /* a step's row or set number is p or more, or its kind over 1 */
     CUZHAVELI_STEP_SET = 7,           /* the step's set lacks that row's lost cell */
@@ -89,7 +89,8 @@ enum cuzhaveli_refusal {
     CUZHAVELI_SURVIVORS_DISAGREE = 19, /* the surviving disks are those of no clean stripe; tested last */
     CUZHAVELI_NO_SUCH_ARRAY = 20,     /* an array number beyond the list, or a list of more than 64; tested first */
     CUZHAVELI_DISK_UNCHANGED = 21,    /* a loss of a lost disk, or a return of a present one; tested last */
-    CUZHAVELI_BAD_PLAN_TEXT = 22      /* a text that is not of a plan's form, or not of p lines; tested after 5 */
+    CUZHAVELI_BAD_PLAN_TEXT = 22,     /* a text that is not of a plan's form, or not of p lines; tested after 5 */
+    CUZHAVELI_UNDETERMINED = 23       /* the other cells do not determine the missing ones; tested last */
 };
 
 /* p, k and s. */
@@ -240,6 +241,30 @@ struct cuzhaveli_disks_run {
  * k = p reads. Refuses 1, 13, 3. */
 struct cuzhaveli_plan cuzhaveli_plan_disk(size_t width, size_t disks, size_t lost);
 
+/* The balanced plan for a lost data disk: no survivor gives more than (3 * p + 2) / 4 of its cells, 23 of 31, where our
+ * plan asks up to p - 1 of one. Every plan that the judge accepts has a survivor that gives as many where k = p, and
+ * where k < p if lost >= (p - 1) / 2 or lost + (p - 1) / 2 < k. Where k = p it reads (3 * p * p + 1) / 4 cells in all,
+ * as few as ours. For P and Q it is our plan. Refuses 1, 13, 3. */
+struct cuzhaveli_plan cuzhaveli_balanced_plan(size_t width, size_t disks, size_t lost);
+
+/* The plan that asks least of one surviving data disk, `relieved`, such as one that is slow or failing: (p + 1) / 2 of
+ * its cells, and no plan that the judge accepts asks less of any surviving data disk. Other disks give up to p - 1.
+ * Where k = p it reads (3 * p * p + 1) / 4 cells in all, as few as ours. For a lost P or Q it is our plan, which reads
+ * every data disk whole. Refuses 1, 13, 3 (lost), 3 (relieved, for P and Q too), 4. */
+struct cuzhaveli_plan cuzhaveli_relief_plan(size_t width, size_t disks, size_t lost, size_t relieved);
+
+/* Writes a plan's steps as bytes, three a step: row, kind, set number, as the calls below take a plan. `width` is that
+ * of the call that gave the plan; `bytes` has room for CUZHAVELI_PLAN_BYTES(width). */
+static inline void cuzhaveli_plan_bytes(const struct cuzhaveli_plan *plan, size_t width, uint8_t *bytes)
+{
+    size_t n;
+    for (n = 0; n < width && n < CUZHAVELI_MAX_WIDTH; n++) {
+        bytes[3 * n] = plan->steps.rows[n];
+        bytes[3 * n + 1] = plan->steps.kinds[n];
+        bytes[3 * n + 2] = plan->steps.numbers[n];
+    }
+}
+
 /* Marks the cells that our plan reads: writes list[0 .. CUZHAVELI_LIST_BYTES(width, disks)), 1 at
  * CUZHAVELI_CELL(width, row, disk) for a cell that is read, else 0. Only these have to be read from disk before a
  * rebuild of that lost disk. Refuses 1, 13, 3, 5. */
@@ -250,6 +275,11 @@ struct cuzhaveli_answer cuzhaveli_read_list(size_t width, size_t disks, size_t l
  * `place` is the step. Refuses 1, 13, 3, 5, 6, 7, 8, 9. */
 struct cuzhaveli_judged cuzhaveli_judge_plan(size_t width, size_t disks, size_t lost, const uint8_t *plan,
                                              size_t plan_len);
+
+/* Marks the cells that a plan of CUZHAVELI_PLAN_BYTES(width) bytes reads, if the judge accepts it, as
+ * cuzhaveli_read_list does for ours. Refuses 1, 13, 3, 5, 6, 7, 8, 9. */
+struct cuzhaveli_answer cuzhaveli_plan_list(size_t width, size_t disks, size_t lost, const uint8_t *plan,
+                                            size_t plan_len, uint8_t *list, size_t list_len);
 
 /* What the plan program prints for an input of input_len bytes, with k = p. The input has the lines `p,lost` and two
  * numbers such as `5,1`, each of one or two digits without leading zeros, ended by LF; the text has the line
@@ -311,11 +341,24 @@ struct cuzhaveli_scrubbed cuzhaveli_scrub_stripe(struct cuzhaveli_shape shape, c
 struct cuzhaveli_answer cuzhaveli_rebuild_one(struct cuzhaveli_shape shape, size_t lost, const uint8_t *stripe,
                                               size_t stripe_len, uint8_t *column, size_t column_len);
 
-/* Does the same where the surviving disks are those of a clean stripe, and refuses by 19 exactly where no clean stripe
- * has all surviving cells: the column is then the lost disk of that stripe. Every surviving cell is read, on the read
- * list or not; what the stripe holds for the lost disk plays no part. A changed byte of one surviving disk is always
- * noticed; exchanged disks are, unless what stands there is a clean stripe's after all, as it is if Q is lost. On a
- * refusal the column stands. Refuses 1, 13, 2, 3, 5, 19. */
+/* Does the same by the balanced plan: only the cells that cuzhaveli_plan_list marks for it matter. Refuses 1, 13, 2, 3,
+ * 5. */
+struct cuzhaveli_answer cuzhaveli_rebuild_balanced(struct cuzhaveli_shape shape, size_t lost, const uint8_t *stripe,
+                                                   size_t stripe_len, uint8_t *column, size_t column_len);
+
+/* Does the same by any plan that the judge accepts, CUZHAVELI_PLAN_BYTES(shape.width) bytes: only the cells that
+ * cuzhaveli_plan_list marks for it matter, and the cell that a step rebuilds goes to that row of the column, so that
+ * accepted orders of the same steps give the same. On a refusal the column stands. Refuses 1, 13, 2, 3, 5, 6, 7, 8,
+ * 9. */
+struct cuzhaveli_answer cuzhaveli_rebuild_by_plan(struct cuzhaveli_shape shape, size_t lost, const uint8_t *plan,
+                                                  size_t plan_len, const uint8_t *stripe, size_t stripe_len,
+                                                  uint8_t *column, size_t column_len);
+
+/* Does what cuzhaveli_rebuild_one does where the surviving disks are those of a clean stripe, and refuses by 19 exactly
+ * where no clean stripe has all surviving cells: the column is then the lost disk of that stripe. Every surviving cell
+ * is read, on the read list or not; what the stripe holds for the lost disk plays no part. A changed byte of one
+ * surviving disk is always noticed; exchanged disks are, unless what stands there is a clean stripe's after all, as it
+ * is if Q is lost. On a refusal the column stands. Refuses 1, 13, 2, 3, 5, 19. */
 struct cuzhaveli_answer cuzhaveli_rebuild_tested(struct cuzhaveli_shape shape, size_t lost, const uint8_t *stripe,
                                                  size_t stripe_len, uint8_t *column, size_t column_len);
 
@@ -324,6 +367,15 @@ struct cuzhaveli_answer cuzhaveli_rebuild_tested(struct cuzhaveli_shape shape, s
  * Refuses 1, 13, 2, 3, 4, 5. */
 struct cuzhaveli_answer cuzhaveli_rebuild_two(struct cuzhaveli_shape shape, size_t first, size_t second,
                                               uint8_t *stripe, size_t stripe_len);
+
+/* Writes the missing cells of a stripe in their places: those whose byte in `missing`, at CUZHAVELI_CELL(shape.width,
+ * row, disk) of CUZHAVELI_LIST_BYTES(shape.width, shape.disks), is not 0. What the stripe holds for them is never used,
+ * and no other byte changes. It refuses by 23 exactly if the other cells do not determine the missing ones: if two
+ * different clean stripes agree on all of the others. Cells on up to two disks are always determined, more than 2 * p
+ * cells never. If the other cells are those of a clean stripe, that one stands there after; else each missing cell is
+ * what some of the sets give. Refuses 1, 13, 2, 5, 23. */
+struct cuzhaveli_answer cuzhaveli_rebuild_cells(struct cuzhaveli_shape shape, const uint8_t *missing,
+                                                size_t missing_len, uint8_t *stripe, size_t stripe_len);
 
 /* Puts `cell`, shape.cell_size bytes, into row `row` of data disk `disk`. Beside that cell only the P cell of its row
  * and the Q cells of the diagonals that hold it change (one, or two for an extra cell), so that the XOR of every set is

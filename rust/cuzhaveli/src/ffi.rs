@@ -59,7 +59,7 @@ records! {
         pub numbers: [u8; 31],
     }
 
-    /// Our plan for a lost disk.
+    /// A plan for a lost disk.
     pub struct Plan {
         pub answer: Answer,
         pub steps: Steps,
@@ -181,6 +181,10 @@ pub struct Text {
 extern "C" {
     pub fn cuzhaveli_plan_disk(width: usize, disks: usize, lost: usize) -> Plan;
 
+    pub fn cuzhaveli_balanced_plan(width: usize, disks: usize, lost: usize) -> Plan;
+
+    pub fn cuzhaveli_relief_plan(width: usize, disks: usize, lost: usize, relieved: usize) -> Plan;
+
     pub fn cuzhaveli_read_list(
         width: usize,
         disks: usize,
@@ -196,6 +200,16 @@ extern "C" {
         plan: *const u8,
         plan_len: usize,
     ) -> Judged;
+
+    pub fn cuzhaveli_plan_list(
+        width: usize,
+        disks: usize,
+        lost: usize,
+        plan: *const u8,
+        plan_len: usize,
+        list: *mut u8,
+        list_len: usize,
+    ) -> Answer;
 
     pub fn cuzhaveli_plan_text(input: *const u8, input_len: usize) -> Text;
 
@@ -249,6 +263,26 @@ extern "C" {
         column_len: usize,
     ) -> Answer;
 
+    pub fn cuzhaveli_rebuild_balanced(
+        shape: Shape,
+        lost: usize,
+        stripe: *const u8,
+        stripe_len: usize,
+        column: *mut u8,
+        column_len: usize,
+    ) -> Answer;
+
+    pub fn cuzhaveli_rebuild_by_plan(
+        shape: Shape,
+        lost: usize,
+        plan: *const u8,
+        plan_len: usize,
+        stripe: *const u8,
+        stripe_len: usize,
+        column: *mut u8,
+        column_len: usize,
+    ) -> Answer;
+
     pub fn cuzhaveli_rebuild_tested(
         shape: Shape,
         lost: usize,
@@ -262,6 +296,14 @@ extern "C" {
         shape: Shape,
         first: usize,
         second: usize,
+        stripe: *mut u8,
+        stripe_len: usize,
+    ) -> Answer;
+
+    pub fn cuzhaveli_rebuild_cells(
+        shape: Shape,
+        missing: *const u8,
+        missing_len: usize,
         stripe: *mut u8,
         stripe_len: usize,
     ) -> Answer;

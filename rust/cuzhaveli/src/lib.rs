@@ -34,7 +34,9 @@
 mod bill;
 pub mod ffi;
 mod plan;
+mod plans;
 mod read_list;
+mod rebuild;
 mod refusal;
 mod run;
 mod shape;

@@ -40,7 +40,7 @@ pub fn plan_text(input: &[u8]) -> Vec<u8> {
     text.bytes[..text.length].to_vec()
 }
 
-/// Our plan for one lost disk.
+/// A plan for one lost disk: ours, the balanced one, or one that relieves a disk.
 #[derive(Clone, Debug, PartialEq, Eq)]
 pub struct Plan {
     plan: ffi::Plan,
@@ -72,6 +72,16 @@ impl Plan {
             };
             Step { row: steps.rows[place], set }
         })
+    }
+
+    /// The steps as bytes, three a step: row, kind, set number, as the calls on any plan take them.
+    ///
+    /// ```
+    /// assert_eq!(cuzhaveli::Shape::new(3, 3, 1)?.plan(1)?.bytes(), [0, 0, 0, 1, 1, 0, 2, 1, 1]);
+    /// # Ok::<(), cuzhaveli::Refusal>(())
+    /// ```
+    pub fn bytes(&self) -> Vec<u8> {
+        self.steps().flat_map(|step| step.bytes()).collect()
     }
 
     /// How many different surviving cells the plan reads.

@@ -2,7 +2,7 @@
 
 use std::ops::Range;
 
-/// The cells that a rebuild of one lost disk by our plan reads.
+/// The cells that a rebuild of one lost disk by a plan reads.
 #[derive(Clone, Debug, PartialEq, Eq)]
 pub struct ReadList {
     marks: Vec<u8>,
@@ -35,6 +35,17 @@ impl ReadList {
     /// ```
     pub fn len(&self) -> usize {
         self.marks.iter().filter(|mark| **mark == 1).count()
+    }
+
+    /// How many cells of a disk are read; none of a disk that the array lacks.
+    ///
+    /// ```
+    /// let list = cuzhaveli::Shape::new(5, 5, 1)?.read_list(1)?;
+    /// assert_eq!((list.share(0), list.share(1), list.share(5)), (3, 0, 3)); // disk 1 is lost, 5 is P
+    /// # Ok::<(), cuzhaveli::Refusal>(())
+    /// ```
+    pub fn share(&self, disk: usize) -> usize {
+        self.columns().nth(disk).map_or(0, |marks| marks.iter().filter(|mark| **mark == 1).count())
     }
 
     /// Whether no cell is read: never so.

@@ -41,7 +41,7 @@ kinds! {
     BadWidth = 1, "the width is not one of 3, 5, 7, 11, 13, 17, 19, 23, 29, 31";
     BadCellSize = 2, "the cell size is 0 or over 4096";
     NoSuchDisk = 3, "the array has no disk of that number, or no data disk";
-    SameDisk = 4, "the two lost disks are one";
+    SameDisk = 4, "two disks that must differ are the same";
     BadLength = 5, "a slice has another length than the one required";
     StepRange = 6, "the row or set number of a step is the width or more, or its kind over 1";
     StepSet = 7, "the set of a step lacks that row's lost cell";
@@ -60,6 +60,7 @@ kinds! {
     NoSuchArray = 20, "the list has no array of that number, or more than 64 arrays";
     DiskUnchanged = 21, "the disk reported lost is lost, or the one reported back is not";
     BadPlanText = 22, "the text is not of a plan's form, or has another number of lines than the width";
+    Undetermined = 23, "the other cells do not determine the missing ones";
     Unknown = 255, "a refusal that this version of the crate does not know";
 }
 

@@ -43,6 +43,8 @@ fn a_slice_of_another_length_gives_5_and_stands() {
     for shape in shapes() {
         let (stripe, column) = (shape.stripe_len(), shape.column_len());
         let mut run = shape.open_run(0, 1).unwrap();
+        let plan = shape.plan(0).unwrap().bytes();
+        let no_marks = vec![0; shape.width() * (shape.disks() + 2)];
         for other in other_lengths(stripe) {
             let mut bytes = vec![7; other];
             let mut right = vec![9; column];
@@ -53,6 +55,9 @@ fn a_slice_of_another_length_gives_5_and_stands() {
             assert_eq!(number(shape.update_cell(0, 0, &mut bytes, &[7; 3])), 5);
             assert_eq!(number(shape.rebuild_one(0, &bytes, &mut right)), 5);
             assert_eq!(number(shape.rebuild_tested(0, &bytes, &mut right)), 5);
+            assert_eq!(number(shape.rebuild_balanced(0, &bytes, &mut right)), 5);
+            assert_eq!(number(shape.rebuild_by_plan(0, &plan, &bytes, &mut right)), 5);
+            assert_eq!(number(shape.rebuild_cells(&no_marks, &mut bytes)), 5);
             assert_eq!(number(run.step(0, &bytes, &mut right)), 5);
             assert_eq!((bytes, right), (vec![7; other], vec![9; column]));
         }
@@ -60,6 +65,8 @@ fn a_slice_of_another_length_gives_5_and_stands() {
             let (bytes, mut part) = (vec![7; stripe], vec![9; other]);
             assert_eq!(number(shape.rebuild_one(0, &bytes, &mut part)), 5);
             assert_eq!(number(shape.rebuild_tested(0, &bytes, &mut part)), 5);
+            assert_eq!(number(shape.rebuild_balanced(0, &bytes, &mut part)), 5);
+            assert_eq!(number(shape.rebuild_by_plan(0, &plan, &bytes, &mut part)), 5);
             assert_eq!(number(run.step(0, &bytes, &mut part)), 5);
             assert_eq!(part, vec![9; other]);
         }
@@ -75,7 +82,16 @@ fn a_slice_of_another_length_gives_5_and_stands() {
             assert_eq!(number(shape.write_plan(0, &vec![step; other])), 5);
         }
         for other in other_lengths(3 * shape.width()) {
+            let (bytes, mut part) = (vec![7; stripe], vec![9; column]);
             assert_eq!(number(shape.judge_bytes(0, &vec![0; other])), 5);
+            assert_eq!(number(shape.plan_list(0, &vec![0; other])), 5);
+            assert_eq!(number(shape.rebuild_by_plan(0, &vec![0; other], &bytes, &mut part)), 5);
+            assert_eq!(part, vec![9; column]);
+        }
+        for other in other_lengths(no_marks.len()) {
+            let mut bytes = vec![7; stripe];
+            assert_eq!(number(shape.rebuild_cells(&vec![1; other], &mut bytes)), 5);
+            assert_eq!(bytes, vec![7; stripe]);
         }
         assert_eq!(run, shape.open_run(0, 1).unwrap());
     }
@@ -88,17 +104,27 @@ fn a_disk_that_is_not_there_gives_3() {
         for disk in HUGE.into_iter().chain([shape.disks() + 2, 40]) {
             assert_eq!(number(shape.plan(disk)), 3);
             assert_eq!(number(shape.read_list(disk)), 3);
+            assert_eq!(number(shape.balanced_plan(disk)), 3);
+            assert_eq!(number(shape.relief_plan(disk, 0)), 3);
+            assert_eq!(number(shape.relief_plan(0, disk)), 3);
+            assert_eq!(number(shape.plan_list(disk, &[])), 3);
             assert_eq!(number(shape.judge(disk, &[])), 3);
             assert_eq!(number(shape.judge_text(disk, b"")), 3);
             assert_eq!(number(shape.write_plan(disk, &[])), 3);
             assert_eq!(number(shape.plain_text(disk, b"")), 3);
             assert_eq!(number(shape.rebuild_one(disk, &stripe, &mut column)), 3);
             assert_eq!(number(shape.rebuild_tested(disk, &stripe, &mut column)), 3);
+            assert_eq!(number(shape.rebuild_balanced(disk, &stripe, &mut column)), 3);
+            assert_eq!(number(shape.rebuild_by_plan(disk, &[], &stripe, &mut column)), 3);
             assert_eq!(number(shape.rebuild_two([disk, disk], &mut stripe)), 3);
             assert_eq!(number(shape.update_cell(0, disk, &mut stripe, &[])), 3);
             assert_eq!(number(shape.open_run(disk, 1)), 3);
             assert_eq!(number(shape.resume_run(disk, 1, 0, 0)), 3);
         }
+        for parity in [shape.disks(), shape.disks() + 1] {
+            assert_eq!(number(shape.relief_plan(parity, parity)), 3);
+        }
+        assert_eq!(number(shape.relief_plan(1, 1)), 4);
         assert_eq!(number(shape.rebuild_two([1, 1], &mut stripe)), 4);
     }
 }
