@@ -84,6 +84,7 @@ int main(int argc, char **argv)
         c->random.state = seed * 2654435761u + (uint64_t)t + 1;
         c->first = new_lent();
         c->second = new_lent();
+        c->third = new_lent();
         if (pthread_create(&threads[t], NULL, make_calls, c) != 0) {
             fprintf(stderr, "boundary: no thread; raise the limit of processes\n");
             return 2;

@@ -8,8 +8,11 @@
 /* The second implementation, tests/second, under names of its own; of the rebuild of two disks it has the refusals:
  * any contents of the other disks belong to exactly one clean stripe, so a clean result is the right one. */
 extern __typeof__(cuzhaveli_plan_disk) second_plan_disk;
+extern __typeof__(cuzhaveli_balanced_plan) second_balanced_plan;
+extern __typeof__(cuzhaveli_relief_plan) second_relief_plan;
 extern __typeof__(cuzhaveli_read_list) second_read_list;
 extern __typeof__(cuzhaveli_judge_plan) second_judge_plan;
+extern __typeof__(cuzhaveli_plan_list) second_plan_list;
 extern __typeof__(cuzhaveli_plan_text) second_plan_text;
 extern __typeof__(cuzhaveli_judge_text) second_judge_text;
 extern __typeof__(cuzhaveli_write_plan) second_write_plan;
@@ -19,7 +22,10 @@ extern __typeof__(cuzhaveli_encode_stripe) second_encode_stripe;
 extern __typeof__(cuzhaveli_check_stripe) second_check_stripe;
 extern __typeof__(cuzhaveli_scrub_stripe) second_scrub_stripe;
 extern __typeof__(cuzhaveli_rebuild_one) second_rebuild_one;
+extern __typeof__(cuzhaveli_rebuild_balanced) second_rebuild_balanced;
+extern __typeof__(cuzhaveli_rebuild_by_plan) second_rebuild_by_plan;
 extern __typeof__(cuzhaveli_rebuild_tested) second_rebuild_tested;
+extern __typeof__(cuzhaveli_rebuild_cells) second_rebuild_cells;
 extern __typeof__(cuzhaveli_update_cell) second_update_cell;
 extern __typeof__(cuzhaveli_write_server) second_write_server;
 extern __typeof__(cuzhaveli_rebuild_server) second_rebuild_server;
@@ -67,11 +73,11 @@ void lend_bytes(struct lent *lent, const uint8_t *bytes, size_t length, bool at_
 void set_content(struct lent *lent);
 bool lent_agrees(const struct lent *lent);
 
-/* calls.c: one random call each; false if the library and the second implementation differ. */
-#define CALLS 27
+/* calls.c, plans.c, rebuilds.c: one random call each; false if the library and the second implementation differ. */
+#define CALLS 33
 struct caller {
     struct random random;
-    struct lent first, second;
+    struct lent first, second, third;
     bool at_end;
     uint64_t refused[CALLS][256]; /* how often each call gave each refusal, 0 for none */
     char what[400];               /* the call under way, for a report */

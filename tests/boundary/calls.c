@@ -1,23 +1,10 @@
-/* Each call with random arguments, by the library and by the second implementation. */
+/* Each call with random arguments, by the library and by the second implementation; those on plans are in plans.c,
+ * the rebuilds in rebuilds.c. */
 
-#include "boundary.h"
-
-#include <stdio.h>
-#include <string.h>
-
-enum {
-    PLAN, LIST, JUDGE, TEXT, WRITE, PLAIN, PRINTED, SPACE, ENCODE, CHECK, SCRUB, ONE, TESTED, TWO, UPDATE, EXTRA,
-    SERVER, OPEN, STEP, SKIP, PROGRESS, FULL, DISKS, BYTES, BILL, REPORT, VERSION
-};
-
-#define SAY(caller, ...) snprintf((caller)->what, sizeof (caller)->what, __VA_ARGS__)
-#define SHAPE "{%zu, %zu, %zu}"
-#define OF(shape) (shape).width, (shape).disks, (shape).cell_size
-#define RUN "{" SHAPE ", %zu, %u, %u, %u}"
-#define OF_RUN(run) OF((run).shape), (run).lost, (run).stripes, (run).next, (run).skipped
+#include "calls.h"
 
 /* Counts the answer and compares it. */
-static bool same(struct caller *c, int call, struct cuzhaveli_answer got, struct cuzhaveli_answer wanted)
+bool same(struct caller *c, int call, struct cuzhaveli_answer got, struct cuzhaveli_answer wanted)
 {
     c->refused[call][got.refusal]++;
     size_t used = strlen(c->what);
@@ -38,13 +25,13 @@ static bool same_run(struct cuzhaveli_run a, struct cuzhaveli_run b)
 }
 
 /* A length that the shape requires; if it is none, some length. */
-static size_t required(struct caller *c, struct cuzhaveli_shape shape, size_t columns)
+size_t required(struct caller *c, struct cuzhaveli_shape shape, size_t columns)
 {
     return is_shape(shape) ? columns * CUZHAVELI_COLUMN_BYTES(shape) : below(&c->random, 400);
 }
 
 /* Lends a stripe: noise, or a clean one, or that with one byte changed. */
-static void lend_stripe(struct caller *c, struct cuzhaveli_shape shape)
+void lend_stripe(struct caller *c, struct cuzhaveli_shape shape)
 {
     struct lent *stripe = &c->first;
     lend(stripe, &c->random, required(c, shape, shape.disks + 2), c->at_end);
@@ -56,14 +43,12 @@ static void lend_stripe(struct caller *c, struct cuzhaveli_shape shape)
     }
 }
 
-static void lend_column(struct caller *c, struct cuzhaveli_shape shape)
+void lend_column(struct caller *c, struct cuzhaveli_shape shape)
 {
     lend(&c->second, &c->random, required(c, shape, 1), c->at_end);
 }
 
-struct array { size_t width, disks, lost; };
-
-static struct array any_array(struct random *r)
+struct array any_array(struct random *r)
 {
     struct array a;
     a.width = any_width(r);
@@ -72,94 +57,10 @@ static struct array any_array(struct random *r)
     return a;
 }
 
-static bool is_array(struct array a)
+bool is_array(struct array a)
 {
     struct cuzhaveli_shape shape = {a.width, a.disks, 1};
     return is_shape(shape);
-}
-
-static bool plan_disk(struct caller *c)
-{
-    struct array a = any_array(&c->random);
-    SAY(c, "cuzhaveli_plan_disk(%zu, %zu, %zu)", a.width, a.disks, a.lost);
-    struct cuzhaveli_plan got = cuzhaveli_plan_disk(a.width, a.disks, a.lost);
-    struct cuzhaveli_plan wanted = second_plan_disk(a.width, a.disks, a.lost);
-    return same(c, PLAN, got.answer, wanted.answer) && memcmp(&got.steps, &wanted.steps, sizeof got.steps) == 0 &&
-           got.routes == wanted.routes && got.reads == wanted.reads;
-}
-
-static bool read_list(struct caller *c)
-{
-    struct array a = any_array(&c->random);
-    struct lent *list = &c->first;
-    size_t right = is_array(a) ? CUZHAVELI_LIST_BYTES(a.width, a.disks) : below(&c->random, 400);
-    lend(list, &c->random, right, c->at_end);
-    SAY(c, "cuzhaveli_read_list(%zu, %zu, %zu, %p, %zu)", a.width, a.disks, a.lost, (void *)list->bytes, list->length);
-    struct cuzhaveli_answer got = cuzhaveli_read_list(a.width, a.disks, a.lost, list->bytes, list->length);
-    struct cuzhaveli_answer wanted = second_read_list(a.width, a.disks, a.lost, list->same, list->same_length);
-    return same(c, LIST, got, wanted) && lent_agrees(list);
-}
-
-/* Our plan as bytes, with steps exchanged or bytes changed now and then. */
-static void lend_plan(struct caller *c, struct array a)
-{
-    struct lent *plan = &c->first;
-    struct random *r = &c->random;
-    lend(plan, r, is_array(a) ? CUZHAVELI_PLAN_BYTES(a.width) : below(r, 100), c->at_end);
-    struct cuzhaveli_plan ours = second_plan_disk(a.width, a.disks, a.lost);
-    if (!plan->bytes || ours.answer.refusal != 0 || plan->length != CUZHAVELI_PLAN_BYTES(a.width))
-        return;
-    for (size_t n = 0; n < a.width; n++) {
-        plan->same[3 * n] = ours.steps.rows[n];
-        plan->same[3 * n + 1] = ours.steps.kinds[n];
-        plan->same[3 * n + 2] = ours.steps.numbers[n];
-    }
-    for (size_t changes = below(r, 4); changes > 0; changes--) {
-        uint8_t step[3], *one = plan->same + 3 * below(r, a.width), *other = plan->same + 3 * below(r, a.width);
-        memcpy(step, one, 3);
-        memmove(one, other, 3);
-        if (!once_in(r, 8))
-            memcpy(other, step, 3);
-        if (once_in(r, 4))
-            one[below(r, 3)] = (uint8_t)(once_in(r, 4) ? next_number(r) : below(r, a.width + 1));
-    }
-    set_content(plan);
-}
-
-static bool judge_plan(struct caller *c)
-{
-    struct array a = any_array(&c->random);
-    struct lent *plan = &c->first;
-    lend_plan(c, a);
-    SAY(c, "cuzhaveli_judge_plan(%zu, %zu, %zu, %p, %zu)", a.width, a.disks, a.lost, (void *)plan->bytes, plan->length);
-    struct cuzhaveli_judged got = cuzhaveli_judge_plan(a.width, a.disks, a.lost, plan->bytes, plan->length);
-    struct cuzhaveli_judged wanted = second_judge_plan(a.width, a.disks, a.lost, plan->same, plan->same_length);
-    return same(c, JUDGE, got.answer, wanted.answer) && got.reads == wanted.reads && lent_agrees(plan);
-}
-
-/* An input of the form, mostly, with a byte of it changed now and then; NULL only with no bytes. */
-static bool plan_text(struct caller *c)
-{
-    struct random *r = &c->random;
-    struct lent *input = &c->first;
-    struct cuzhaveli_answer none = {0, 0};
-    char text[60];
-    size_t width = any_width(r);
-    size_t length = (size_t)snprintf(text, sizeof text, "p,lost\n%zu,%zu\n", width, any_disk(r, width));
-    lend(input, r, length, c->at_end);
-    if (!input->bytes)
-        input->length = 0;
-    if (input->length == length) {
-        memcpy(input->same, text, length);
-        if (once_in(r, 3))
-            input->same[below(r, length)] = (uint8_t)(once_in(r, 2) ? '0' + below(r, 10) : next_number(r));
-        set_content(input);
-    }
-    SAY(c, "cuzhaveli_plan_text(%p, %zu)", (void *)input->bytes, input->length);
-    struct cuzhaveli_text got = cuzhaveli_plan_text(input->bytes, input->length);
-    struct cuzhaveli_text wanted = second_plan_text(input->same, input->same_length);
-    return same(c, PRINTED, none, none) && got.length == wanted.length &&
-           memcmp(got.bytes, wanted.bytes, sizeof got.bytes) == 0 && lent_agrees(input);
 }
 
 /* How many files: few, now and then about as many as there may be, or any number. */
@@ -191,103 +92,6 @@ static size_t lend_lengths(struct caller *c)
         lengths[i] = once_in(r, 400) ? any_number(r) : once_in(r, 6) ? 0 : lengths[i] >> (most + below(r, 64 - most));
     set_content(&c->first);
     return files;
-}
-
-#define TEXT_MOST (16 + 31 * 11 + 8)
-
-static size_t put_number(struct random *r, uint8_t *text, unsigned number)
-{
-    static const char *const FORMS[] = {"%u", "%02u", "%03u"};
-    return (size_t)sprintf((char *)text, FORMS[below(r, 3)], number);
-}
-
-static size_t put_end(struct random *r, uint8_t *text)
-{
-    size_t cr = below(r, 2);
-    memcpy(text, "\r\n" + 1 - cr, 1 + cr);
-    return 1 + cr;
-}
-
-/* A plan's bytes as text, in one of the forms that hosts write. */
-static size_t any_text(struct random *r, const uint8_t *plan, size_t steps, uint8_t *text)
-{
-    size_t used = 14;
-    memcpy(text, "row,set,number", used);
-    used += put_end(r, text + used);
-    for (size_t n = 0; n < steps; n++) {
-        used += put_number(r, text + used, plan[3 * n]);
-        text[used++] = ',';
-        text[used++] = (uint8_t)"RDrd"[plan[3 * n + 1] % 2 + 2 * below(r, 2)];
-        text[used++] = ',';
-        used += put_number(r, text + used, plan[3 * n + 2]);
-        used += put_end(r, text + used);
-    }
-    return used;
-}
-
-/* Lends a text: a plan's, with a byte changed, put in or left out now and then, or its end cut off; or nothing. */
-static void lend_text(struct caller *c, struct array a)
-{
-    static const uint8_t LIKELY[] = "0129,RDrd\r\n x";
-    uint8_t text[TEXT_MOST];
-    struct random *r = &c->random;
-    lend_plan(c, a);
-    size_t steps = c->first.bytes && c->first.length <= 93 ? c->first.length / 3 : 0;
-    size_t used = once_in(r, 50) ? 0 : any_text(r, c->first.same, steps, text);
-    for (size_t changes = once_in(r, 3) ? 1 + below(r, 2) : 0; changes > 0 && used > 0; changes--) {
-        size_t place = below(r, used);
-        switch (below(r, 4)) {
-        case 0: text[place] = LIKELY[below(r, sizeof LIKELY)]; break;
-        case 1: memmove(text + place, text + place + 1, --used - place); break;
-        case 2: memmove(text + place + 1, text + place, used++ - place); break;
-        default: used = once_in(r, 2) ? place : used - 1;
-        }
-    }
-    lend_bytes(&c->first, text, used, c->at_end);
-}
-
-static bool judge_text(struct caller *c)
-{
-    struct array a = any_array(&c->random);
-    struct lent *text = &c->first;
-    lend_text(c, a);
-    const uint8_t *bytes = text->length == 0 && once_in(&c->random, 2) ? NULL : text->bytes;
-    SAY(c, "cuzhaveli_judge_text(%zu, %zu, %zu, %p, %zu)", a.width, a.disks, a.lost, (const void *)bytes, text->length);
-    struct cuzhaveli_judged got = cuzhaveli_judge_text(a.width, a.disks, a.lost, bytes, text->length);
-    struct cuzhaveli_judged wanted = second_judge_text(a.width, a.disks, a.lost, text->same, text->same_length);
-    return same(c, TEXT, got.answer, wanted.answer) && got.reads == wanted.reads && lent_agrees(text);
-}
-
-static bool write_plan(struct caller *c)
-{
-    struct array a = any_array(&c->random);
-    struct lent *plan = &c->first, *out = &c->second;
-    lend_plan(c, a);
-    lend(out, &c->random, CUZHAVELI_TEXT_BYTES, c->at_end);
-    SAY(c, "cuzhaveli_write_plan(%zu, %zu, %zu, %p, %zu, %p, %zu)", a.width, a.disks, a.lost, (void *)plan->bytes,
-        plan->length, (void *)out->bytes, out->length);
-    struct cuzhaveli_written got =
-        cuzhaveli_write_plan(a.width, a.disks, a.lost, plan->bytes, plan->length, out->bytes, out->length);
-    struct cuzhaveli_written wanted =
-        second_write_plan(a.width, a.disks, a.lost, plan->same, plan->same_length, out->same, out->same_length);
-    return same(c, WRITE, got.answer, wanted.answer) && got.length == wanted.length && lent_agrees(plan) &&
-           lent_agrees(out);
-}
-
-static bool plain_text(struct caller *c)
-{
-    struct array a = any_array(&c->random);
-    struct lent *text = &c->first, *out = &c->second;
-    lend_text(c, a);
-    lend(out, &c->random, CUZHAVELI_TEXT_BYTES, c->at_end);
-    SAY(c, "cuzhaveli_plain_text(%zu, %zu, %zu, %p, %zu, %p, %zu)", a.width, a.disks, a.lost, (void *)text->bytes,
-        text->length, (void *)out->bytes, out->length);
-    struct cuzhaveli_written got =
-        cuzhaveli_plain_text(a.width, a.disks, a.lost, text->bytes, text->length, out->bytes, out->length);
-    struct cuzhaveli_written wanted =
-        second_plain_text(a.width, a.disks, a.lost, text->same, text->same_length, out->same, out->same_length);
-    return same(c, PLAIN, got.answer, wanted.answer) && got.length == wanted.length && lent_agrees(text) &&
-           lent_agrees(out);
 }
 
 static bool package_space(struct caller *c)
@@ -351,71 +155,6 @@ static bool scrub_stripe(struct caller *c)
     struct cuzhaveli_scrubbed wanted = second_scrub_stripe(shape, stripe->same, stripe->same_length);
     return same(c, SCRUB, got.answer, wanted.answer) && got.verdict == wanted.verdict && got.disk == wanted.disk &&
            lent_agrees(stripe);
-}
-
-static bool rebuild_one(struct caller *c)
-{
-    struct cuzhaveli_shape shape = any_shape(&c->random);
-    size_t lost = any_disk(&c->random, shape.disks);
-    struct lent *stripe = &c->first, *column = &c->second;
-    lend_stripe(c, shape);
-    lend_column(c, shape);
-    SAY(c, "cuzhaveli_rebuild_one(" SHAPE ", %zu, %p, %zu, %p, %zu)", OF(shape), lost, (void *)stripe->bytes,
-        stripe->length, (void *)column->bytes, column->length);
-    struct cuzhaveli_answer got =
-        cuzhaveli_rebuild_one(shape, lost, stripe->bytes, stripe->length, column->bytes, column->length);
-    struct cuzhaveli_answer wanted =
-        second_rebuild_one(shape, lost, stripe->same, stripe->same_length, column->same, column->same_length);
-    return same(c, ONE, got, wanted) && lent_agrees(stripe) && lent_agrees(column);
-}
-
-/* Survivors of a clean stripe, mostly, and anything on the lost disk; now and then a byte of any disk changed. */
-static bool rebuild_tested(struct caller *c)
-{
-    struct random *r = &c->random;
-    struct cuzhaveli_shape shape = any_shape(r);
-    size_t lost = any_disk(r, shape.disks);
-    struct lent *stripe = &c->first, *column = &c->second;
-    lend_stripe(c, shape);
-    lend_column(c, shape);
-    if (stripe->bytes && is_shape(shape) && stripe->length == CUZHAVELI_STRIPE_BYTES(shape) && !once_in(r, 4)) {
-        size_t bytes = CUZHAVELI_COLUMN_BYTES(shape), first = lost % (shape.disks + 2) * bytes;
-        second_encode_stripe(shape, stripe->same, stripe->same_length);
-        for (size_t i = 0; i < bytes; i++)
-            stripe->same[first + i] ^= (uint8_t)next_number(r);
-        if (once_in(r, 3))
-            stripe->same[below(r, stripe->length)] ^= (uint8_t)next_number(r);
-        set_content(stripe);
-    }
-    SAY(c, "cuzhaveli_rebuild_tested(" SHAPE ", %zu, %p, %zu, %p, %zu)", OF(shape), lost, (void *)stripe->bytes,
-        stripe->length, (void *)column->bytes, column->length);
-    struct cuzhaveli_answer got =
-        cuzhaveli_rebuild_tested(shape, lost, stripe->bytes, stripe->length, column->bytes, column->length);
-    struct cuzhaveli_answer wanted =
-        second_rebuild_tested(shape, lost, stripe->same, stripe->same_length, column->same, column->same_length);
-    return same(c, TESTED, got, wanted) && lent_agrees(stripe) && lent_agrees(column);
-}
-
-static bool rebuild_two(struct caller *c)
-{
-    struct cuzhaveli_shape shape = any_shape(&c->random);
-    size_t first = any_disk(&c->random, shape.disks), second = any_disk(&c->random, shape.disks);
-    struct lent *stripe = &c->first;
-    lend_stripe(c, shape);
-    SAY(c, "cuzhaveli_rebuild_two(" SHAPE ", %zu, %zu, %p, %zu)", OF(shape), first, second, (void *)stripe->bytes,
-        stripe->length);
-    struct cuzhaveli_answer got = cuzhaveli_rebuild_two(shape, first, second, stripe->bytes, stripe->length);
-    struct cuzhaveli_answer wanted = second_refuse_two(shape, first, second, stripe->same_length);
-    if (!same(c, TWO, got, wanted))
-        return false;
-    if (got.refusal == 0) {
-        size_t column = CUZHAVELI_COLUMN_BYTES(shape);
-        memcpy(stripe->same + first * column, stripe->bytes + first * column, column);
-        memcpy(stripe->same + second * column, stripe->bytes + second * column, column);
-        if (!second_check_stripe(shape, stripe->same, stripe->same_length).clean)
-            return false;
-    }
-    return lent_agrees(stripe);
 }
 
 static bool update_cell(struct caller *c)
@@ -694,8 +433,11 @@ static bool report_disk(struct caller *c)
 
 const struct call CALL[CALLS] = {
     [PLAN] = {"cuzhaveli_plan_disk", plan_disk},
+    [BALANCED_PLAN] = {"cuzhaveli_balanced_plan", balanced_plan},
+    [RELIEF_PLAN] = {"cuzhaveli_relief_plan", relief_plan},
     [LIST] = {"cuzhaveli_read_list", read_list},
     [JUDGE] = {"cuzhaveli_judge_plan", judge_plan},
+    [PLAN_LIST] = {"cuzhaveli_plan_list", plan_list},
     [PRINTED] = {"cuzhaveli_plan_text", plan_text},
     [TEXT] = {"cuzhaveli_judge_text", judge_text},
     [WRITE] = {"cuzhaveli_write_plan", write_plan},
@@ -705,8 +447,11 @@ const struct call CALL[CALLS] = {
     [CHECK] = {"cuzhaveli_check_stripe", check_stripe},
     [SCRUB] = {"cuzhaveli_scrub_stripe", scrub_stripe},
     [ONE] = {"cuzhaveli_rebuild_one", rebuild_one},
+    [BALANCED] = {"cuzhaveli_rebuild_balanced", rebuild_balanced},
+    [BY_PLAN] = {"cuzhaveli_rebuild_by_plan", rebuild_by_plan},
     [TESTED] = {"cuzhaveli_rebuild_tested", rebuild_tested},
     [TWO] = {"cuzhaveli_rebuild_two", rebuild_two},
+    [CELLS] = {"cuzhaveli_rebuild_cells", rebuild_cells},
     [UPDATE] = {"cuzhaveli_update_cell", update_cell},
     [EXTRA] = {"cuzhaveli_write_server", write_server},
     [SERVER] = {"cuzhaveli_rebuild_server", rebuild_server},

@@ -23,6 +23,13 @@ static volatile uint8_t sink;
 static void nothing(void) { }
 static void plan_disk(void) { sink = cuzhaveli_plan_disk(shape.width, shape.disks, lost).answer.refusal; }
 static void read_list(void) { sink = cuzhaveli_read_list(shape.width, shape.disks, lost, column, CUZHAVELI_LIST_BYTES(shape.width, shape.disks)).refusal; }
+static void further_plans(void)
+{
+    sink = cuzhaveli_balanced_plan(shape.width, shape.disks, lost).answer.refusal;
+    sink = cuzhaveli_relief_plan(shape.width, shape.disks, lost, other).answer.refusal;
+}
+
+static void plan_list(void) { sink = cuzhaveli_plan_list(shape.width, shape.disks, lost, plan, CUZHAVELI_PLAN_BYTES(shape.width), column, CUZHAVELI_LIST_BYTES(shape.width, shape.disks)).refusal; }
 static void judge_plan(void) { sink = cuzhaveli_judge_plan(shape.width, shape.disks, lost, stripe, CUZHAVELI_PLAN_BYTES(shape.width)).answer.refusal; }
 static void plan_text(void) { sink = cuzhaveli_plan_text((const uint8_t *)"p,lost\n31,30\n", 13).bytes[0]; }
 static void judge_text(void) { sink = cuzhaveli_judge_text(shape.width, shape.disks, lost, text, text_len).answer.refusal; }
@@ -41,6 +48,18 @@ static void scrub_stripe(void)
 }
 
 static void rebuild_one(void) { sink = cuzhaveli_rebuild_one(shape, lost, stripe, CUZHAVELI_STRIPE_BYTES(shape), column, CUZHAVELI_COLUMN_BYTES(shape)).refusal; }
+static void rebuild_balanced(void) { sink = cuzhaveli_rebuild_balanced(shape, lost, stripe, CUZHAVELI_STRIPE_BYTES(shape), column, CUZHAVELI_COLUMN_BYTES(shape)).refusal; }
+static void rebuild_by_plan(void) { sink = cuzhaveli_rebuild_by_plan(shape, lost, plan, CUZHAVELI_PLAN_BYTES(shape.width), stripe, CUZHAVELI_STRIPE_BYTES(shape), column, CUZHAVELI_COLUMN_BYTES(shape)).refusal; }
+
+/* The cells of two disks are missing. */
+static void rebuild_cells(void)
+{
+    memset(column, 0, CUZHAVELI_LIST_BYTES(shape.width, shape.disks));
+    memset(column + lost * shape.width, 1, shape.width);
+    memset(column + other * shape.width, 1, shape.width);
+    sink = cuzhaveli_rebuild_cells(shape, column, CUZHAVELI_LIST_BYTES(shape.width, shape.disks), stripe, CUZHAVELI_STRIPE_BYTES(shape)).refusal;
+}
+
 static void rebuild_tested(void) { sink = cuzhaveli_rebuild_tested(shape, lost, stripe, CUZHAVELI_STRIPE_BYTES(shape), column, CUZHAVELI_COLUMN_BYTES(shape)).refusal; }
 static void rebuild_two(void) { sink = cuzhaveli_rebuild_two(shape, lost, other, stripe, CUZHAVELI_STRIPE_BYTES(shape)).refusal; }
 static void update_cell(void) { sink = cuzhaveli_update_cell(shape, shape.width - 1 - other % 2, lost % shape.disks, stripe, CUZHAVELI_STRIPE_BYTES(shape), column, shape.cell_size).refusal; }
@@ -86,7 +105,9 @@ static void report_disk(void)
 static struct { const char *name; void (*make)(void); size_t most; } MADE[] = {
     {"cuzhaveli_plan_disk", plan_disk, 0},
     {"cuzhaveli_read_list", read_list, 0},
+    {"balanced and relief plans", further_plans, 0},
     {"cuzhaveli_judge_plan", judge_plan, 0},
+    {"cuzhaveli_plan_list", plan_list, 0},
     {"cuzhaveli_plan_text", plan_text, 0},
     {"cuzhaveli_judge_text", judge_text, 0},
     {"cuzhaveli_write_plan", write_plan, 0},
@@ -96,8 +117,11 @@ static struct { const char *name; void (*make)(void); size_t most; } MADE[] = {
     {"cuzhaveli_check_stripe", check_stripe, 0},
     {"cuzhaveli_scrub_stripe", scrub_stripe, 0},
     {"cuzhaveli_rebuild_one", rebuild_one, 0},
+    {"cuzhaveli_rebuild_balanced", rebuild_balanced, 0},
+    {"cuzhaveli_rebuild_by_plan", rebuild_by_plan, 0},
     {"cuzhaveli_rebuild_tested", rebuild_tested, 0},
     {"cuzhaveli_rebuild_two", rebuild_two, 0},
+    {"cuzhaveli_rebuild_cells", rebuild_cells, 0},
     {"cuzhaveli_update_cell", update_cell, 0},
     {"calls on servers", server_calls, 0},
     {"calls on runs", run_calls, 0},
@@ -134,12 +158,8 @@ static void measure(size_t before)
 /* Our plan, as bytes and as text. */
 static void set_plan(void)
 {
-    struct cuzhaveli_steps ours = cuzhaveli_plan_disk(shape.width, shape.disks, lost).steps;
-    for (size_t n = 0; n < shape.width; n++) {
-        plan[3 * n] = ours.rows[n];
-        plan[3 * n + 1] = ours.kinds[n];
-        plan[3 * n + 2] = ours.numbers[n];
-    }
+    struct cuzhaveli_plan ours = cuzhaveli_plan_disk(shape.width, shape.disks, lost);
+    cuzhaveli_plan_bytes(&ours, shape.width, plan);
     text_len = cuzhaveli_write_plan(shape.width, shape.disks, lost, plan, CUZHAVELI_PLAN_BYTES(shape.width), text, sizeof text).length;
 }
 

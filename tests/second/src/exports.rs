@@ -10,13 +10,29 @@ use crate::ffi::{
     RunAnswer, Scrubbed, Shape, Space, Text, Written,
 };
 use crate::groups::{
-    billing, judge, plan, plan_files, printed_plan, read_list, rebuild_one, rebuild_tested,
-    rebuild_two, runs, scrub, servers, space, states, stripes, update,
+    balanced_plan, billing, judge, plan, plan_files, plan_list, printed_plan, read_list,
+    rebuild_balanced, rebuild_by_plan, rebuild_cells, rebuild_one, rebuild_tested, rebuild_two,
+    relief_plan, runs, scrub, servers, space, states, stripes, update,
 };
 
 #[no_mangle]
 pub extern "C" fn second_plan_disk(width: usize, disks: usize, lost: usize) -> Plan {
     plan::model::plan_disk(width, disks, lost)
+}
+
+#[no_mangle]
+pub extern "C" fn second_balanced_plan(width: usize, disks: usize, lost: usize) -> Plan {
+    balanced_plan::model::balanced_plan(width, disks, lost)
+}
+
+#[no_mangle]
+pub extern "C" fn second_relief_plan(
+    width: usize,
+    disks: usize,
+    lost: usize,
+    relieved: usize,
+) -> Plan {
+    relief_plan::model::relief_plan(width, disks, lost, relieved)
 }
 
 /// # Safety
@@ -43,6 +59,22 @@ pub unsafe extern "C" fn second_judge_plan(
     plan_len: usize,
 ) -> Judged {
     judge::model::judge_plan(width, disks, lost, from_raw_parts(plan, plan_len))
+}
+
+/// # Safety
+/// `plan` and `list` are lent: see above.
+#[no_mangle]
+pub unsafe extern "C" fn second_plan_list(
+    width: usize,
+    disks: usize,
+    lost: usize,
+    plan: *const u8,
+    plan_len: usize,
+    list: *mut u8,
+    list_len: usize,
+) -> Answer {
+    let (plan, list) = (from_raw_parts(plan, plan_len), from_raw_parts_mut(list, list_len));
+    plan_list::model::plan_list((width, disks, lost), plan, list)
 }
 
 /// # Safety
@@ -160,6 +192,40 @@ pub unsafe extern "C" fn second_rebuild_one(
 /// # Safety
 /// `stripe` and `column` are lent: see above.
 #[no_mangle]
+pub unsafe extern "C" fn second_rebuild_balanced(
+    shape: Shape,
+    lost: usize,
+    stripe: *const u8,
+    stripe_len: usize,
+    column: *mut u8,
+    column_len: usize,
+) -> Answer {
+    let stripe = from_raw_parts(stripe, stripe_len);
+    let column = from_raw_parts_mut(column, column_len);
+    rebuild_balanced::model::rebuild_balanced(shape, lost, stripe, column)
+}
+
+/// # Safety
+/// `plan`, `stripe` and `column` are lent: see above.
+#[no_mangle]
+pub unsafe extern "C" fn second_rebuild_by_plan(
+    shape: Shape,
+    lost: usize,
+    plan: *const u8,
+    plan_len: usize,
+    stripe: *const u8,
+    stripe_len: usize,
+    column: *mut u8,
+    column_len: usize,
+) -> Answer {
+    let (plan, stripe) = (from_raw_parts(plan, plan_len), from_raw_parts(stripe, stripe_len));
+    let column = from_raw_parts_mut(column, column_len);
+    rebuild_by_plan::model::rebuild_by_plan(shape, lost, plan, stripe, column)
+}
+
+/// # Safety
+/// `stripe` and `column` are lent: see above.
+#[no_mangle]
 pub unsafe extern "C" fn second_rebuild_tested(
     shape: Shape,
     lost: usize,
@@ -181,6 +247,21 @@ pub extern "C" fn second_refuse_two(
     stripe_len: usize,
 ) -> Answer {
     rebuild_two::model::rebuild_two(shape, first, second, stripe_len)
+}
+
+/// # Safety
+/// `missing` and `stripe` are lent: see above.
+#[no_mangle]
+pub unsafe extern "C" fn second_rebuild_cells(
+    shape: Shape,
+    missing: *const u8,
+    missing_len: usize,
+    stripe: *mut u8,
+    stripe_len: usize,
+) -> Answer {
+    let missing = from_raw_parts(missing, missing_len);
+    let stripe = from_raw_parts_mut(stripe, stripe_len);
+    rebuild_cells::model::rebuild_cells(shape, missing, stripe)
 }
 
 /// # Safety

@@ -16,12 +16,19 @@ pub fn judge_plan(width: usize, disks: usize, lost: usize, plan: &[u8]) -> Judge
     if answer != ACCEPTED {
         return Judged { answer, reads: 0 };
     }
-    let steps = steps_of(plan);
-    let answer = refuse_steps((width, disks, lost), &steps);
-    if answer != ACCEPTED {
-        return Judged { answer, reads: 0 };
+    match accepted_steps((width, disks, lost), plan) {
+        Ok(steps) => Judged { answer, reads: cells_read(width, disks, lost, &steps).len() as u32 },
+        Err(answer) => Judged { answer, reads: 0 },
     }
-    Judged { answer, reads: cells_read(width, disks, lost, &steps).len() as u32 }
+}
+
+/// The steps of a plan's bytes, or the answer that refuses one of them.
+pub fn accepted_steps(numbers: Numbers, plan: &[u8]) -> Result<Vec<Step>, Answer> {
+    let steps = steps_of(plan);
+    match refuse_steps(numbers, &steps) {
+        ACCEPTED => Ok(steps),
+        refused => Err(refused),
+    }
 }
 
 /// The first step that is refused, with its refusal.

@@ -38,11 +38,27 @@ fn accepted(group: &mut Group, p: usize, k: usize, lost: usize) {
         group.same(|| say("reads by formula"), reads, plan.reads);
     }
     group.same(|| say("routes"), routes(p, &plan), plan.routes);
-    let full = plan_disk(p, p, full_disk(p, k, lost));
-    group.same(|| say("the full array's plan"), Plan { reads: plan.reads, ..full }, plan);
+    in_full(group, plan_disk, (p, k, lost), plan);
+    judged(group, (p, k, lost), &plan);
+}
+
+/// The full array's plan has the same steps.
+pub fn in_full(
+    group: &mut Group,
+    plan_of: impl Fn(usize, usize, usize) -> Plan,
+    (p, k, lost): (usize, usize, usize),
+    plan: Plan,
+) {
+    let full = plan_of(p, p, full_disk(p, k, lost));
+    let call = || format!("the full array's plan for ({p}, {k}, {lost})");
+    group.same(call, Plan { reads: plan.reads, ..full }, plan);
+}
+
+/// The judge accepts a plan with its count.
+pub fn judged(group: &mut Group, (p, k, lost): (usize, usize, usize), plan: &Plan) {
     let judged = judge_plan(p, k, lost, &plan.steps.bytes(p));
     let expected = Judged { answer: ACCEPTED, reads: plan.reads };
-    group.same(|| format!("judge_plan({p}, {k}, {lost}, the planner's record)"), expected, judged);
+    group.same(|| format!("judge_plan({p}, {k}, {lost}, a planner's record)"), expected, judged);
 }
 
 /// The read count of our plan where the papers give it.

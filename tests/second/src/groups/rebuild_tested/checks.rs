@@ -8,7 +8,7 @@ use crate::groups::rebuild_one::checks::cells_off_list;
 use crate::groups::stripes::model::clean;
 use crate::harness::answer::{Answer, ACCEPTED};
 use crate::harness::model::{
-    cell_place, column_length, disk_place, full_disk, full_shape, stripe_length, widened,
+    cell_place, column_length, disk_place, full_disk, full_shape, our_steps, stripe_length, widened,
 };
 use crate::harness::stripes::{clean_stripe, EXAMPLE, PART_EXAMPLE};
 use crate::harness::{arrays, small_stack, Group, Lent, Random, Setting, Shape};
@@ -107,7 +107,7 @@ fn changed_bits(group: &mut Group, random: &mut Random, shape: Shape) {
     let mut stripe = clean_stripe(random, shape);
     for lost in shape.all_disks() {
         let cells = stripe.part()[disk_place(shape, lost)].to_vec();
-        let off_list = cells_off_list(shape, lost);
+        let off_list = cells_off_list(shape, lost, &our_steps(p, shape.disks, lost));
         for (row, disk) in (0..p * (shape.disks + 2)).map(|place| (place % p, place / p)) {
             if disk == lost || p > 13 && !random.once_in(8) {
                 continue;

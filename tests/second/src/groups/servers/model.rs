@@ -4,9 +4,9 @@
 use std::ops::Range;
 
 use super::two_lost;
-use crate::groups::rebuild_one::model::follow_plan;
+use crate::groups::rebuild_one::model::follow;
 use crate::harness::answer::{Answer, ACCEPTED};
-use crate::harness::model::{disk_place, refuse_shape, stripe_length, Refusal};
+use crate::harness::model::{disk_place, our_steps, refuse_shape, stripe_length, Refusal};
 use crate::harness::Shape;
 
 /// A byte of the losses that names no disk.
@@ -68,7 +68,7 @@ fn mend(shape: Shape, losses: [u8; 2], stripe: &mut [u8]) {
     match disks[..] {
         [] => (),
         [disk] => {
-            let column = follow_plan(shape, disk, stripe).concat();
+            let column = follow(shape, disk, stripe, &our_steps(shape.width, shape.disks, disk));
             stripe[disk_place(shape, disk)].copy_from_slice(&column);
         }
         [first, second] => two_lost::solve(shape, [first, second], stripe),

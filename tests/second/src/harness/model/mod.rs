@@ -1,7 +1,8 @@
-//! The core of the second implementation, written from documents 01 and 02 alone: sets are
-//! explicit lists of cells, and everything else is counted on them.
+//! The core of the second implementation, written from the papers alone: sets are explicit lists
+//! of cells, and everything else is counted on them.
 
 mod full;
+mod further_plans;
 mod our_plan;
 mod refusals;
 mod sets;
@@ -9,6 +10,7 @@ mod steps;
 mod stripe;
 
 pub use full::{full_disk, full_shape, widened};
+pub use further_plans::{balanced_steps, relief_steps};
 pub use our_plan::our_steps;
 pub use refusals::{refuse, refuse_shape, Refusal, WIDTHS};
 pub use sets::{diagonal_set, extra_cell, row_set, set_cells, Cell};

@@ -27,9 +27,8 @@ fn diagonal_rows(p: usize, f: usize) -> Vec<bool> {
     takes.into_iter().map(|t| t == Some(true)).collect()
 }
 
-/// The steps of our plan for a data disk: row sets, then diagonals.
-fn data_disk_steps(p: usize, f: usize) -> Vec<Step> {
-    let diagonal = diagonal_rows(p, f);
+/// The steps for data disk f where these rows take a diagonal: row sets, then diagonals, rows upward.
+pub fn steps_by_rows(p: usize, f: usize, diagonal: &[bool]) -> Vec<Step> {
     let by_row = (0..p).filter(|&j| !diagonal[j]);
     let by_row = by_row.map(|j| Step { row: j, kind: 0, number: j });
     let by_diagonal = (0..p).filter(|&j| diagonal[j]);
@@ -40,7 +39,7 @@ fn data_disk_steps(p: usize, f: usize) -> Vec<Step> {
 /// The steps of our plan for any disk; those of a data disk do not depend on k.
 pub fn our_steps(p: usize, k: usize, disk: usize) -> Vec<Step> {
     if disk < k {
-        return data_disk_steps(p, disk);
+        return steps_by_rows(p, disk, &diagonal_rows(p, disk));
     }
     let kind = disk - k;
     (0..p).map(|i| Step { row: i, kind, number: i }).collect()

@@ -1,0 +1,5 @@
+//! The balanced plan.
+
+pub mod calls;
+pub mod checks;
+pub mod model;
