@@ -295,7 +295,7 @@ def check_version():
 
 def check_guides():
     """The files and the theorems that the pages on trust and proofs name are there."""
-    proofs = "\n".join(path.read_text() for path in TOP.glob("crates/*/proofs/*.antt"))
+    proofs = "\n".join(path.read_text() for path in TOP.glob("crates/*/proofs/**/*.antt"))
     for page in GUIDES:
         text = page.read_text()
         for path in set(re.findall(r"crates/[\w/]+\.antt", text)):

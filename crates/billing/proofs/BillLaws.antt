@@ -6,14 +6,14 @@ use native.Mathlib.Nat.{mul-le-mul-left}
 use native.Mathlib.Omega.{arith}
 use lib.Dec.{leb, ltb}
 use borrow.Author.Tests.{leb-true, leb-false, ltb-false}
-use Rattle.laws.specs.Choice.{pick}
-use Rattle.laws.proofs.Flags.{or-false-l, or-false-r}
-use Rattle.laws.proofs.ChoiceLaws.{first-none, when-none, pick-refused, pick-done}
+use Rattle.mathematics.specs.Choice.{pick}
+use Rattle.mathematics.proofs.Flags.{or-false-l, or-false-r}
+use Rattle.mathematics.proofs.ChoiceLaws.{first-none, when-none, pick-refused, pick-done}
 use Rattle.refusals.specs.declared.Answer.{Answer}
 use Rattle.refusals.specs.Answers.{Answers}
 use Rattle.refusals.proofs.AnswerLaws.{answers-as}
 use Rattle.billing.specs.declared.Bill.{Bill}
-use Rattle.bill_numbers.specs.Cents.{least, nearest, rateFault, bytesFault, billFault}
+use Rattle.billing.specs.numbers.Cents.{least, nearest, rateFault, bytesFault, billFault}
 use Rattle.billing.specs.Bills.{inFirst, inSecond, inThird, centsOf, Refused, Says, BillSays}
 
 -- the smaller of two numbers is at most each of them

@@ -2,17 +2,17 @@
 use mathlib.Core.Path.{_≡_, sym, ap, ap₂, subst, _∙_}
 use Prim.Native.Nat.{ℕ, _+_, _*_}
 use lib.Dec.{eqb}
-use Rattle.laws.specs.Choice.{pick}
-use Rattle.laws.proofs.ChoiceLaws.{first-none}
-use Rattle.runs.specs.declared.Run.{Run}
-use Rattle.run_progress.specs.declared.Progress.{Progress}
-use Rattle.run_progress.specs.Says.{cellsSoFar, ProgressSays}
-use Rattle.runs.specs.Runs.{readFault}
+use Rattle.mathematics.specs.Choice.{pick}
+use Rattle.mathematics.proofs.ChoiceLaws.{first-none}
+use Rattle.rebuild_runs.specs.declared.Run.{Run}
+use Rattle.rebuild_runs.specs.declared.progress.Progress.{Progress}
+use Rattle.rebuild_runs.specs.progress.Says.{cellsSoFar, ProgressSays}
+use Rattle.rebuild_runs.specs.Runs.{readFault}
 use Rattle.billing.specs.declared.Bill.{Bill}
-use Rattle.bill_numbers.specs.Cents.{Nearest, billFault}
+use Rattle.billing.specs.numbers.Cents.{Nearest, billFault}
 use Rattle.billing.specs.Bills.{inFirst, inSecond, inThird, charge, centsOf, Says, BillSays, runBytes, runBillFault, RunBillSays}
 use Rattle.billing.proofs.BillLaws.{bands-add}
-use Rattle.bill_numbers.proofs.CentsLaws.{nearest-right, nearest-only}
+use Rattle.billing.proofs.numbers.CentsLaws.{nearest-right, nearest-only}
 
 -- what the bands of a bill cost at the rates r, s and t, in cents times bytes of a GiB
 abbrev pub costs : Bill → ℕ → ℕ → ℕ → ℕ

@@ -4,16 +4,16 @@ use Prim.Native.Nat.{ℕ, _*_, _^_, _≤_}
 use native.Mathlib.Nat.{mul-le-mul}
 use native.Mathlib.Omega.{arith}
 use lib.Dec.{eqb}
-use Rattle.laws.specs.Choice.{pick, firstOf}
-use Rattle.laws.proofs.ChoiceLaws.{first-kept}
+use Rattle.mathematics.specs.Choice.{pick, firstOf}
+use Rattle.mathematics.proofs.ChoiceLaws.{first-kept}
 use Rattle.liberation.proofs.FaultLaws.{numbers-of}
-use Rattle.runs.specs.declared.Run.{Run}
-use Rattle.run_progress.specs.declared.Progress.{Progress}
-use Rattle.run_progress.specs.Says.{cellsSoFar, ProgressSays}
-use Rattle.runs.specs.Runs.{readFault}
-use Rattle.runs.proofs.RunRefusals.{read-passed}
+use Rattle.rebuild_runs.specs.declared.Run.{Run}
+use Rattle.rebuild_runs.specs.declared.progress.Progress.{Progress}
+use Rattle.rebuild_runs.specs.progress.Says.{cellsSoFar, ProgressSays}
+use Rattle.rebuild_runs.specs.Runs.{readFault}
+use Rattle.rebuild_runs.proofs.RunRefusals.{read-passed}
 use Rattle.billing.specs.declared.Bill.{Bill}
-use Rattle.bill_numbers.specs.Cents.{billFault}
+use Rattle.billing.specs.numbers.Cents.{billFault}
 use Rattle.billing.specs.Bills.{runBytes, runBillFault, Refused, Says, BillSays, RunBillSays}
 use Rattle.billing.proofs.BillLaws.{bill-refused}
 

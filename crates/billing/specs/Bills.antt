@@ -2,12 +2,12 @@
 use mathlib.Core.Path.{_≡_}
 use Prim.Native.Nat.{ℕ, _+_, _-_, _*_, _^_}
 use lib.Dec.{eqb}
-use Rattle.laws.specs.Choice.{pick, firstOf}
+use Rattle.mathematics.specs.Choice.{pick, firstOf}
 use Rattle.refusals.specs.Answers.{Answers}
-use Rattle.runs.specs.declared.Run.{Run}
-use Rattle.run_progress.specs.Says.{cellsSoFar}
-use Rattle.runs.specs.Runs.{readFault}
-use Rattle.bill_numbers.specs.Cents.{least, nearest, billFault}
+use Rattle.rebuild_runs.specs.declared.Run.{Run}
+use Rattle.rebuild_runs.specs.progress.Says.{cellsSoFar}
+use Rattle.rebuild_runs.specs.Runs.{readFault}
+use Rattle.billing.specs.numbers.Cents.{least, nearest, billFault}
 use Rattle.billing.specs.declared.Bill.{Bill}
 
 -- "The first 64 GiB have one rate, the part above that up to 1,024 GiB a second, the rest a third": the bytes in each band

@@ -1,7 +1,9 @@
 // Bills of hosted rebuilds (document 02, asks 6 and 10): bytes read in three bands, each with its rate in cents per GiB.
+mod numbers;
+
 ghost use Rattle.billing.specs.Bills.{Refused, BillSays, RunBillSays};
+use rebuild_runs::Run;
 use refusals::Answer;
-use runs::Run;
 
 // The answer, the bytes in each of the three bands, and the cents.
 #[repr(C)]
@@ -30,12 +32,12 @@ fn refused_bill(refusal: u8) -> Bill
 pub fn bill_bytes(bytes: u64, first: u64, second: u64, third: u64) -> Bill
     ensures { λ r. ⌜ BillSays bytes first second third r ⌝ }
 {
-    let fault = bill_numbers::bill_fault(bytes, first, second, third);
+    let fault = numbers::bill_fault(bytes, first, second, third);
     if fault != 0 {
         return refused_bill(fault);
     }
-    let low = bill_numbers::least_of(bytes, 68719476736);
-    let most = bill_numbers::least_of(bytes, 1099511627776);
+    let low = numbers::least_of(bytes, 68719476736);
+    let most = numbers::least_of(bytes, 1099511627776);
     let middle = most - low;
     let rest = bytes - most;
     let charge = low * first + middle * second + rest * third;
@@ -44,7 +46,7 @@ pub fn bill_bytes(bytes: u64, first: u64, second: u64, third: u64) -> Bill
         first: low,
         second: middle,
         third: rest,
-        cents: bill_numbers::nearest_cents(charge),
+        cents: numbers::nearest_cents(charge),
     }
 }
 
@@ -52,7 +54,7 @@ pub fn bill_bytes(bytes: u64, first: u64, second: u64, third: u64) -> Bill
 pub fn bill_run(run: Run, first: u64, second: u64, third: u64) -> Bill
     ensures { λ r. ⌜ RunBillSays run first second third r ⌝ }
 {
-    let progress = run_progress::run_progress(run);
+    let progress = rebuild_runs::run_progress(run);
     let answer = progress.answer;
     if answer.refusal != 0 {
         return refused_bill(answer.refusal);

@@ -1,11 +1,11 @@
 // The calls for C and Rust that test the cells of a stripe: is it clean, which disk is inconsistent, a rebuild that tests the survivors.
 // Each hands its arguments on to the proved call and promises what that call promises.
-ghost use Rattle.check_stripe.specs.Says.{CheckSays};
+ghost use Rattle.scrub.specs.clean.Says.{CheckSays};
 ghost use Rattle.scrub.specs.Says.{ScrubSays};
 ghost use Rattle.rebuild_tested.specs.Says.{TestedSays};
-use check_stripe::Checked;
 use refusals::Answer;
 use refusals::Shape;
+use scrub::Checked;
 use scrub::Scrubbed;
 
 // Is a lent stripe clean?
@@ -13,7 +13,7 @@ use scrub::Scrubbed;
 pub extern "C" fn cuzhaveli_check_stripe(shape: Shape, stripe: &[u8]) -> Checked
     ensures { λ r. ⌜ CheckSays (shape .width) (shape .disks) (shape .«cell_size») (now (stripe .entry)) r ⌝ }
 {
-    check_stripe::check_stripe(shape, stripe)
+    scrub::check_stripe(shape, stripe)
 }
 
 // Is a lent stripe clean, is one disk inconsistent with the others, or more than one?

@@ -4,8 +4,8 @@ ghost use mathlib.Core.Path.{_≡_};
 ghost use Rattle.space.specs.Says.{SpaceSays};
 ghost use Rattle.billing.specs.Bills.{BillSays, RunBillSays};
 use billing::Bill;
+use rebuild_runs::Run;
 use refusals::Shape;
-use runs::Run;
 use space::Space;
 
 // The space that a package of files takes.

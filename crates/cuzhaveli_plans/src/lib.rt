@@ -1,18 +1,18 @@
 // The calls on plans for C and Rust: each hands its numbers and slices on to the proved call and promises what that call promises.
 // Widths, disks, sizes and lengths come in as `usize`, so nothing is narrowed before it is tested.
 ghost use Rattle.planner.specs.Says.{PlanSays};
-ghost use Rattle.balanced_planner.specs.Says.{BalancedSays};
-ghost use Rattle.relief_planner.specs.Says.{ReliefSays};
-ghost use Rattle.read_list.specs.Says.{ListSays};
-ghost use Rattle.plan_list.specs.Says.{PlanListSays};
+ghost use Rattle.planner.specs.balanced.Says.{BalancedSays};
+ghost use Rattle.planner.specs.relief.Says.{ReliefSays};
+ghost use Rattle.planner.specs.reads.Says.{ListSays};
+ghost use Rattle.host_plans.specs.reads.Says.{PlanListSays};
 ghost use Rattle.judge.specs.Says.{JudgeSays};
-ghost use Rattle.judge_text.specs.Says.{JudgeTextSays};
-ghost use Rattle.plan_files.specs.Says.{WriteSays, PlainSays};
-ghost use Rattle.plan_text.specs.Says.{TextSays};
-use judge_steps::Judged;
-use plan_files::Written;
-use plan_text::Text;
+ghost use Rattle.plan_texts.specs.judged.Says.{JudgeTextSays};
+ghost use Rattle.plan_texts.specs.plain.Says.{WriteSays, PlainSays};
+ghost use Rattle.printed_plan.specs.Says.{TextSays};
+use judge::Judged;
+use plan_texts::Written;
 use planner::Plan;
+use printed_plan::Text;
 use refusals::Answer;
 
 // Our plan for a lost disk.
@@ -28,7 +28,7 @@ pub extern "C" fn cuzhaveli_plan_disk(width: usize, disks: usize, lost: usize) -
 pub extern "C" fn cuzhaveli_balanced_plan(width: usize, disks: usize, lost: usize) -> Plan
     ensures { λ r. ⌜ BalancedSays width disks lost r ⌝ }
 {
-    balanced_planner::balanced_plan(width, disks, lost)
+    planner::balanced_plan(width, disks, lost)
 }
 
 // The plan for a lost disk that relieves another data disk.
@@ -41,7 +41,7 @@ pub extern "C" fn cuzhaveli_relief_plan(
 ) -> Plan
     ensures { λ r. ⌜ ReliefSays width disks lost relieved r ⌝ }
 {
-    relief_planner::relief_plan(width, disks, lost, relieved)
+    planner::relief_plan(width, disks, lost, relieved)
 }
 
 // The read list of our plan, into a lent slice of p(k + 2) bytes.
@@ -54,7 +54,7 @@ pub extern "C" fn cuzhaveli_read_list(
 ) -> Answer
     ensures { λ r. ⌜ ListSays width disks lost (now (list .entry)) (now (list .exit)) r ⌝ }
 {
-    read_list::read_list(width, disks, lost, list)
+    planner::read_list(width, disks, lost, list)
 }
 
 // The read list of an accepted plan of 3 × p bytes, into a lent slice of p(k + 2) bytes.
@@ -68,7 +68,7 @@ pub extern "C" fn cuzhaveli_plan_list(
 ) -> Answer
     ensures { λ r. ⌜ PlanListSays width disks lost (now (plan .entry)) (now (list .entry)) (now (list .exit)) r ⌝ }
 {
-    plan_list::plan_list(width, disks, lost, plan, list)
+    host_plans::plan_list(width, disks, lost, plan, list)
 }
 
 // The judge of a plan of 3 × p bytes.
@@ -94,7 +94,7 @@ pub extern "C" fn cuzhaveli_judge_text(
 ) -> Judged
     ensures { λ r. ⌜ JudgeTextSays width disks lost (now (text .entry)) r ⌝ }
 {
-    judge_text::judge_text(width, disks, lost, text)
+    plan_texts::judge_text(width, disks, lost, text)
 }
 
 // Writes an accepted plan of 3 × p bytes in its plain form into a lent slice of 263 bytes.
@@ -108,7 +108,7 @@ pub extern "C" fn cuzhaveli_write_plan(
 ) -> Written
     ensures { λ r. ⌜ WriteSays width disks lost (now (plan .entry)) (now (out .entry)) (now (out .exit)) r ⌝ }
 {
-    plan_files::write_plan(width, disks, lost, plan, out)
+    plan_texts::write_plan(width, disks, lost, plan, out)
 }
 
 // Writes the plain form of the plan that a text names into a lent slice of 263 bytes.
@@ -122,7 +122,7 @@ pub extern "C" fn cuzhaveli_plain_text(
 ) -> Written
     ensures { λ r. ⌜ PlainSays width disks lost (now (text .entry)) (now (out .entry)) (now (out .exit)) r ⌝ }
 {
-    plan_files::plain_text(width, disks, lost, text, out)
+    plan_texts::plain_text(width, disks, lost, text, out)
 }
 
 // What the plan program prints for an input.
@@ -130,5 +130,5 @@ pub extern "C" fn cuzhaveli_plain_text(
 pub extern "C" fn cuzhaveli_plan_text(input: &[u8]) -> Text
     ensures { λ r. ⌜ TextSays (now (input .entry)) r ⌝ }
 {
-    plan_text::plan_text(input)
+    printed_plan::plan_text(input)
 }

@@ -1,8 +1,8 @@
 // The calls for C and Rust that rebuild lost disks of a stripe.
 // Each hands its arguments on to the proved call and promises what that call promises.
 ghost use Rattle.rebuild_one.specs.Says.{OneSays};
-ghost use Rattle.rebuild_plan.specs.Says.{ByPlanSays};
-ghost use Rattle.rebuild_balanced.specs.Says.{BalancedOneSays};
+ghost use Rattle.host_plans.specs.rebuild.Says.{ByPlanSays};
+ghost use Rattle.rebuild_one.specs.balanced.Says.{BalancedOneSays};
 ghost use Rattle.rebuild_two.specs.Says.{TwoSays};
 use refusals::Answer;
 use refusals::Shape;
@@ -31,7 +31,7 @@ pub extern "C" fn cuzhaveli_rebuild_by_plan(
 ) -> Answer
     ensures { λ r. ⌜ ByPlanSays (shape .width) (shape .disks) (shape .«cell_size») lost (now (plan .entry)) (now (stripe .entry)) (now (column .entry)) (now (column .exit)) r ⌝ }
 {
-    rebuild_plan::rebuild_by_plan(shape, lost, plan, stripe, column)
+    host_plans::rebuild_by_plan(shape, lost, plan, stripe, column)
 }
 
 // Rebuilds one lost disk by the balanced plan.
@@ -44,7 +44,7 @@ pub extern "C" fn cuzhaveli_rebuild_balanced(
 ) -> Answer
     ensures { λ r. ⌜ BalancedOneSays (shape .width) (shape .disks) (shape .«cell_size») lost (now (stripe .entry)) (now (column .entry)) (now (column .exit)) r ⌝ }
 {
-    rebuild_balanced::rebuild_balanced(shape, lost, stripe, column)
+    rebuild_one::rebuild_balanced(shape, lost, stripe, column)
 }
 
 // Rebuilds two lost disks of a lent stripe in place.

@@ -1,24 +1,24 @@
 // The calls for C and Rust on a rebuild run.
 // Each hands its arguments on to the proved call and promises what that call promises.
 ghost use mathlib.Core.Path.{_≡_};
-ghost use Rattle.runs.specs.Runs.{SkipSays};
-ghost use Rattle.run_starts.specs.Starts.{OpenSays, resumed, resumedDisks};
-ghost use Rattle.run_steps.specs.Says.{StepSays};
-ghost use Rattle.run_progress.specs.Says.{ProgressSays};
+ghost use Rattle.rebuild_runs.specs.Runs.{SkipSays};
+ghost use Rattle.rebuild_runs.specs.starts.Starts.{OpenSays, resumed, resumedDisks};
+ghost use Rattle.rebuild_runs.specs.steps.Says.{StepSays};
+ghost use Rattle.rebuild_runs.specs.progress.Says.{ProgressSays};
+use rebuild_runs::DisksRun;
+use rebuild_runs::FullRun;
+use rebuild_runs::Progress;
+use rebuild_runs::Run;
+use rebuild_runs::RunAnswer;
 use refusals::Answer;
 use refusals::Shape;
-use run_progress::Progress;
-use run_starts::DisksRun;
-use run_starts::FullRun;
-use runs::Run;
-use runs::RunAnswer;
 
 // Opens a rebuild run over `stripes` stripes.
 #[no_mangle]
 pub extern "C" fn cuzhaveli_open_run(shape: Shape, lost: usize, stripes: u32) -> RunAnswer
     ensures { λ r. ⌜ OpenSays (shape .width) (shape .disks) (shape .«cell_size») lost stripes r ⌝ }
 {
-    run_starts::open_run(shape, lost, stripes)
+    rebuild_runs::open_run(shape, lost, stripes)
 }
 
 // A run that was open when its record had no number of data disks goes on with as many as its width.
@@ -26,7 +26,7 @@ pub extern "C" fn cuzhaveli_open_run(shape: Shape, lost: usize, stripes: u32) ->
 pub extern "C" fn cuzhaveli_resume_full_run(old: FullRun) -> Run
     ensures { λ r. ⌜ r ≡ resumed old ⌝ }
 {
-    run_starts::resume_full_run(old)
+    rebuild_runs::resume_full_run(old)
 }
 
 // A run that was open when no stripe could be skipped goes on with none skipped.
@@ -34,7 +34,7 @@ pub extern "C" fn cuzhaveli_resume_full_run(old: FullRun) -> Run
 pub extern "C" fn cuzhaveli_resume_disks_run(old: DisksRun) -> Run
     ensures { λ r. ⌜ r ≡ resumedDisks old ⌝ }
 {
-    run_starts::resume_disks_run(old)
+    rebuild_runs::resume_disks_run(old)
 }
 
 // A step of a run over its lent record: rebuilds stripe `which` into the column and moves the record on by one. A refusal stores nothing, so the record may then lie in memory that is only read.
@@ -47,7 +47,7 @@ pub extern "C" fn cuzhaveli_step_run(
 ) -> Answer
     ensures { λ r. ⌜ StepSays (now (run .entry)) (now (run .exit)) which (now (stripe .entry)) (now (column .entry)) (now (column .exit)) r ⌝ }
 {
-    let stepped = run_steps::step_run(*run, which, stripe, column);
+    let stepped = rebuild_runs::step_run(*run, which, stripe, column);
     if stepped.answer.refusal != 0 {
         return stepped.answer;
     }
@@ -60,7 +60,7 @@ pub extern "C" fn cuzhaveli_step_run(
 pub extern "C" fn cuzhaveli_skip_stripe(run: &mut Run, which: u64) -> Answer
     ensures { λ r. ⌜ SkipSays (now (run .entry)) (now (run .exit)) which r ⌝ }
 {
-    let skipped = runs::skip_stripe(*run, which);
+    let skipped = rebuild_runs::skip_stripe(*run, which);
     if skipped.answer.refusal != 0 {
         return skipped.answer;
     }
@@ -73,5 +73,5 @@ pub extern "C" fn cuzhaveli_skip_stripe(run: &mut Run, which: u64) -> Answer
 pub extern "C" fn cuzhaveli_run_progress(run: &Run) -> Progress
     ensures { λ r. ⌜ ProgressSays (now (run .entry)) r ⌝ }
 {
-    run_progress::run_progress(*run)
+    rebuild_runs::run_progress(*run)
 }

@@ -1,8 +1,8 @@
 // The call for C and Rust on a list of the states of arrays.
 // It goes over the lent records itself and hands each to the proved steps of `state_lists`, `state_scans` and `state_reports`.
-ghost use Rattle.state_reports.specs.Reports.{ReportSays};
-use state_reports::Board;
-use states::ArrayState;
+ghost use Rattle.array_states.specs.board.Reports.{ReportSays};
+use array_states::ArrayState;
+use array_states::Board;
 
 // A report on array `which` of a lent list: its disk `disk` was lost, or is back. Every record is read, and one is written or none.
 #[no_mangle]
@@ -14,14 +14,14 @@ pub extern "C" fn cuzhaveli_report_disk(
 ) -> Board
     ensures { λ r. ⌜ ReportSays (now (list .entry)) which disk back (now (list .exit)) r ⌝ }
 {
-    let n = state_lists::scan_length(list.len());
-    let mut s = state_lists::scan_start();
+    let n = array_states::scan_length(list.len());
+    let mut s = array_states::scan_start();
     let mut i = 0;
     while i < n {
-        s = state_scans::scan_record(s, which, disk, back, list[i]);
+        s = array_states::scan_record(s, which, disk, back, list[i]);
         i += 1;
     }
-    let r = state_reports::scan_answer(s, n, which);
+    let r = array_states::scan_answer(s, n, which);
     if r.answer.refusal == 0 {
         list[which] = s.found;
     }

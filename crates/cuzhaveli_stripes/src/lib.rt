@@ -1,6 +1,6 @@
 // The calls for C and Rust that write a stripe: P and Q from all data cells, or one data cell and the parity that depends on it.
 // Each hands its arguments on to the proved call and promises what that call promises.
-ghost use Rattle.encode_stripe.specs.Says.{EncodeSays};
+ghost use Rattle.encode.specs.Says.{EncodeSays};
 ghost use Rattle.update.specs.Says.{UpdateSays};
 use refusals::Answer;
 use refusals::Shape;
@@ -10,7 +10,7 @@ use refusals::Shape;
 pub extern "C" fn cuzhaveli_encode_stripe(shape: Shape, stripe: &mut [u8]) -> Answer
     ensures { λ r. ⌜ EncodeSays (shape .width) (shape .disks) (shape .«cell_size») (now (stripe .entry)) (now (stripe .exit)) r ⌝ }
 {
-    encode_stripe::encode_stripe(shape, stripe)
+    encode::encode_stripe(shape, stripe)
 }
 
 // Puts a lent cell of s bytes into row `row` of data disk `disk` of a lent stripe, and keeps the XOR of every set.

@@ -6,16 +6,16 @@ use Prim.Native.Nat.{ℕ, zero, suc, _+_, _*_, _≤_}
 use lib.Dec.{eqb}
 use lib.ListN.{length, drop}
 use borrow.Author.Tests.{eqb-true, eq-eqb}
-use Rattle.laws.specs.Choice.{pick, firstOf}
-use Rattle.laws.proofs.ChoiceLaws.{first-none}
-use Rattle.laws.proofs.Flags.{and-i, and-r}
+use Rattle.mathematics.specs.Choice.{pick, firstOf}
+use Rattle.mathematics.proofs.ChoiceLaws.{first-none}
+use Rattle.mathematics.proofs.Flags.{and-i, and-r}
 use Rattle.liberation.specs.Limits.{InArray}
 use Rattle.liberation.specs.Sets.{planFault, longFault}
 use Rattle.liberation.specs.Plans.{readCount}
 use Rattle.liberation.specs.Judging.{judge, stepsIn, accepted}
 use Rattle.liberation.proofs.FaultLaws.{plan-of, plan-none, long-accepted, long-of}
 use Rattle.refusals.specs.declared.Answer.{Answer}
-use Rattle.judge_steps.specs.declared.Judged.{Judged}
+use Rattle.judge.specs.declared.all_steps.Judged.{Judged}
 use Rattle.judge.specs.Says.{formFault, DecidesOn, JudgeSays}
 
 -- the bytes bs are an accepted plan for lost disk f

@@ -3,14 +3,14 @@ use mathlib.Core.Path.{_≡_, sym, ap, _∙_}
 use mathlib.Core.List.{List}
 use Prim.Native.Nat.{ℕ}
 use lib.Dec.{eqb}
-use Rattle.laws.specs.Choice.{pick, firstOf}
-use Rattle.laws.proofs.ChoiceLaws.{first-kept, pick-refused, pick-done}
+use Rattle.mathematics.specs.Choice.{pick, firstOf}
+use Rattle.mathematics.proofs.ChoiceLaws.{first-kept, pick-refused, pick-done}
 use Rattle.liberation.specs.Plans.{readCount}
 use Rattle.liberation.specs.Judging.{judge, stepsIn}
 use Rattle.refusals.specs.declared.Answer.{Answer}
 use Rattle.refusals.specs.Answers.{Answers}
-use Rattle.judge_steps.specs.declared.Judged.{Judged}
-use Rattle.judge_steps.specs.Says.{StepsSay}
+use Rattle.judge.specs.declared.all_steps.Judged.{Judged}
+use Rattle.judge.specs.all_steps.Says.{StepsSay}
 use Rattle.judge.specs.Says.{formFault, judgeFault, DecidesOn, JudgeSays}
 
 -- refused before any step

@@ -1,2 +1,3 @@
 -- What the judge promises.
 pub mod Says
+pub mod all_steps

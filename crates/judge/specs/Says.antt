@@ -3,12 +3,12 @@ use mathlib.Core.Path.{_≡_}
 use mathlib.Core.List.{List}
 use Prim.Native.Nat.{ℕ, _*_}
 use lib.Dec.{eqb}
-use Rattle.laws.specs.Choice.{pick, firstOf}
+use Rattle.mathematics.specs.Choice.{pick, firstOf}
 use Rattle.liberation.specs.Sets.{planFault, longFault}
 use Rattle.liberation.specs.Plans.{readCount}
 use Rattle.liberation.specs.Judging.{Judged as Verdict, judge, stepsIn}
 use Rattle.refusals.specs.declared.Answer.{Answer}
-use Rattle.judge_steps.specs.declared.Judged.{Judged}
+use Rattle.judge.specs.declared.all_steps.Judged.{Judged}
 
 -- refusals before any step is looked at
 abbrev pub formFault : ℕ → ℕ → ℕ → List ℕ → ℕ

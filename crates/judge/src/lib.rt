@@ -1,12 +1,16 @@
 // The judge of a plan sent by a host: its read count, or a refusal with its place.
+pub mod all_steps;
+mod one_step;
+
+pub use all_steps::Judged;
+pub use all_steps::wide;
 ghost use mathlib.Core.Path.{_≡_};
 ghost use mathlib.Core.Bool.{not};
 ghost use Prim.Native.Nat.{_*_};
 ghost use lib.Dec.{eqb};
-ghost use Rattle.laws.specs.Choice.{firstOf, when};
+ghost use Rattle.mathematics.specs.Choice.{firstOf, when};
 ghost use Rattle.liberation.specs.Sets.{planFault};
 ghost use Rattle.judge.specs.Says.{JudgeSays};
-use judge_steps::Judged;
 
 // The refusal of a plan of `long` bytes before any step is looked at, 0 for none.
 fn form_fault(width: usize, disks: usize, lost: usize, long: usize) -> u8
@@ -33,6 +37,6 @@ pub fn judge_plan(width: usize, disks: usize, lost: usize, plan: &[u8]) -> Judge
             reads: 0,
         };
     }
-    let mut marks = cell_marks::no_marks();
-    judge_steps::judge_steps(width, disks, lost, plan, &mut marks[..width * (disks + 2)])
+    let mut marks = parity_sets::no_marks();
+    all_steps::judge_steps(width, disks, lost, plan, &mut marks[..width * (disks + 2)])
 }

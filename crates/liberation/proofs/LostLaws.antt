@@ -9,12 +9,12 @@ use native.Mathlib.Nat.{mod-lt}
 use native.Mathlib.Omega.{arith}
 use lib.Dec.{eqb, ltb, leb}
 use borrow.Author.Tests.{eqb-true, eq-eqb, ne-eqb, leb-true, le-leb, ltb-true, lt-ltb}
-use Rattle.laws.specs.Choice.{pick}
-use Rattle.laws.specs.Lists.{isIn}
-use Rattle.laws.proofs.Flags.{and-l, and-r, and-i, or-cases, same-flag}
-use Rattle.laws.proofs.OrderLaws.{eq-or-lt}
-use Rattle.laws.proofs.TestLaws.{eqb-sym}
-use Rattle.laws.proofs.Walks.{Walk}
+use Rattle.mathematics.specs.Choice.{pick}
+use Rattle.mathematics.specs.Lists.{isIn}
+use Rattle.mathematics.proofs.Flags.{and-l, and-r, and-i, or-cases, same-flag}
+use Rattle.mathematics.proofs.OrderLaws.{eq-or-lt}
+use Rattle.mathematics.proofs.TestLaws.{eqb-sym}
+use Rattle.mathematics.proofs.Walks.{Walk}
 use Rattle.liberation.specs.Sets.{place, rowAt, diskAt, rowSet, diagonalFrom, ordinary, extraRow, extraDisk, extraOf, hasExtra, diagonalSet, lostIn, survivingIn}
 use Rattle.liberation.specs.Plans.{secondRow, extraRowOn}
 use Rattle.liberation.proofs.SetLaws.{disk-place, row-place, in-diagonal, in-ordinary-data, extra-cases, extra-range, row-cells, diagonal-cells}

@@ -7,8 +7,8 @@ use native.Mathlib.Nat.{mul-le-mul}
 use native.Mathlib.Omega.{arith}
 use lib.ListN.{length, set, take, drop, replicate}
 use borrow.Author.Tests.{eq-eqb, ne-eqb}
-use Rattle.laws.specs.Choice.{when}
-use Rattle.laws.specs.Lists.{isIn}
+use Rattle.mathematics.specs.Choice.{when}
+use Rattle.mathematics.specs.Lists.{isIn}
 use Rattle.liberation.specs.Plans.{marksFrom}
 
 pub length-marks : (n i : ℕ) (ys : List ℕ) → length (marksFrom n i ys) ≡ n

@@ -9,11 +9,11 @@ use native.Mathlib.Omega.{arith}
 use lib.Dec.{eqb, ltb, leb}
 use lib.ListN.{length}
 use borrow.Author.Tests.{le-leb, lt-ltb, le-ltb, ltb-true}
-use Rattle.laws.specs.Choice.{pick, when, firstOf}
-use Rattle.laws.specs.Lists.{isIn}
-use Rattle.laws.proofs.Flags.{and-l, and-r, or-l, or-r}
-use Rattle.laws.proofs.OrderLaws.{lt-or-le}
-use Rattle.laws.proofs.TestLaws.{eqb-same}
+use Rattle.mathematics.specs.Choice.{pick, when, firstOf}
+use Rattle.mathematics.specs.Lists.{isIn}
+use Rattle.mathematics.proofs.Flags.{and-l, and-r, or-l, or-r}
+use Rattle.mathematics.proofs.OrderLaws.{lt-or-le}
+use Rattle.mathematics.proofs.TestLaws.{eqb-same}
 use Rattle.liberation.specs.Sets.{place, rowSet, diagonalSet, setOf, lostIn}
 use Rattle.liberation.specs.Plans.{Step, allOf, planOf}
 use Rattle.liberation.specs.Judging.{othersThere, stepFault, Judged, judged, judgeFrom, accepted}

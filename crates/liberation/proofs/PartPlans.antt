@@ -6,7 +6,7 @@ use Prim.Native.Nat.{ℕ, suc, _+_, _*_, _≤_, _<_}
 use native.Mathlib.Omega.{arith}
 use lib.Dec.{eqb}
 use lib.ListN.{getD}
-use Rattle.laws.specs.Choice.{when}
+use Rattle.mathematics.specs.Choice.{when}
 use Rattle.liberation.specs.Sets.{isWidth, place}
 use Rattle.liberation.specs.Plans.{planOf, readCount, readList}
 use Rattle.liberation.specs.Judging.{accepted}

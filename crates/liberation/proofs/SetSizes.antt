@@ -8,8 +8,8 @@ use native.Mathlib.Omega.{arith}
 use lib.Dec.{eqb, ltb}
 use lib.ListN.{length, getD}
 use borrow.Author.Tests.{eq-eqb, ne-eqb, lt-ltb, le-ltb, le-leb, lt-leb}
-use Rattle.laws.specs.Choice.{pick}
-use Rattle.laws.proofs.Flags.{and-i, flag}
+use Rattle.mathematics.specs.Choice.{pick}
+use Rattle.mathematics.proofs.Flags.{and-i, flag}
 use Rattle.liberation.specs.Sets.{place, rowSet, diagonalSet, setOf, extraDisk, extraRow, hasExtra}
 use Rattle.liberation.proofs.CellLaws.{length-row, row-at, length-with, length-without, diagonal-at, parity-at, extra-at}
 

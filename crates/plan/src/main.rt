@@ -4,7 +4,7 @@
 fn main() {
     let mut buffer = io::buffer();
     let n = io::read_full(0, &mut buffer);
-    let text = plan_text::plan_text(&buffer[..n]);
+    let text = printed_plan::plan_text(&buffer[..n]);
     let bytes = text.bytes;
     let length = text.length;
     io::write_all(1, &bytes[..length]);

@@ -10,8 +10,8 @@ use Rattle.liberation.specs.Judging.{stepsIn}
 use Rattle.liberation.proofs.FaultLaws.{plan-of}
 use Rattle.liberation.proofs.RecordLaws.{length-form, form-steps}
 use Rattle.refusals.proofs.AnswerLaws.{answers-none}
-use Rattle.plan_steps.specs.Says.{plannedSteps}
-use Rattle.plan_steps.proofs.PlannedLaws.{held-as, ours-held, planned-is}
+use Rattle.planner.specs.steps.Says.{plannedSteps}
+use Rattle.planner.proofs.steps.PlannedLaws.{held-as, ours-held, planned-is}
 use Rattle.planner.specs.declared.Plan.{Plan}
 use Rattle.planner.specs.Says.{PlanSays}
 

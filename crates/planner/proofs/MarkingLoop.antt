@@ -5,12 +5,12 @@ use Prim.Native.Nat.{ℕ, suc, _+_, _*_, _≤_, _<_}
 use native.Mathlib.Numerals.{add-one}
 use native.Mathlib.Omega.{arith}
 use lib.ListN.{length, drop, drop-of-length-le}
-use Rattle.laws.specs.Lists.{added}
+use Rattle.mathematics.specs.Lists.{added}
 use Rattle.liberation.specs.Sets.{setOf, survivingIn}
 use Rattle.liberation.specs.Plans.{Step, readFrom, cellsRead, readCount, marksFrom, listOf}
 use Rattle.liberation.proofs.SetLaws.{survivors-below}
-use Rattle.cell_marks.specs.Marks.{Marked}
-use Rattle.cell_marks.proofs.MarkLaws.{marked-read, marked-few}
+use Rattle.parity_sets.specs.marks.Marks.{Marked}
+use Rattle.parity_sets.proofs.marks.MarkLaws.{marked-read, marked-few}
 
 -- The loop over the steps: after i of them the marks stand for the cells read so far, and `reads` counts them.
 pub record Reading (p k f : ℕ) (ss : List Step) (m : List ℕ) (reads i : ℕ) : Type 0 where

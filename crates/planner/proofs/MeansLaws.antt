@@ -5,7 +5,7 @@ use mathlib.Core.Logic.{_⊎_, inl, inr}
 use Prim.Native.Nat.{ℕ, suc, _+_, _*_, _≤_, _<_}
 use lib.Count.{ones}
 use lib.Dec.{eqb}
-use Rattle.laws.specs.Choice.{pick}
+use Rattle.mathematics.specs.Choice.{pick}
 use Rattle.liberation.specs.Limits.{InArray}
 use Rattle.liberation.specs.Sets.{isWidth, planFault}
 use Rattle.liberation.specs.Plans.{planOf, routeWord, readCount}

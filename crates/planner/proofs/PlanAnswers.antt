@@ -3,15 +3,15 @@ use mathlib.Core.Path.{_≡_, sym, ap, subst, _∙_}
 use mathlib.Core.List.{List, []}
 use Prim.Native.Nat.{ℕ}
 use lib.Dec.{eqb}
-use Rattle.laws.specs.Choice.{pick}
-use Rattle.laws.proofs.ChoiceLaws.{pick-refused, pick-done}
+use Rattle.mathematics.specs.Choice.{pick}
+use Rattle.mathematics.proofs.ChoiceLaws.{pick-refused, pick-done}
 use Rattle.liberation.specs.Plans.{Step, readCount}
 use Rattle.refusals.specs.Answers.{Answers}
 use Rattle.refusals.proofs.AnswerLaws.{answers-as}
-use Rattle.step_records.specs.declared.Steps.{Steps}
-use Rattle.step_records.specs.Records.{Holds, held}
-use Rattle.plan_steps.specs.declared.Planned.{Planned}
-use Rattle.plan_steps.proofs.PlannedLaws.{held-as}
+use Rattle.planner.specs.declared.records.Steps.{Steps}
+use Rattle.planner.specs.records.Records.{Holds, held}
+use Rattle.planner.specs.declared.steps.Planned.{Planned}
+use Rattle.planner.proofs.steps.PlannedLaws.{held-as}
 use Rattle.planner.specs.declared.Plan.{Plan}
 use Rattle.planner.specs.Says.{Finished, NoPlan, GivesPlan}
 

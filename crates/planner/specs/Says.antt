@@ -3,12 +3,12 @@ use mathlib.Core.Path.{_≡_}
 use mathlib.Core.List.{List, []}
 use Prim.Native.Nat.{ℕ}
 use lib.Dec.{eqb}
-use Rattle.laws.specs.Choice.{pick}
+use Rattle.mathematics.specs.Choice.{pick}
 use Rattle.liberation.specs.Sets.{planFault}
 use Rattle.liberation.specs.Plans.{Step, planOf, routeWord, readCount}
 use Rattle.refusals.specs.Answers.{Answers}
-use Rattle.step_records.specs.Records.{Holds, held}
-use Rattle.plan_steps.specs.declared.Planned.{Planned}
+use Rattle.planner.specs.records.Records.{Holds, held}
+use Rattle.planner.specs.declared.steps.Planned.{Planned}
 use Rattle.planner.specs.declared.Plan.{Plan}
 
 -- plan q with its reads counted

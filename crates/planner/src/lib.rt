@@ -1,4 +1,24 @@
+// Our recovery plan for one lost disk: its routes, its steps, its read count and its read list; the balanced plan and the relief plan.
 // Our plan for one lost disk with its read count. Nothing here knows of bytes in stripes.
+mod balanced;
+pub mod balanced_record;
+mod balanced_routes;
+pub mod reads;
+pub mod records;
+pub mod relief;
+mod relief_record;
+mod relief_routes;
+mod routes;
+pub mod steps;
+
+pub use balanced::balanced_plan;
+pub use balanced_record::balanced_steps;
+pub use reads::clear;
+pub use reads::read_list;
+pub use records::Steps;
+pub use relief::relief_plan;
+pub use steps::Planned;
+pub use steps::plan_steps;
 ghost use mathlib.Core.Path.{_≡_};
 ghost use mathlib.Core.Bool.{true};
 ghost use mathlib.Core.List.{[]};
@@ -6,11 +26,9 @@ ghost use Prim.Native.Nat.{_+_, _*_, _≤_};
 ghost use Rattle.liberation.specs.Limits.{InArray};
 ghost use Rattle.liberation.specs.Plans.{readCount, listOf, marksFrom};
 ghost use Rattle.liberation.specs.Judging.{accepted};
-ghost use Rattle.step_records.specs.Records.{held};
+ghost use Rattle.planner.specs.records.Records.{held};
 ghost use Rattle.planner.specs.Says.{Finished, NoPlan, PlanSays};
-use plan_steps::Planned;
 use refusals::Answer;
-use step_records::Steps;
 
 // A plan: the answer, the steps, a bit for each row that takes a diagonal, the read count.
 #[repr(C)]
@@ -33,7 +51,7 @@ pub fn mark_steps(width: usize, disks: usize, lost: usize, s: Steps, marks: &mut
     while i < width {
         let kind = kinds[i] as usize;
         let number = numbers[i] as usize;
-        reads += cell_marks::mark_set(width, disks, lost, kind, number, marks);
+        reads += parity_sets::mark_set(width, disks, lost, kind, number, marks);
         i += 1;
     }
     reads
@@ -46,7 +64,7 @@ pub fn finished(width: usize, disks: usize, lost: usize, p: Planned) -> Plan
 {
     let s = p.steps;
     let n = width * (disks + 2);
-    let mut marks = cell_marks::no_marks();
+    let mut marks = parity_sets::no_marks();
     let reads = mark_steps(width, disks, lost, s, &mut marks[..n]);
     let answer = p.answer;
     Plan {
@@ -61,7 +79,7 @@ pub fn finished(width: usize, disks: usize, lost: usize, p: Planned) -> Plan
 pub fn refused_plan(refusal: u8) -> Plan
     ensures { λ r. ⌜ NoPlan refusal r ⌝ }
 {
-    let steps = step_records::no_steps();
+    let steps = records::no_steps();
     Plan {
         answer: refusals::answered(refusal),
         steps: steps,
@@ -78,6 +96,6 @@ pub fn plan_disk(width: usize, disks: usize, lost: usize) -> Plan
     if fault != 0 {
         return refused_plan(fault);
     }
-    let p = plan_steps::our_plan(width, disks, lost);
+    let p = steps::our_plan(width, disks, lost);
     finished(width, disks, lost, p)
 }

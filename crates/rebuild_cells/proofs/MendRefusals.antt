@@ -5,14 +5,14 @@ use mathlib.Core.List.{List}
 use Prim.Native.Nat.{ℕ, _+_, _*_}
 use native.Mathlib.Omega.{arith}
 use lib.ListN.{length}
-use Rattle.laws.specs.Choice.{pick, when, firstOf}
-use Rattle.laws.specs.Xor.{allBytes}
-use Rattle.laws.proofs.ChoiceLaws.{first-none, first-kept, first-next, pick-refused, pick-done}
+use Rattle.mathematics.specs.Choice.{pick, when, firstOf}
+use Rattle.mathematics.specs.Xor.{allBytes}
+use Rattle.mathematics.proofs.ChoiceLaws.{first-none, first-kept, first-next, pick-refused, pick-done}
 use Rattle.liberation.specs.Sets.{shapeFault, longFault}
 use Rattle.liberation.proofs.FaultLaws.{shape-of, long-of}
-use Rattle.liberation_stripes.specs.Stripes.{stripeLong}
-use Rattle.liberation_stripes.specs.Limits.{Sized}
-use Rattle.liberation_cells.specs.Mending.{missingCells, mendable, mendedCells}
+use Rattle.liberation.specs.stripes.Stripes.{stripeLong}
+use Rattle.liberation.specs.stripes.Limits.{Sized}
+use Rattle.rebuild_cells.specs.theory.Mending.{missingCells, mendable, mendedCells}
 use Rattle.refusals.specs.declared.Answer.{Answer}
 use Rattle.refusals.specs.Answers.{Answers}
 use Rattle.refusals.proofs.AnswerLaws.{answers-as}

@@ -4,11 +4,11 @@ use mathlib.Core.Bool.{true, not}
 use mathlib.Core.List.{List}
 use Prim.Native.Nat.{ℕ, _+_, _*_}
 use lib.Dec.{eqb}
-use Rattle.laws.specs.Choice.{pick, when, firstOf}
-use Rattle.laws.specs.Xor.{allBytes}
+use Rattle.mathematics.specs.Choice.{pick, when, firstOf}
+use Rattle.mathematics.specs.Xor.{allBytes}
 use Rattle.liberation.specs.Sets.{shapeFault, longFault}
-use Rattle.liberation_stripes.specs.Stripes.{stripeLong}
-use Rattle.liberation_cells.specs.Mending.{missingCells, mendable, mendedCells}
+use Rattle.liberation.specs.stripes.Stripes.{stripeLong}
+use Rattle.rebuild_cells.specs.theory.Mending.{missingCells, mendable, mendedCells}
 use Rattle.refusals.specs.declared.Answer.{Answer}
 use Rattle.refusals.specs.Answers.{Answers}
 

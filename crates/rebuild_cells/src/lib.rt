@@ -1,11 +1,15 @@
 // The mend of missing cells, on any disks of a stripe, in place. Refusals are tested here; the mend is below.
+mod equations;
+mod mends;
+mod reduction;
+
 ghost use mathlib.Core.Path.{_≡_};
 ghost use mathlib.Core.Bool.{not};
 ghost use Prim.Native.Nat.{_+_, _*_};
 ghost use lib.Dec.{eqb};
-ghost use Rattle.laws.specs.Choice.{when, firstOf};
+ghost use Rattle.mathematics.specs.Choice.{when, firstOf};
 ghost use Rattle.liberation.specs.Sets.{shapeFault};
-ghost use Rattle.liberation_stripes.specs.Stripes.{stripeLong};
+ghost use Rattle.liberation.specs.stripes.Stripes.{stripeLong};
 ghost use Rattle.rebuild_cells.specs.Says.{RebuildCellsSays};
 use refusals::Answer;
 use refusals::Shape;
@@ -18,11 +22,11 @@ fn lent_fault(width: usize, disks: usize, size: usize, marks: usize, long: usize
     if fault != 0 {
         return fault;
     }
-    let first = number_tests::length_fault(marks, width * (disks + 2));
+    let first = refusals::length_fault(marks, width * (disks + 2));
     if first != 0 {
         return first;
     }
-    number_tests::length_fault(long, (disks + 2) * (width * size))
+    refusals::length_fault(long, (disks + 2) * (width * size))
 }
 
 // Mends the cells whose marks are not 0, in place. Refusals: 1, 13, 2, 5, and 23 where the other cells do not determine them; a refused call leaves the stripe as it was.
@@ -39,7 +43,7 @@ pub fn rebuild_cells(shape: Shape, missing: &[u8], stripe: &mut [u8]) -> Answer
     if refusal != 0 {
         return refusals::answered(refusal);
     }
-    if cell_mends::mend(shape.width, shape.disks, shape.cell_size, missing, stripe) {
+    if mends::mend(shape.width, shape.disks, shape.cell_size, missing, stripe) {
         return refusals::answered(0);
     }
     refusals::answered(23)

@@ -6,13 +6,13 @@ use Prim.Native.Nat.{ℕ, _+_, _*_, _≤_}
 use lib.Dec.{eqb}
 use lib.ListN.{length}
 use borrow.Author.Tests.{eqb-true, not-false}
-use Rattle.laws.specs.Choice.{firstOf, when}
-use Rattle.laws.specs.Xor.{allBytes}
-use Rattle.laws.proofs.ChoiceLaws.{first-none, when-none, pick-refused, pick-done}
+use Rattle.mathematics.specs.Choice.{firstOf, when}
+use Rattle.mathematics.specs.Xor.{allBytes}
+use Rattle.mathematics.proofs.ChoiceLaws.{first-none, when-none, pick-refused, pick-done}
 use Rattle.liberation.specs.Sets.{numbersFault, longFault}
 use Rattle.liberation.proofs.FaultLaws.{numbers-of, long-of}
-use Rattle.liberation_stripes.specs.Stripes.{stripeLong}
-use Rattle.liberation_stripes.specs.Limits.{Sized}
+use Rattle.liberation.specs.stripes.Stripes.{stripeLong}
+use Rattle.liberation.specs.stripes.Limits.{Sized}
 use Rattle.refusals.specs.declared.Answer.{Answer}
 use Rattle.refusals.specs.Answers.{Answers}
 use Rattle.refusals.proofs.AnswerLaws.{answers-as}

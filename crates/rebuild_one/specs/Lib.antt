@@ -1,2 +1,3 @@
 -- What the rebuild of one lost disk promises.
 pub mod Says
+pub mod balanced

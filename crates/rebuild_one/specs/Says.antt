@@ -5,10 +5,10 @@ use mathlib.Core.List.{List}
 use Prim.Native.Nat.{ℕ, _*_}
 use lib.Dec.{eqb}
 use lib.ListN.{length}
-use Rattle.laws.specs.Choice.{pick, when, firstOf}
-use Rattle.laws.specs.Xor.{allBytes}
+use Rattle.mathematics.specs.Choice.{pick, when, firstOf}
+use Rattle.mathematics.specs.Xor.{allBytes}
 use Rattle.liberation.specs.Sets.{numbersFault}
-use Rattle.liberation_stripes.specs.Stripes.{stripeLong, rebuilt}
+use Rattle.liberation.specs.stripes.Stripes.{stripeLong, rebuilt}
 use Rattle.refusals.specs.declared.Answer.{Answer}
 use Rattle.refusals.specs.Answers.{Answers}
 

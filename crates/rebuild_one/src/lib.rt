@@ -1,9 +1,17 @@
 // The rebuild of one lost disk from a lent stripe into a lent column: our plan is made and followed.
+mod balanced;
+mod in_place;
+mod into_column;
+mod one_cell;
+
+pub use balanced::rebuild_balanced;
+pub use in_place::rebuild_within;
+pub use into_column::follow;
+ghost use mathlib.Core.Path.{_≡_};
+ghost use Rattle.liberation.specs.stripes.Stripes.{rebuilt};
+ghost use Rattle.rebuild_one.specs.Says.{lengthsFault, oneFault, OneSays};
 use refusals::Answer;
 use refusals::Shape;
-ghost use mathlib.Core.Path.{_≡_};
-ghost use Rattle.liberation_stripes.specs.Stripes.{rebuilt};
-ghost use Rattle.rebuild_one.specs.Says.{lengthsFault, oneFault, OneSays};
 
 // The refusal of a call on a stripe and a column of these many bytes, 0 for none.
 pub fn one_fault(
@@ -20,11 +28,11 @@ pub fn one_fault(
     if fault != 0 {
         return fault;
     }
-    let short = number_tests::length_fault(stripe, (disks + 2) * (width * size));
+    let short = refusals::length_fault(stripe, (disks + 2) * (width * size));
     if short != 0 {
         return short;
     }
-    number_tests::length_fault(column, width * size)
+    refusals::length_fault(column, width * size)
 }
 
 // Makes our plan and follows it, where a call on these slices is not refused: for callers that have tested that.
@@ -39,9 +47,9 @@ pub fn rebuild_column(
     requires { ⌜ oneFault width disks size disk (now stripe) (now column) ≡ 0 ⌝ }
     ensures { λ _. ⌜ now (column .exit) ≡ rebuilt width disks size disk (now (stripe .entry)) ⌝ }
 {
-    let plan = plan_steps::plan_steps(width, disks, disk);
+    let plan = planner::plan_steps(width, disks, disk);
     let steps = plan.steps;
-    rebuild_steps::follow(width, disks, size, disk, steps, stripe, column);
+    into_column::follow(width, disks, size, disk, steps, stripe, column);
 }
 
 // Rebuilds one lost disk into the column. Refusals: 1, 13, 2, 3, 5; a refused call leaves the column as it was.

@@ -6,15 +6,15 @@ use Prim.Native.Nat.{ℕ, _+_, _<_}
 use native.Mathlib.Omega.{arith}
 use lib.ListN.{length}
 use borrow.Author.Tests.{not-false}
-use Rattle.laws.specs.Choice.{firstOf, when}
-use Rattle.laws.specs.Xor.{allBytes}
-use Rattle.laws.proofs.ChoiceLaws.{first-next, first-none, when-none, pick-refused, pick-done}
-use Rattle.liberation_stripes.specs.Stripes.{rebuilt}
-use Rattle.liberation_survivors.specs.Survivors.{fits}
+use Rattle.mathematics.specs.Choice.{firstOf, when}
+use Rattle.mathematics.specs.Xor.{allBytes}
+use Rattle.mathematics.proofs.ChoiceLaws.{first-next, first-none, when-none, pick-refused, pick-done}
+use Rattle.liberation.specs.stripes.Stripes.{rebuilt}
+use Rattle.liberation.specs.scrub.Survivors.{fits}
 use Rattle.refusals.specs.declared.Answer.{Answer}
 use Rattle.refusals.specs.Answers.{Answers}
 use Rattle.refusals.proofs.AnswerLaws.{answers-as}
-use Rattle.liberation_stripes.specs.Limits.{Sized}
+use Rattle.liberation.specs.stripes.Limits.{Sized}
 use Rattle.rebuild_one.specs.Says.{lengthsFault, oneFault}
 use Rattle.rebuild_one.proofs.OneRefusals.{fault-none}
 use Rattle.rebuild_tested.specs.Says.{testedFault, TestedSays}

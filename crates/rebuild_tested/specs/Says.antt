@@ -4,10 +4,10 @@ use mathlib.Core.Bool.{true, not}
 use mathlib.Core.List.{List}
 use Prim.Native.Nat.{ℕ}
 use lib.Dec.{eqb}
-use Rattle.laws.specs.Choice.{pick, when, firstOf}
-use Rattle.laws.specs.Xor.{allBytes}
-use Rattle.liberation_stripes.specs.Stripes.{rebuilt}
-use Rattle.liberation_survivors.specs.Survivors.{fits}
+use Rattle.mathematics.specs.Choice.{pick, when, firstOf}
+use Rattle.mathematics.specs.Xor.{allBytes}
+use Rattle.liberation.specs.stripes.Stripes.{rebuilt}
+use Rattle.liberation.specs.scrub.Survivors.{fits}
 use Rattle.refusals.specs.declared.Answer.{Answer}
 use Rattle.refusals.specs.Answers.{Answers}
 use Rattle.rebuild_one.specs.Says.{oneFault}

@@ -1,13 +1,15 @@
 // The rebuild of one lost disk with tested survivors: only where they are those of a clean stripe is the column written.
-use refusals::Answer;
-use refusals::Shape;
+mod columns;
+
 ghost use mathlib.Core.Path.{_≡_};
 ghost use mathlib.Core.Bool.{not};
 ghost use lib.ListN.{length};
-ghost use Rattle.laws.specs.Choice.{firstOf, when};
-ghost use Rattle.liberation_survivors.specs.Survivors.{fits};
+ghost use Rattle.mathematics.specs.Choice.{firstOf, when};
+ghost use Rattle.liberation.specs.scrub.Survivors.{fits};
 ghost use Rattle.rebuild_one.specs.Says.{lengthsFault};
 ghost use Rattle.rebuild_tested.specs.Says.{TestedSays};
+use refusals::Answer;
+use refusals::Shape;
 
 // The refusal of a call on a stripe and a column of these many bytes, 0 for none. The survivors are tested last, without a byte of the lost disk.
 fn tested_fault(
@@ -24,7 +26,7 @@ fn tested_fault(
     if fault != 0 {
         return fault;
     }
-    if survivors::disk_fits(width, disks, size, disk, stripe) {
+    if scrub::disk_fits(width, disks, size, disk, stripe) {
         return 0;
     }
     19
@@ -45,7 +47,7 @@ pub fn rebuild_tested(shape: Shape, lost: usize, stripe: &[u8], column: &mut [u8
     if refusal != 0 {
         return refusals::answered(refusal);
     }
-    tested_columns::tested_column(
+    columns::tested_column(
         shape.width,
         shape.disks,
         shape.cell_size,

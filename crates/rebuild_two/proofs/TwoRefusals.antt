@@ -5,17 +5,17 @@ use mathlib.Core.List.{List}
 use Prim.Native.Nat.{ℕ, _+_, _≤_}
 use lib.Dec.{eqb, ltb}
 use borrow.Author.Tests.{ltb-false, eqb-false}
-use Rattle.laws.specs.Choice.{when, firstOf}
-use Rattle.laws.specs.Xor.{allBytes}
-use Rattle.laws.proofs.ChoiceLaws.{first-none, when-none, pick-refused, pick-done}
+use Rattle.mathematics.specs.Choice.{when, firstOf}
+use Rattle.mathematics.specs.Xor.{allBytes}
+use Rattle.mathematics.proofs.ChoiceLaws.{first-none, when-none, pick-refused, pick-done}
 use Rattle.liberation.specs.Sets.{numbersFault, diskFault, longFault}
 use Rattle.liberation.proofs.FaultLaws.{numbers-of, long-of}
 use Rattle.refusals.specs.declared.Answer.{Answer}
 use Rattle.refusals.specs.Answers.{Answers}
 use Rattle.refusals.proofs.AnswerLaws.{answers-as}
-use Rattle.liberation_stripes.specs.Stripes.{stripeLong}
-use Rattle.liberation_pairs.specs.Pairs.{pairSolved}
-use Rattle.liberation_stripes.specs.Limits.{Sized}
+use Rattle.liberation.specs.stripes.Stripes.{stripeLong}
+use Rattle.liberation.specs.two_disks.Pairs.{pairSolved}
+use Rattle.liberation.specs.stripes.Limits.{Sized}
 use Rattle.rebuild_two.specs.Says.{twoFault, TwoSays}
 
 -- none of the refusals: the stripe is within the limits, and the disks are two of the array's

@@ -4,11 +4,11 @@ use mathlib.Core.Bool.{true}
 use mathlib.Core.List.{List}
 use Prim.Native.Nat.{ℕ}
 use lib.Dec.{eqb}
-use Rattle.laws.specs.Choice.{pick, when, firstOf}
-use Rattle.laws.specs.Xor.{allBytes}
+use Rattle.mathematics.specs.Choice.{pick, when, firstOf}
+use Rattle.mathematics.specs.Xor.{allBytes}
 use Rattle.liberation.specs.Sets.{numbersFault, diskFault, longFault}
-use Rattle.liberation_stripes.specs.Stripes.{stripeLong}
-use Rattle.liberation_pairs.specs.Pairs.{pairSolved}
+use Rattle.liberation.specs.stripes.Stripes.{stripeLong}
+use Rattle.liberation.specs.two_disks.Pairs.{pairSolved}
 use Rattle.refusals.specs.declared.Answer.{Answer}
 use Rattle.refusals.specs.Answers.{Answers}
 

@@ -1,10 +1,15 @@
 // The rebuild of two lost disks in place: document 01, "Two lost disks". Refusals are tested here; the walk is below.
+mod data;
+mod pair;
+mod with_parity;
+
+pub use pair::solve_pair;
 ghost use mathlib.Core.Path.{_≡_};
 ghost use mathlib.Core.Bool.{not};
 ghost use lib.Dec.{eqb};
-ghost use Rattle.laws.specs.Choice.{when, firstOf};
+ghost use Rattle.mathematics.specs.Choice.{when, firstOf};
 ghost use Rattle.liberation.specs.Sets.{numbersFault, diskFault};
-ghost use Rattle.liberation_stripes.specs.Stripes.{stripeLong};
+ghost use Rattle.liberation.specs.stripes.Stripes.{stripeLong};
 ghost use Rattle.rebuild_two.specs.Says.{TwoSays};
 use refusals::Answer;
 use refusals::Shape;
@@ -24,14 +29,14 @@ fn two_fault(
     if fault != 0 {
         return fault;
     }
-    let other = number_tests::disk_fault(disks, second);
+    let other = refusals::disk_fault(disks, second);
     if other != 0 {
         return other;
     }
     if first == second {
         return 4;
     }
-    number_tests::length_fault(long, (disks + 2) * (width * size))
+    refusals::length_fault(long, (disks + 2) * (width * size))
 }
 
 // Rebuilds two lost disks in place. Refusals: 1, 13, 2, 3, 4, 5; a refused call leaves the stripe as it was.
@@ -49,7 +54,7 @@ pub fn rebuild_two(shape: Shape, first: usize, second: usize, stripe: &mut [u8])
     if refusal != 0 {
         return refusals::answered(refusal);
     }
-    pair_rebuild::solve_pair(
+    pair::solve_pair(
         shape.width,
         shape.disks,
         shape.cell_size,

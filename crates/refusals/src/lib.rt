@@ -1,4 +1,10 @@
 // What a call answers when it refuses, the shape of an array, and the tests of the numbers of a call together, in the order of the refusals.
+mod numbers;
+pub mod stripe;
+
+pub use numbers::disk_fault;
+pub use numbers::length_fault;
+pub use stripe::stripe_fault;
 ghost use mathlib.Core.Path.{_≡_};
 ghost use Rattle.liberation.specs.Sets.{arrayFault, planFault, shapeFault, numbersFault};
 ghost use Rattle.refusals.specs.Answers.{Answers};
@@ -32,11 +38,11 @@ pub fn answered(refusal: u8) -> Answer
 pub fn array_fault(width: usize, disks: usize) -> u8
     ensures { λ r. ⌜ r ≡ arrayFault width disks ⌝ }
 {
-    let first = number_tests::width_fault(width);
+    let first = numbers::width_fault(width);
     if first != 0 {
         return first;
     }
-    number_tests::disks_fault(width, disks)
+    numbers::disks_fault(width, disks)
 }
 
 // The refusal of the numbers of a call on plans by 1, 13 or 3, 0 for none.
@@ -47,7 +53,7 @@ pub fn plan_fault(width: usize, disks: usize, disk: usize) -> u8
     if fault != 0 {
         return fault;
     }
-    number_tests::disk_fault(disks, disk)
+    numbers::disk_fault(disks, disk)
 }
 
 // The refusal of the numbers of a shape by 1, 13 or 2, 0 for none.
@@ -58,7 +64,7 @@ pub fn shape_fault(width: usize, disks: usize, size: usize) -> u8
     if array != 0 {
         return array;
     }
-    number_tests::size_fault(size)
+    numbers::size_fault(size)
 }
 
 // The refusal of the numbers of a call on a disk's bytes by 1, 13, 2 or 3, 0 for none.
@@ -69,6 +75,6 @@ pub fn numbers_fault(width: usize, disks: usize, size: usize, disk: usize) -> u8
     if shape != 0 {
         return shape;
     }
-    let last = number_tests::disk_fault(disks, disk);
+    let last = numbers::disk_fault(disks, disk);
     last
 }

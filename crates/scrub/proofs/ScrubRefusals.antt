@@ -6,14 +6,14 @@ use Prim.Native.Nat.{ℕ, _+_, _≤_, _<_}
 use native.Mathlib.Omega.{arith}
 use lib.Dec.{eqb, ltb}
 use borrow.Author.Tests.{lt-ltb, le-ltb}
-use Rattle.laws.specs.Choice.{pick}
-use Rattle.laws.specs.Xor.{allBytes}
-use Rattle.laws.proofs.ChoiceLaws.{pick-refused, and-refused}
-use Rattle.liberation_stripes.specs.Stripes.{clean}
-use Rattle.liberation_survivors.specs.Survivors.{suspect, verdict}
+use Rattle.mathematics.specs.Choice.{pick}
+use Rattle.mathematics.specs.Xor.{allBytes}
+use Rattle.mathematics.proofs.ChoiceLaws.{pick-refused, and-refused}
+use Rattle.liberation.specs.stripes.Stripes.{clean}
+use Rattle.liberation.specs.scrub.Survivors.{suspect, verdict}
 use Rattle.refusals.specs.Answers.{Answers}
 use Rattle.refusals.proofs.AnswerLaws.{answers-as}
-use Rattle.stripe_refusals.specs.Says.{stripeFault}
+use Rattle.refusals.specs.stripe.Says.{stripeFault}
 use Rattle.scrub.specs.declared.Scrubbed.{Scrubbed}
 use Rattle.scrub.specs.Says.{ScrubSays}
 

@@ -1,2 +1,3 @@
 -- What the scrub of a stripe promises.
 pub mod Says
+pub mod clean

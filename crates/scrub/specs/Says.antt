@@ -4,11 +4,11 @@ use mathlib.Core.Bool.{true, _&&_}
 use mathlib.Core.List.{List}
 use Prim.Native.Nat.{ℕ}
 use lib.Dec.{eqb}
-use Rattle.laws.specs.Choice.{pick}
-use Rattle.laws.specs.Xor.{allBytes}
-use Rattle.liberation_survivors.specs.Survivors.{suspect, verdict}
+use Rattle.mathematics.specs.Choice.{pick}
+use Rattle.mathematics.specs.Xor.{allBytes}
+use Rattle.liberation.specs.scrub.Survivors.{suspect, verdict}
 use Rattle.refusals.specs.Answers.{Answers}
-use Rattle.stripe_refusals.specs.Says.{stripeFault}
+use Rattle.refusals.specs.stripe.Says.{stripeFault}
 use Rattle.scrub.specs.declared.Scrubbed.{Scrubbed}
 
 -- it refuses by 1, 13, 2 and 5; the disk is the suspect where the verdict is 1, and 0 otherwise

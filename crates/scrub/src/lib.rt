@@ -1,4 +1,12 @@
 // The scrub of a stripe: is it clean, is one disk inconsistent with the others, or more than one? The stripe is only read.
+mod clean;
+mod equations;
+mod fit;
+mod suspects;
+
+pub use clean::Checked;
+pub use clean::check_stripe;
+pub use fit::disk_fits;
 ghost use mathlib.Core.Path.{_≡_};
 ghost use Rattle.refusals.specs.Answers.{Answers};
 ghost use Rattle.scrub.specs.Says.{ScrubSays};
@@ -31,7 +39,7 @@ pub fn scrub_stripe(shape: Shape, stripe: &[u8]) -> Scrubbed
     let width = shape.width;
     let disks = shape.disks;
     let size = shape.cell_size;
-    let checked = check_stripe::check_stripe(shape, stripe);
+    let checked = clean::check_stripe(shape, stripe);
     if checked.answer.refusal != 0 {
         return found(checked.answer.refusal, 0, 0);
     }

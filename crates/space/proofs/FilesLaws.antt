@@ -8,8 +8,8 @@ use native.Mathlib.Numerals.{add-one}
 use native.Mathlib.Omega.{arith}
 use lib.ListN.{length, getD, drop}
 use lib.Seq.{drop-cons, drop-length, ext-getD}
-use Rattle.laws.specs.Sums.{total}
-use Rattle.laws.proofs.OrderLaws.{lt-or-le}
+use Rattle.mathematics.specs.Sums.{total}
+use Rattle.mathematics.proofs.OrderLaws.{lt-or-le}
 use Rattle.space.specs.Says.{upBy, upEach, nonempty, Few, Placed, Each}
 
 -- q times d are less than d above a, so one time fewer is below a

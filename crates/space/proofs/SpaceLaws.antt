@@ -7,15 +7,15 @@ use native.Mathlib.Omega.{arith}
 use lib.Dec.{ltb, leb}
 use lib.ListN.{length}
 use borrow.Author.Tests.{ltb-false, leb-true, le-leb}
-use Rattle.laws.specs.Choice.{firstOf}
-use Rattle.laws.specs.Sums.{total}
+use Rattle.mathematics.specs.Choice.{firstOf}
+use Rattle.mathematics.specs.Sums.{total}
 use Rattle.liberation.specs.Sets.{shapeFault}
-use Rattle.laws.proofs.ChoiceLaws.{first-none, when-none, pick-refused, pick-done, and-refused, and-done}
+use Rattle.mathematics.proofs.ChoiceLaws.{first-none, when-none, pick-refused, pick-done, and-refused, and-done}
 use Rattle.liberation.proofs.FaultLaws.{shape-of}
 use Rattle.refusals.specs.declared.Answer.{Answer}
 use Rattle.refusals.specs.Answers.{Answers}
 use Rattle.refusals.proofs.AnswerLaws.{answers-as, answers-none}
-use Rattle.space_tests.specs.Faults.{filesFault, packageFault, spaceFault}
+use Rattle.space.specs.limits.Faults.{filesFault, packageFault, spaceFault}
 use Rattle.space.specs.declared.Space.{Space}
 use Rattle.space.specs.Says.{upBy, stripeHolds, upEach, stripesOf, needOf, fitsIn, SpaceSays, Refused, Few, SpaceMeans}
 use Rattle.space.proofs.FilesLaws.{each-is, each-once, files-least, files-most, files-small}

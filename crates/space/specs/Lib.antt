@@ -1,2 +1,3 @@
 -- What the space call promises.
 pub mod Says
+pub mod limits

@@ -7,10 +7,10 @@ use mathlib.Core.Logic.{_↔_}
 use Prim.Native.Nat.{ℕ, zero, suc, _+_, _-_, _*_, _/_, _^_, _≤_, _<_}
 use lib.Dec.{eqb, leb}
 use lib.ListN.{length, getD}
-use Rattle.laws.specs.Choice.{pick}
-use Rattle.laws.specs.Sums.{total}
+use Rattle.mathematics.specs.Choice.{pick}
+use Rattle.mathematics.specs.Sums.{total}
 use Rattle.refusals.specs.Answers.{Answers}
-use Rattle.space_tests.specs.Faults.{spaceFault}
+use Rattle.space.specs.limits.Faults.{spaceFault}
 use Rattle.space.specs.declared.Space.{Space}
 
 -- the quotient of a by d, "rounded up"

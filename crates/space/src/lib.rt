@@ -1,6 +1,8 @@
 // The space that a package of files takes, each file on stripes of its own: the stripes, the bytes of each disk, and whether that fits.
+mod limits;
+
 ghost use mathlib.Core.Path.{_≡_};
-ghost use Rattle.laws.specs.Sums.{total};
+ghost use Rattle.mathematics.specs.Sums.{total};
 ghost use Rattle.space.specs.Says.{upEach, SpaceSays, Refused, Few};
 use refusals::Answer;
 use refusals::Shape;
@@ -47,7 +49,7 @@ pub fn package_space(shape: Shape, lengths: &[u64], free: u64) -> Space
     let width = shape.width;
     let disks = shape.disks;
     let size = shape.cell_size;
-    let fault = space_tests::space_fault(width, disks, size, lengths);
+    let fault = limits::space_fault(width, disks, size, lengths);
     if fault != 0 {
         return refused_space(fault);
     }

@@ -6,7 +6,7 @@ use native.Mathlib.Numerals.{add-one}
 use native.Mathlib.Omega.{arith}
 use lib.ListN.{length, getD, take, drop, set, replicate, length-append, length-drop, take-append-drop}
 use lib.Seq.{length-take-le, set-split, append-snoc, take-at, drop-at, drop-drop, take-length, paste, paste-suc}
-use Rattle.laws.proofs.LengthLaws.{drop-replicate}
+use Rattle.mathematics.proofs.LengthLaws.{drop-replicate}
 use Rattle.text.specs.Writing.{Wrote}
 
 -- one byte

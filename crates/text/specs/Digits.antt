@@ -2,7 +2,7 @@
 use mathlib.Core.List.{List, [], _∷_}
 use Prim.Native.Nat.{ℕ, _+_, _/_, _%_}
 use lib.Dec.{ltb}
-use Rattle.laws.specs.Choice.{pick}
+use Rattle.mathematics.specs.Choice.{pick}
 
 -- a number below 100 in decimal, no leading zero except 0 itself
 abbrev pub digitsOf : ℕ → List ℕ

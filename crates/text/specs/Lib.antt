@@ -1,3 +1,4 @@
 -- Text in a lent slice.
 pub mod Writing
 pub mod Digits
+pub mod steps

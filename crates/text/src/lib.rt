@@ -1,5 +1,9 @@
 // Text in a lent slice. The writers put a piece at a place, a fixed word or a number in decimal, leave all other bytes as they are, and say where the piece ends.
 // The readers look at one byte.
+pub mod steps;
+
+pub use steps::put_field;
+pub use steps::put_step;
 ghost use mathlib.Core.Path.{_≡_};
 ghost use mathlib.Core.List.{[], _∷_};
 ghost use Prim.Native.Nat.{_+_, _-_, _≤_, _<_};

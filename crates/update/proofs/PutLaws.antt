@@ -6,16 +6,16 @@ use Prim.Native.Nat.{ℕ}
 use native.Mathlib.Omega.{arith}
 use lib.ListN.{length}
 use lib.Seq.{take-all}
-use Rattle.laws.specs.Xor.{xorL, allBytes}
+use Rattle.mathematics.specs.Xor.{xorL, allBytes}
 use Rattle.liberation.specs.Sets.{place}
-use Rattle.liberation_stripes.specs.Stripes.{cellAt, withCell}
-use Rattle.liberation_stripes.proofs.CellLaws.{cell-long}
-use Rattle.liberation_stripes.proofs.Solving.{stripe-of}
-use Rattle.liberation_updates.specs.Updates.{parityOf, addedFrom, change, updated, updatedInPlace}
-use Rattle.liberation_updates.proofs.InPlace.{in-place}
+use Rattle.liberation.specs.stripes.Stripes.{cellAt, withCell}
+use Rattle.liberation.proofs.stripes.CellLaws.{cell-long}
+use Rattle.liberation.proofs.stripes.Solving.{stripe-of}
+use Rattle.liberation.specs.update.Updates.{parityOf, addedFrom, change, updated, updatedInPlace}
+use Rattle.liberation.proofs.update.InPlace.{in-place}
 use Rattle.xor.specs.Parts.{part}
-use Rattle.update_parity.specs.Cells.{DataCell}
-use Rattle.update_parity.proofs.CellPlaces.{own-fits}
+use Rattle.update.specs.parity.Cells.{DataCell}
+use Rattle.update.proofs.parity.CellPlaces.{own-fits}
 
 -- a data cell of a stripe, and new bytes for it
 module _ (p k s r c : ℕ) (new t : List ℕ) (d : DataCell p k s r c t) (nl : length new ≡ s) where

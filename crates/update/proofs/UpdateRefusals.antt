@@ -7,18 +7,18 @@ use native.Mathlib.Omega.{arith}
 use lib.Dec.{eqb, leb}
 use lib.ListN.{length}
 use borrow.Author.Tests.{eqb-true, leb-false, le-leb, lt-leb, not-false}
-use Rattle.laws.specs.Choice.{firstOf, when}
-use Rattle.laws.specs.Xor.{allBytes}
-use Rattle.laws.proofs.ChoiceLaws.{first-none, first-kept, first-next, when-none, pick-refused, pick-done}
+use Rattle.mathematics.specs.Choice.{firstOf, when}
+use Rattle.mathematics.specs.Xor.{allBytes}
+use Rattle.mathematics.proofs.ChoiceLaws.{first-none, first-kept, first-next, when-none, pick-refused, pick-done}
 use Rattle.liberation.specs.Sets.{shapeFault}
 use Rattle.liberation.proofs.Widths.{width-odd}
 use Rattle.liberation.proofs.FaultLaws.{shape-of}
-use Rattle.liberation_stripes.specs.Stripes.{stripeLong}
-use Rattle.liberation_updates.specs.Updates.{updated}
+use Rattle.liberation.specs.stripes.Stripes.{stripeLong}
+use Rattle.liberation.specs.update.Updates.{updated}
 use Rattle.refusals.specs.declared.Answer.{Answer}
 use Rattle.refusals.specs.Answers.{Answers}
 use Rattle.refusals.proofs.AnswerLaws.{answers-as}
-use Rattle.update_parity.specs.Cells.{DataCell}
+use Rattle.update.specs.parity.Cells.{DataCell}
 use Rattle.update.specs.Says.{dataFault, rowFault, updateLengthsFault, updateFault, UpdateSays}
 
 pub row-refused : (p r : ℕ) → p ≤ r → 15 ≡ rowFault p r

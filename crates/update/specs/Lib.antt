@@ -1,2 +1,3 @@
 -- What the update of a cell promises.
 pub mod Says
+pub mod parity

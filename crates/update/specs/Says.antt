@@ -5,11 +5,11 @@ use mathlib.Core.List.{List}
 use Prim.Native.Nat.{ℕ}
 use lib.Dec.{eqb, leb}
 use lib.ListN.{length}
-use Rattle.laws.specs.Choice.{pick, when, firstOf}
-use Rattle.laws.specs.Xor.{allBytes}
+use Rattle.mathematics.specs.Choice.{pick, when, firstOf}
+use Rattle.mathematics.specs.Xor.{allBytes}
 use Rattle.liberation.specs.Sets.{shapeFault}
-use Rattle.liberation_stripes.specs.Stripes.{stripeLong}
-use Rattle.liberation_updates.specs.Updates.{updated}
+use Rattle.liberation.specs.stripes.Stripes.{stripeLong}
+use Rattle.liberation.specs.update.Updates.{updated}
 use Rattle.refusals.specs.declared.Answer.{Answer}
 use Rattle.refusals.specs.Answers.{Answers}
 

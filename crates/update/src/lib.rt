@@ -1,8 +1,10 @@
 // Updating one data cell of a stripe, with its row parity and its diagonal parity. The cell itself holds the change while that is added to the parity cells, so no other memory is needed.
+pub mod parity;
+
 ghost use mathlib.Core.Path.{_≡_};
 ghost use lib.ListN.{length};
-ghost use Rattle.liberation_updates.specs.Updates.{updated};
-ghost use Rattle.update_parity.specs.Cells.{DataCell};
+ghost use Rattle.liberation.specs.update.Updates.{updated};
+ghost use Rattle.update.specs.parity.Cells.{DataCell};
 ghost use Rattle.update.specs.Says.{updateLengthsFault, UpdateSays};
 use refusals::Answer;
 use refusals::Shape;
@@ -23,8 +25,8 @@ fn put_cell(
     let start = (disk * width + row) * size;
     let end = start + size;
     xor::add_one(&mut stripe[start..end], cell, 0);
-    update_parity::add_to_parity(width, disks, size, row, disk, stripe);
-    byte_slices::copy(&mut stripe[start..end], cell);
+    parity::add_to_parity(width, disks, size, row, disk, stripe);
+    xor::copy(&mut stripe[start..end], cell);
 }
 
 // The refusal of a call on a stripe and a cell of these many bytes, 0 for none. P and Q hold no data.
@@ -46,11 +48,11 @@ fn update_fault(
     if disks <= disk {
         return 3;
     }
-    let first = number_tests::length_fault(stripe, (disks + 2) * (width * size));
+    let first = refusals::length_fault(stripe, (disks + 2) * (width * size));
     if first != 0 {
         return first;
     }
-    let second = number_tests::length_fault(cell, size);
+    let second = refusals::length_fault(cell, size);
     if second != 0 {
         return second;
     }

@@ -1,8 +1,20 @@
 // Sums of bytes: parts of a slice are added to another slice, or make blocks of 128 and 64 bytes that stay in registers.
+mod blocks;
+mod into_slice;
+mod lists;
+pub mod slices;
+mod stretches;
+
+pub use into_slice::gather;
+pub use lists::list_end;
+pub use lists::list_most;
+pub use slices::all_zero;
+pub use slices::copy;
+pub use stretches::gather_stretches;
 ghost use mathlib.Core.Path.{_≡_};
 ghost use Prim.Native.Nat.{_+_, _≤_};
 ghost use lib.ListN.{length, take, replicate};
-ghost use Rattle.laws.specs.Xor.{xorL};
+ghost use Rattle.mathematics.specs.Xor.{xorL};
 ghost use Rattle.xor.specs.Parts.{part, addFour, xorOffsets};
 ghost use Rattle.xor.specs.Reach.{Reached};
 

@@ -2,7 +2,7 @@
 use mathlib.Core.Path.{_≡_, sym, _∙_}
 use native.Mathlib.Omega.{arith}
 use borrow.Author.Needs.{needs}
-use Rattle.bill_numbers.specs.Cents.{billFault}
+use Rattle.billing.specs.numbers.Cents.{billFault}
 use Rattle.billing.proofs.BillLaws.{Fair, fault-none, bill-refused, bill-done}
 use Rattle.billing.proofs.bill_bytes.Statement.{statement}
 use Rattle.billing.proofs.bill_bytes.Tie as tie

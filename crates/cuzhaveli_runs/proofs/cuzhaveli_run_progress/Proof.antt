@@ -32,17 +32,17 @@ use denote.Triple.Table.{entered, cited}
 use denote.Triple.Walked.{says, Stays, stay-none-ref, walkOf, AllGo, goes-none-ref, Walks, ends-at, walked, walk-meets}
 use denote.Exit.{yes}
 use denote.Signature.{plain}
-use Rattle.run_progress.specs.Says.{ProgressSays}
-use Rattle.runs.specs.declared.Run.{Run}
-use Rattle.run_progress.specs.declared.Progress.{Progress}
-use Rattle.runs.proofs.Run as T
-use Rattle.runs.proofs.Run.Laws as T′
-use Rattle.run_progress.proofs.Progress as S
-use Rattle.run_progress.proofs.Progress.Laws as S′
-use Rattle.run_progress.proofs.run_progress as run-progress
-use Rattle.run_progress.proofs.run_progress.Symbol as run-progress-def
-use Rattle.run_progress.proofs.run_progress.Symbol.{name as #run-progress·run-progress}
-use Rattle.run_progress.proofs.run_progress.Met as run-progress-thm
+use Rattle.rebuild_runs.specs.progress.Says.{ProgressSays}
+use Rattle.rebuild_runs.specs.declared.Run.{Run}
+use Rattle.rebuild_runs.specs.declared.progress.Progress.{Progress}
+use Rattle.rebuild_runs.proofs.Run as T
+use Rattle.rebuild_runs.proofs.Run.Laws as T′
+use Rattle.rebuild_runs.proofs.progress.Progress as S
+use Rattle.rebuild_runs.proofs.progress.Progress.Laws as S′
+use Rattle.rebuild_runs.proofs.progress.run_progress as run-progress
+use Rattle.rebuild_runs.proofs.progress.run_progress.Symbol as run-progress-def
+use Rattle.rebuild_runs.proofs.progress.run_progress.Symbol.{name as #rebuild-runs·progress·run-progress}
+use Rattle.rebuild_runs.proofs.progress.run_progress.Met as run-progress-thm
 use Rattle.cuzhaveli_runs.proofs.cuzhaveli_run_progress.Key.{name as #own}
 use Rattle.cuzhaveli_runs.proofs.cuzhaveli_run_progress as f
 use Rattle.cuzhaveli_runs.proofs.cuzhaveli_run_progress.Statement as stated
@@ -84,7 +84,7 @@ module _ {M : Type 1} (𝓤 : URA M) (H : Heap 𝓤) (A : Atoms 𝓤) (W : Given
       suffices ! _ (ends-at 𝓤 H A f.ended stayed (f.clauses 𝓤 H A mem run) W (((κ, tt), (q, tt), tt, x, at), tt) u r (tt, tt) (tt, tt)) $ says ! e $
       nothing ! $ move ! (1 ∷ 0 ∷ []) $ join ! $ frame ! $ feqI ! (List Val) (vptr b o ∷ []) (vptr b o ∷ []) refl $ fjoin3 ! $ nothing ! $ move ! (1 ∷ 0 ∷ []) $ fjoin ! $ frame ! $ done !
 
-  module _ (C : Calls 𝓤 H) (Λ : Loops 𝓤 H) (fm : FmC 𝓤 H (W .laws) C) (known : Triple 𝓤 (C #run-progress·run-progress) (ProgressOf 𝓤 H A mem run)) where
+  module _ (C : Calls 𝓤 H) (Λ : Loops 𝓤 H) (fm : FmC 𝓤 H (W .laws) C) (known : Triple 𝓤 (C #rebuild-runs·progress·run-progress) (ProgressOf 𝓤 H A mem run)) where
     walk : ent 𝓤 (onEntry 𝓤 H A f.signature (κ, tt) (q, tt) x at) (WpFn 𝓤 H C Λ code.function (vptr b o ∷ []) Post)
     walk =
         qed W ((‵ (flft κ q) ⊛ ‵ ftrue) ∷ ‵ (owns (ShrRef (named 0) κ T.the-row ∷ []) x at) ∷ []) ∵ enter ! C Λ code.function (vptr b o ∷ []) _ $
@@ -105,14 +105,14 @@ module _ {M : Type 1} (𝓤 : URA M) (H : Heap 𝓤) (A : Atoms 𝓤) (W : Given
         keep ! (1 ∷ 4 ∷ 2 ∷ 0 ∷ []) $ by ! (exits r u e))))))))))
 
 module _ {M : Type 1} (𝓤 : URA M) (H : Heap 𝓤) (A : Atoms 𝓤) (W : Given 𝓤 H A) (mem : Memory → SProp 𝓤) (run : Routine → Fun 𝓤) where
-  run-progress-walks : (C : Calls 𝓤 H) (Λ : Loops 𝓤 H) → FmC 𝓤 H (W .laws) C → Triple 𝓤 (C #run-progress·run-progress) (ProgressOf 𝓤 H A mem run) → Walks 𝓤 H A f.ended stayed (WpFn 𝓤 H C Λ code.function) (f.clauses 𝓤 H A mem run)
+  run-progress-walks : (C : Calls 𝓤 H) (Λ : Loops 𝓤 H) → FmC 𝓤 H (W .laws) C → Triple 𝓤 (C #rebuild-runs·progress·run-progress) (ProgressOf 𝓤 H A mem run) → Walks 𝓤 H A f.ended stayed (WpFn 𝓤 H C Λ code.function) (f.clauses 𝓤 H A mem run)
   run-progress-walks C Λ fm known = walked 𝓤 H A f.ended stayed (f.clauses 𝓤 H A mem run) (WpFn 𝓤 H C Λ code.function) (λ κs. (ptr-vals, tt)) (λ κs. (shr-tells (named 0) (κs .0) T.the-row, tt))
       (λ κs qs bounds a _ _. via 𝓤 _ (fst∗ 𝓤 _ (emp 𝓤)) (walk 𝓤 H A W mem run (κs .0) (qs .0) (a .0 .ptr .0) (a .0 .ptr .1) (a .0 .name) (a .0 .now) C Λ fm known))
 
   goes-all : AllGo 𝓤 H A W 1 (f.signature .params) (f.ended .kept) stayed
   goes-all = (goes-none-ref 𝓤 H A W 1 (0 ∷ []) tt (plain (λ _. T.the-row)) yes, tt)
 
-run-progress-meets : {M : Type 1} (𝓤 : URA M) (H : Heap 𝓤) (A : Atoms 𝓤) → Given 𝓤 H A → (mem : Memory → SProp 𝓤) (run : Routine → Fun 𝓤) (𝓣 : Tables 𝓤 H) → Triple 𝓤 (𝓣 .C #run-progress·run-progress) (ProgressOf 𝓤 H A mem run)
+run-progress-meets : {M : Type 1} (𝓤 : URA M) (H : Heap 𝓤) (A : Atoms 𝓤) → Given 𝓤 H A → (mem : Memory → SProp 𝓤) (run : Routine → Fun 𝓤) (𝓣 : Tables 𝓤 H) → Triple 𝓤 (𝓣 .C #rebuild-runs·progress·run-progress) (ProgressOf 𝓤 H A mem run)
     → Meets 𝓤 H A f.signature (WpFn 𝓤 H (𝓣 .C) (𝓣 .Λ) code.function) (f.spec 𝓤 H A mem run)
 run-progress-meets 𝓤 H A W mem run 𝓣 known = walk-meets 𝓤 H A f.ended stayed W (goes-all 𝓤 H A W mem run) (f.clauses 𝓤 H A mem run) (WpFn 𝓤 H (𝓣 .C) (𝓣 .Λ) code.function) (WpFn-mono 𝓤 H (W .laws) 𝓣 code.function) (run-progress-walks 𝓤 H A W mem run (𝓣 .C) (𝓣 .Λ) (fmOf 𝓤 H (W .laws) 𝓣) known)
 
@@ -122,4 +122,4 @@ cuzhaveli-run-progress-spec 𝓤 H 𝓜 𝓖 𝓡 =
     entered 𝓤 H (tripleOf 𝓤 H (𝓖 .A) f.signature (f.spec 𝓤 H (𝓖 .A) (𝓜 .mem) (𝓡 .run)))
     (tables 𝓤 H 𝓜 𝓡 code.env .C) (tables 𝓤 H 𝓜 𝓡 code.env .Λ) #own code.function (code.unfolded 𝓤 H 𝓜 𝓡)
     (run-progress-meets 𝓤 H (𝓖 .A) (givenOf 𝓤 H 𝓜 𝓖) (𝓜 .mem) (𝓡 .run) (tablesOf 𝓤 H 𝓜 (tables 𝓤 H 𝓜 𝓡 code.env))
-    (cited 𝓤 H (ProgressOf 𝓤 H (𝓖 .A) (𝓜 .mem) (𝓡 .run)) 𝓜 𝓡 code.env #run-progress·run-progress run-progress-def.routine code.calls-run-progress·run-progress (run-progress-thm.met 𝓤 H 𝓜 𝓖 𝓡)))
+    (cited 𝓤 H (ProgressOf 𝓤 H (𝓖 .A) (𝓜 .mem) (𝓡 .run)) 𝓜 𝓡 code.env #rebuild-runs·progress·run-progress run-progress-def.routine code.calls-rebuild-runs·progress·run-progress (run-progress-thm.met 𝓤 H 𝓜 𝓖 𝓡)))

@@ -40,21 +40,21 @@ use denote.Triple.Table.{entered, cited}
 use denote.Triple.Walked.{says, Stays, stay-ref, stay-none, walkOf, AllGo, goes-ref, goes-none, Walks, ends-at, walked, walk-meets}
 use denote.Exit.{yes}
 use denote.Signature.{plain}
-use Rattle.laws.specs.Choice.{pick as choose}
-use Rattle.runs.specs.Runs.{movedBy, SkipSays}
+use Rattle.mathematics.specs.Choice.{pick as choose}
+use Rattle.rebuild_runs.specs.Runs.{movedBy, SkipSays}
 use Rattle.refusals.specs.declared.Answer.{Answer}
-use Rattle.runs.specs.declared.Run.{Run}
-use Rattle.runs.specs.declared.RunAnswer.{RunAnswer}
-use Rattle.runs.proofs.Run as T
-use Rattle.runs.proofs.Run.Laws as T′
-use Rattle.runs.proofs.RunAnswer as S
-use Rattle.runs.proofs.RunAnswer.Laws as S′
+use Rattle.rebuild_runs.specs.declared.Run.{Run}
+use Rattle.rebuild_runs.specs.declared.RunAnswer.{RunAnswer}
+use Rattle.rebuild_runs.proofs.Run as T
+use Rattle.rebuild_runs.proofs.Run.Laws as T′
+use Rattle.rebuild_runs.proofs.RunAnswer as S
+use Rattle.rebuild_runs.proofs.RunAnswer.Laws as S′
 use Rattle.refusals.proofs.Answer as U
 use Rattle.refusals.proofs.Answer.Laws as U′
-use Rattle.runs.proofs.skip_stripe as skipped
-use Rattle.runs.proofs.skip_stripe.Symbol as skipped-def
-use Rattle.runs.proofs.skip_stripe.Symbol.{name as #runs·skip-stripe}
-use Rattle.runs.proofs.skip_stripe.Met as skipped-thm
+use Rattle.rebuild_runs.proofs.skip_stripe as skipped
+use Rattle.rebuild_runs.proofs.skip_stripe.Symbol as skipped-def
+use Rattle.rebuild_runs.proofs.skip_stripe.Symbol.{name as #rebuild-runs·skip-stripe}
+use Rattle.rebuild_runs.proofs.skip_stripe.Met as skipped-thm
 use Rattle.cuzhaveli_runs.proofs.GuardLaws.{guards, fails}
 use Rattle.cuzhaveli_runs.proofs.cuzhaveli_skip_stripe.Key.{name as #own}
 use Rattle.cuzhaveli_runs.proofs.cuzhaveli_skip_stripe as f
@@ -105,7 +105,7 @@ module _ {M : Type 1} (𝓤 : URA M) (H : Heap 𝓤) (A : Atoms 𝓤) (W : Given
       nothing ! $ move ! (3 ∷ 0 ∷ []) $ join ! $ frame ! $ nothing ! $ owned ! u64 (Is u64) (uint-makes 𝓤 H A W w64) n _ (refl, n-fits) $ fjoin ! $
       feqI ! (List Val) (vptr b o ∷ []) (vptr b o ∷ []) refl $ move ! (0 ∷ 2 ∷ 3 ∷ []) $ fjoin3 ! $ fjoin ! $ owned ! U.the-row (Is U.the-row) (LL.makes U.the-type U′.the-plain 𝓤 H A) r _ m-fits $ move ! (1 ∷ 0 ∷ []) $ done !
 
-  module _ (C : Calls 𝓤 H) (Λ : Loops 𝓤 H) (fm : FmC 𝓤 H (W .laws) C) (known : Triple 𝓤 (C #runs·skip-stripe) (Skipped 𝓤 H A at-mem run)) where
+  module _ (C : Calls 𝓤 H) (Λ : Loops 𝓤 H) (fm : FmC 𝓤 H (W .laws) C) (known : Triple 𝓤 (C #rebuild-runs·skip-stripe) (Skipped 𝓤 H A at-mem run)) where
     walk : ent 𝓤 (onEntry 𝓤 H A f.signature (κ, tt) (q, tt) x vals) (WpFn 𝓤 H C Λ code.function (vptr b o ∷ vint w64 n ∷ []) Post)
     walk =
         qed W ((‵ (flft κ q) ⊛ ‵ ftrue) ∷ ‵ (owns (MutRef (named 0) κ T.the-row ∷ u64 ∷ []) x vals) ∷ []) ∵ enter ! C Λ code.function (vptr b o ∷ vint w64 n ∷ []) _ $
@@ -143,7 +143,7 @@ module _ {M : Type 1} (𝓤 : URA M) (H : Heap 𝓤) (A : Atoms 𝓤) (W : Given
         keep ! (0 ∷ 1 ∷ 2 ∷ []) $ by ! (exits (r .answer) (r .run) (LL.owed S.the-type S′.the-laws r _ is .0) e))))))))))))))
 
 module _ {M : Type 1} (𝓤 : URA M) (H : Heap 𝓤) (A : Atoms 𝓤) (W : Given 𝓤 H A) (mem : Memory → SProp 𝓤) (run : Routine → Fun 𝓤) where
-  skip-stripe-walks : (C : Calls 𝓤 H) (Λ : Loops 𝓤 H) → FmC 𝓤 H (W .laws) C → Triple 𝓤 (C #runs·skip-stripe) (Skipped 𝓤 H A mem run) → Walks 𝓤 H A f.ended stayed (WpFn 𝓤 H C Λ code.function) (f.clauses 𝓤 H A mem run)
+  skip-stripe-walks : (C : Calls 𝓤 H) (Λ : Loops 𝓤 H) → FmC 𝓤 H (W .laws) C → Triple 𝓤 (C #rebuild-runs·skip-stripe) (Skipped 𝓤 H A mem run) → Walks 𝓤 H A f.ended stayed (WpFn 𝓤 H C Λ code.function) (f.clauses 𝓤 H A mem run)
   skip-stripe-walks C Λ fm known = walked 𝓤 H A f.ended stayed (f.clauses 𝓤 H A mem run) (WpFn 𝓤 H C Λ code.function)
       (λ κs. (ptr-vals, (uint-vals w64, tt))) (λ κs. (mut-tells (named 0) (κs .0) T.the-row, (uint-tells w64, tt)))
       (λ κs qs bounds a g are. via 𝓤 _ (fst∗ 𝓤 _ (emp 𝓤))
@@ -152,7 +152,7 @@ module _ {M : Type 1} (𝓤 : URA M) (H : Heap 𝓤) (A : Atoms 𝓤) (W : Given
   goes-all : AllGo 𝓤 H A W 1 (f.signature .params) (f.ended .kept) stayed
   goes-all = (goes-ref 𝓤 H A W 1 0 tt (plain (λ _. T.the-row)), (goes-none 𝓤 H A W 1 (λ _. u64) yes (λ κs x f. refl), tt))
 
-skip-stripe-meets : {M : Type 1} (𝓤 : URA M) (H : Heap 𝓤) (A : Atoms 𝓤) → Given 𝓤 H A → (mem : Memory → SProp 𝓤) (run : Routine → Fun 𝓤) (𝓣 : Tables 𝓤 H) → Triple 𝓤 (𝓣 .C #runs·skip-stripe) (Skipped 𝓤 H A mem run)
+skip-stripe-meets : {M : Type 1} (𝓤 : URA M) (H : Heap 𝓤) (A : Atoms 𝓤) → Given 𝓤 H A → (mem : Memory → SProp 𝓤) (run : Routine → Fun 𝓤) (𝓣 : Tables 𝓤 H) → Triple 𝓤 (𝓣 .C #rebuild-runs·skip-stripe) (Skipped 𝓤 H A mem run)
     → Meets 𝓤 H A f.signature (WpFn 𝓤 H (𝓣 .C) (𝓣 .Λ) code.function) (f.spec 𝓤 H A mem run)
 skip-stripe-meets 𝓤 H A W mem run 𝓣 known =
     walk-meets 𝓤 H A f.ended stayed W (goes-all 𝓤 H A W mem run) (f.clauses 𝓤 H A mem run) (WpFn 𝓤 H (𝓣 .C) (𝓣 .Λ) code.function) (WpFn-mono 𝓤 H (W .laws) 𝓣 code.function) (skip-stripe-walks 𝓤 H A W mem run (𝓣 .C) (𝓣 .Λ) (fmOf 𝓤 H (W .laws) 𝓣) known)
@@ -163,4 +163,4 @@ cuzhaveli-skip-stripe-spec 𝓤 H 𝓜 𝓖 𝓡 =
     entered 𝓤 H (tripleOf 𝓤 H (𝓖 .A) f.signature (f.spec 𝓤 H (𝓖 .A) (𝓜 .mem) (𝓡 .run)))
     (tables 𝓤 H 𝓜 𝓡 code.env .C) (tables 𝓤 H 𝓜 𝓡 code.env .Λ) #own code.function (code.unfolded 𝓤 H 𝓜 𝓡)
     (skip-stripe-meets 𝓤 H (𝓖 .A) (givenOf 𝓤 H 𝓜 𝓖) (𝓜 .mem) (𝓡 .run) (tablesOf 𝓤 H 𝓜 (tables 𝓤 H 𝓜 𝓡 code.env))
-    (cited 𝓤 H (Skipped 𝓤 H (𝓖 .A) (𝓜 .mem) (𝓡 .run)) 𝓜 𝓡 code.env #runs·skip-stripe skipped-def.routine code.calls-runs·skip-stripe (skipped-thm.met 𝓤 H 𝓜 𝓖 𝓡)))
+    (cited 𝓤 H (Skipped 𝓤 H (𝓖 .A) (𝓜 .mem) (𝓡 .run)) 𝓜 𝓡 code.env #rebuild-runs·skip-stripe skipped-def.routine code.calls-rebuild-runs·skip-stripe (skipped-thm.met 𝓤 H 𝓜 𝓖 𝓡)))

@@ -43,22 +43,22 @@ use denote.Triple.Table.{entered, cited}
 use denote.Triple.Walked.{says, Stays, stay-ref, stay-none, stay-none-slice, gave-slice, walkOf, AllGo, goes-ref, goes-none, goes-none-slice, goes-gave-slice, Walks, ends-at, walked, walk-meets}
 use denote.Exit.{yes}
 use denote.Signature.{plain}
-use Rattle.laws.specs.Choice.{pick as choose}
-use Rattle.run_steps.specs.Says.{StepSays}
-use Rattle.runs.specs.Runs.{movedBy}
+use Rattle.mathematics.specs.Choice.{pick as choose}
+use Rattle.rebuild_runs.specs.steps.Says.{StepSays}
+use Rattle.rebuild_runs.specs.Runs.{movedBy}
 use Rattle.refusals.specs.declared.Answer.{Answer}
-use Rattle.runs.specs.declared.Run.{Run}
-use Rattle.runs.specs.declared.RunAnswer.{RunAnswer}
-use Rattle.runs.proofs.Run as T
-use Rattle.runs.proofs.Run.Laws as T′
-use Rattle.runs.proofs.RunAnswer as S
-use Rattle.runs.proofs.RunAnswer.Laws as S′
+use Rattle.rebuild_runs.specs.declared.Run.{Run}
+use Rattle.rebuild_runs.specs.declared.RunAnswer.{RunAnswer}
+use Rattle.rebuild_runs.proofs.Run as T
+use Rattle.rebuild_runs.proofs.Run.Laws as T′
+use Rattle.rebuild_runs.proofs.RunAnswer as S
+use Rattle.rebuild_runs.proofs.RunAnswer.Laws as S′
 use Rattle.refusals.proofs.Answer as U
 use Rattle.refusals.proofs.Answer.Laws as U′
-use Rattle.run_steps.proofs.step_run as stepped
-use Rattle.run_steps.proofs.step_run.Symbol as stepped-def
-use Rattle.run_steps.proofs.step_run.Symbol.{name as #run-steps·step-run}
-use Rattle.run_steps.proofs.step_run.Met as stepped-thm
+use Rattle.rebuild_runs.proofs.steps.step_run as stepped
+use Rattle.rebuild_runs.proofs.steps.step_run.Symbol as stepped-def
+use Rattle.rebuild_runs.proofs.steps.step_run.Symbol.{name as #rebuild-runs·steps·step-run}
+use Rattle.rebuild_runs.proofs.steps.step_run.Met as stepped-thm
 use Rattle.cuzhaveli_runs.proofs.GuardLaws.{guards, fails}
 use Rattle.cuzhaveli_runs.proofs.cuzhaveli_step_run.Key.{name as #own}
 use Rattle.cuzhaveli_runs.proofs.cuzhaveli_step_run as f
@@ -121,7 +121,7 @@ module _ {M : Type 1} (𝓤 : URA M) (H : Heap 𝓤) (A : Atoms 𝓤) (W : Given
       move ! (2 ∷ 3 ∷ []) $ join ! $ frame ! $ nothing ! $ move ! (3 ∷ 0 ∷ []) $ fjoin ! $ move ! (3 ∷ 0 ∷ []) $ fjoin ! $ owned ! u64 (Is u64) (uint-makes 𝓤 H A W w64) n _ (refl, n-fits) $ fjoin ! $
       feqI ! (List Val) (vptr b o ∷ []) (vptr b o ∷ []) refl $ move ! (0 ∷ 2 ∷ 3 ∷ []) $ fjoin3 ! $ fjoin ! $ owned ! U.the-row (Is U.the-row) (LL.makes U.the-type U′.the-plain 𝓤 H A) r _ m-fits $ move ! (1 ∷ 0 ∷ []) $ done !
 
-  module _ (C : Calls 𝓤 H) (Λ : Loops 𝓤 H) (fm : FmC 𝓤 H (W .laws) C) (known : Triple 𝓤 (C #run-steps·step-run) (Stepped 𝓤 H A at-mem run)) where
+  module _ (C : Calls 𝓤 H) (Λ : Loops 𝓤 H) (fm : FmC 𝓤 H (W .laws) C) (known : Triple 𝓤 (C #rebuild-runs·steps·step-run) (Stepped 𝓤 H A at-mem run)) where
     walk : Room u8 (length (s .now)) → Room u8 (length (c .now)) → ent 𝓤 (onEntry 𝓤 H A f.signature (κ, (κ₁, (κ₂, tt))) (q, (q₁, (q₂, tt))) x vals) (WpFn 𝓤 H C Λ code.function (vptr b o ∷ vint w64 n ∷ sv ∷ cv ∷ []) Post)
     walk rs rc =
         qed W ((‵ (flft κ q) ⊛ ‵ (flft κ₁ q₁) ⊛ ‵ (flft κ₂ q₂) ⊛ ‵ ftrue) ∷ ‵ (owns (MutRef (named 0) κ T.the-row ∷ u64 ∷ ShrSlice (named 1) κ₁ u8 ∷ MutSlice (named 2) κ₂ u8 ∷ []) x vals) ∷ []) ∵ enter ! C Λ code.function (vptr b o ∷ vint w64 n ∷ sv ∷ cv ∷ []) _ $
@@ -165,7 +165,7 @@ module _ {M : Type 1} (𝓤 : URA M) (H : Heap 𝓤) (A : Atoms 𝓤) (W : Given
         keep ! (0 ∷ 1 ∷ 2 ∷ 4 ∷ 5 ∷ 8 ∷ []) $ by ! (exits (r .answer) (r .run) (ws .1 .1 .1 .0) (LL.owed S.the-type S′.the-laws r _ is .0) e l))))))))))))))))))))
 
 module _ {M : Type 1} (𝓤 : URA M) (H : Heap 𝓤) (A : Atoms 𝓤) (W : Given 𝓤 H A) (mem : Memory → SProp 𝓤) (run : Routine → Fun 𝓤) where
-  step-run-walks : (C : Calls 𝓤 H) (Λ : Loops 𝓤 H) → FmC 𝓤 H (W .laws) C → Triple 𝓤 (C #run-steps·step-run) (Stepped 𝓤 H A mem run) → Walks 𝓤 H A f.ended stayed (WpFn 𝓤 H C Λ code.function) (f.clauses 𝓤 H A mem run)
+  step-run-walks : (C : Calls 𝓤 H) (Λ : Loops 𝓤 H) → FmC 𝓤 H (W .laws) C → Triple 𝓤 (C #rebuild-runs·steps·step-run) (Stepped 𝓤 H A mem run) → Walks 𝓤 H A f.ended stayed (WpFn 𝓤 H C Λ code.function) (f.clauses 𝓤 H A mem run)
   step-run-walks C Λ fm known = walked 𝓤 H A f.ended stayed (f.clauses 𝓤 H A mem run) (WpFn 𝓤 H C Λ code.function)
       (λ κs. (ptr-vals, (uint-vals w64, (slice-vals, (slice-vals, tt))))) (λ κs. (mut-tells (named 0) (κs .0) T.the-row, (uint-tells w64, (shr-slice-tells (named 1) (κs .1 .0) u8, (mut-slice-tells (named 2) (κs .1 .1 .0) u8, tt)))))
       (λ κs qs bounds a g are. via 𝓤 _ (fst∗ 𝓤 _ (emp 𝓤))
@@ -174,7 +174,7 @@ module _ {M : Type 1} (𝓤 : URA M) (H : Heap 𝓤) (A : Atoms 𝓤) (W : Given
   goes-all : AllGo 𝓤 H A W 3 (f.signature .params) (f.ended .kept) stayed
   goes-all = (goes-ref 𝓤 H A W 3 0 tt (plain (λ _. T.the-row)), (goes-none 𝓤 H A W 3 (λ _. u64) yes (λ κs x f. refl), (goes-none-slice 𝓤 H A W 3 (1 ∷ []) tt (plain (λ _. u8)) yes, (goes-gave-slice 𝓤 H A W 3 2 tt (plain (λ _. u8)), tt))))
 
-step-run-meets : {M : Type 1} (𝓤 : URA M) (H : Heap 𝓤) (A : Atoms 𝓤) → Given 𝓤 H A → (mem : Memory → SProp 𝓤) (run : Routine → Fun 𝓤) (𝓣 : Tables 𝓤 H) → Triple 𝓤 (𝓣 .C #run-steps·step-run) (Stepped 𝓤 H A mem run)
+step-run-meets : {M : Type 1} (𝓤 : URA M) (H : Heap 𝓤) (A : Atoms 𝓤) → Given 𝓤 H A → (mem : Memory → SProp 𝓤) (run : Routine → Fun 𝓤) (𝓣 : Tables 𝓤 H) → Triple 𝓤 (𝓣 .C #rebuild-runs·steps·step-run) (Stepped 𝓤 H A mem run)
     → Meets 𝓤 H A f.signature (WpFn 𝓤 H (𝓣 .C) (𝓣 .Λ) code.function) (f.spec 𝓤 H A mem run)
 step-run-meets 𝓤 H A W mem run 𝓣 known =
     walk-meets 𝓤 H A f.ended stayed W (goes-all 𝓤 H A W mem run) (f.clauses 𝓤 H A mem run) (WpFn 𝓤 H (𝓣 .C) (𝓣 .Λ) code.function) (WpFn-mono 𝓤 H (W .laws) 𝓣 code.function) (step-run-walks 𝓤 H A W mem run (𝓣 .C) (𝓣 .Λ) (fmOf 𝓤 H (W .laws) 𝓣) known)
@@ -185,4 +185,4 @@ cuzhaveli-step-run-spec 𝓤 H 𝓜 𝓖 𝓡 =
     entered 𝓤 H (tripleOf 𝓤 H (𝓖 .A) f.signature (f.spec 𝓤 H (𝓖 .A) (𝓜 .mem) (𝓡 .run)))
     (tables 𝓤 H 𝓜 𝓡 code.env .C) (tables 𝓤 H 𝓜 𝓡 code.env .Λ) #own code.function (code.unfolded 𝓤 H 𝓜 𝓡)
     (step-run-meets 𝓤 H (𝓖 .A) (givenOf 𝓤 H 𝓜 𝓖) (𝓜 .mem) (𝓡 .run) (tablesOf 𝓤 H 𝓜 (tables 𝓤 H 𝓜 𝓡 code.env))
-    (cited 𝓤 H (Stepped 𝓤 H (𝓖 .A) (𝓜 .mem) (𝓡 .run)) 𝓜 𝓡 code.env #run-steps·step-run stepped-def.routine code.calls-run-steps·step-run (stepped-thm.met 𝓤 H 𝓜 𝓖 𝓡)))
+    (cited 𝓤 H (Stepped 𝓤 H (𝓖 .A) (𝓜 .mem) (𝓡 .run)) 𝓜 𝓡 code.env #rebuild-runs·steps·step-run stepped-def.routine code.calls-rebuild-runs·steps·step-run (stepped-thm.met 𝓤 H 𝓜 𝓖 𝓡)))

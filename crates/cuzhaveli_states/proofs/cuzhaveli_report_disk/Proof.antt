@@ -59,35 +59,35 @@ use denote.Triple.Call.{calls-at}
 use denote.Triple.Clauses.{ensured, lasts}
 use denote.Triple.Table.{entered, cited}
 use denote.Triple.Walked.{says, Stays, stay-slice, stay-none, walkOf, AllGo, Walks, ends-at, walked, goes-slice, goes-none, walk-meets}
-use Rattle.state_reports.specs.Reports.{ReportSays, scanAnswer}
-use Rattle.state_lists.specs.Scanning.{noArray, scanLength, scanStart}
-use Rattle.state_scans.specs.Records.{MayScan, scanRecord}
-use Rattle.states.specs.declared.ArrayState.{ArrayState}
-use Rattle.state_reports.specs.declared.Board.{Board}
-use Rattle.state_lists.specs.declared.Scan.{Scan}
-use Rattle.state_reports.proofs.ScanLaws.{upTo, scan-most, scan-none, scan-next, may-scan, names-one, says-done, says-refused}
-use Rattle.states.proofs.ArrayState as T
-use Rattle.states.proofs.ArrayState.Laws as T′
-use Rattle.state_lists.proofs.Scan as S
-use Rattle.state_lists.proofs.Scan.Laws as S′
-use Rattle.state_reports.proofs.Board as B
-use Rattle.state_reports.proofs.Board.Laws as B′
-use Rattle.state_lists.proofs.scan_length as scan-length
-use Rattle.state_lists.proofs.scan_length.Symbol as scan-length-def
-use Rattle.state_lists.proofs.scan_length.Symbol.{name as #state-lists·scan-length}
-use Rattle.state_lists.proofs.scan_length.Met as scan-length-thm
-use Rattle.state_lists.proofs.scan_start as scan-start
-use Rattle.state_lists.proofs.scan_start.Symbol as scan-start-def
-use Rattle.state_lists.proofs.scan_start.Symbol.{name as #state-lists·scan-start}
-use Rattle.state_lists.proofs.scan_start.Met as scan-start-thm
-use Rattle.state_scans.proofs.scan_record as scan-record
-use Rattle.state_scans.proofs.scan_record.Symbol as scan-record-def
-use Rattle.state_scans.proofs.scan_record.Symbol.{name as #state-scans·scan-record}
-use Rattle.state_scans.proofs.scan_record.Met as scan-record-thm
-use Rattle.state_reports.proofs.scan_answer as scan-answer
-use Rattle.state_reports.proofs.scan_answer.Symbol as scan-answer-def
-use Rattle.state_reports.proofs.scan_answer.Symbol.{name as #state-reports·scan-answer}
-use Rattle.state_reports.proofs.scan_answer.Met as scan-answer-thm
+use Rattle.array_states.specs.board.Reports.{ReportSays, scanAnswer}
+use Rattle.array_states.specs.totals.Scanning.{noArray, scanLength, scanStart}
+use Rattle.array_states.specs.scan.Records.{MayScan, scanRecord}
+use Rattle.array_states.specs.declared.ArrayState.{ArrayState}
+use Rattle.array_states.specs.declared.board.Board.{Board}
+use Rattle.array_states.specs.declared.totals.Scan.{Scan}
+use Rattle.array_states.proofs.board.ScanLaws.{upTo, scan-most, scan-none, scan-next, may-scan, names-one, says-done, says-refused}
+use Rattle.array_states.proofs.ArrayState as T
+use Rattle.array_states.proofs.ArrayState.Laws as T′
+use Rattle.array_states.proofs.totals.Scan as S
+use Rattle.array_states.proofs.totals.Scan.Laws as S′
+use Rattle.array_states.proofs.board.Board as B
+use Rattle.array_states.proofs.board.Board.Laws as B′
+use Rattle.array_states.proofs.totals.scan_length as scan-length
+use Rattle.array_states.proofs.totals.scan_length.Symbol as scan-length-def
+use Rattle.array_states.proofs.totals.scan_length.Symbol.{name as #array-states·totals·scan-length}
+use Rattle.array_states.proofs.totals.scan_length.Met as scan-length-thm
+use Rattle.array_states.proofs.totals.scan_start as scan-start
+use Rattle.array_states.proofs.totals.scan_start.Symbol as scan-start-def
+use Rattle.array_states.proofs.totals.scan_start.Symbol.{name as #array-states·totals·scan-start}
+use Rattle.array_states.proofs.totals.scan_start.Met as scan-start-thm
+use Rattle.array_states.proofs.scan.scan_record as scan-record
+use Rattle.array_states.proofs.scan.scan_record.Symbol as scan-record-def
+use Rattle.array_states.proofs.scan.scan_record.Symbol.{name as #array-states·scan·scan-record}
+use Rattle.array_states.proofs.scan.scan_record.Met as scan-record-thm
+use Rattle.array_states.proofs.board.scan_answer as scan-answer
+use Rattle.array_states.proofs.board.scan_answer.Symbol as scan-answer-def
+use Rattle.array_states.proofs.board.scan_answer.Symbol.{name as #array-states·board·scan-answer}
+use Rattle.array_states.proofs.board.scan_answer.Met as scan-answer-thm
 use Rattle.cuzhaveli_states.proofs.cuzhaveli_report_disk.Key.{name as #own}
 use Rattle.cuzhaveli_states.proofs.cuzhaveli_report_disk as f
 use Rattle.cuzhaveli_states.proofs.cuzhaveli_report_disk.Statement as stated
@@ -294,7 +294,7 @@ module _ {M : Type 1} (𝓤 : URA M) (H : Heap 𝓤) (A : Atoms 𝓤) (W : Given
 
       -- from here on: what is known of the parameters and of the callees
       module _ (room : Room T.the-row (length ys)) (gw : which < 2 ^ 64) (gd : disk < 2 ^ 64)
-          (known-length : Triple 𝓤 (C #state-lists·scan-length) Length) (known-start : Triple 𝓤 (C #state-lists·scan-start) Start) (known-record : Triple 𝓤 (C #state-scans·scan-record) Record) (known-answer : Triple 𝓤 (C #state-reports·scan-answer) Answer) where
+          (known-length : Triple 𝓤 (C #array-states·totals·scan-length) Length) (known-start : Triple 𝓤 (C #array-states·totals·scan-start) Start) (known-record : Triple 𝓤 (C #array-states·scan·scan-record) Record) (known-answer : Triple 𝓤 (C #array-states·board·scan-answer) Answer) where
         n-fits : n < 2 ^ 64
         n-fits = lt-of-le-of-lt (scan-most (length ys)) (room .0)
 
@@ -396,7 +396,7 @@ module _ {M : Type 1} (𝓤 : URA M) (H : Heap 𝓤) (A : Atoms 𝓤) (W : Given
             first ! $ blocks ! $ loops ! 𝓣 Nearer Nearer-wf At turns (0, zero-le, subst (Is S.the-row (seen 0)) (LL.tells S.the-type S′.the-laws _ _ is) is)))
 
     -- ---- the entry: the locals are allocated, the slice is opened, and the context is put in the order of `Layout`
-    walk : (𝓣 : Tables 𝓤 H) → Room T.the-row (length ys) → which < 2 ^ 64 → disk < 2 ^ 64 → Triple 𝓤 (𝓣 .C #state-lists·scan-length) Length → Triple 𝓤 (𝓣 .C #state-lists·scan-start) Start → Triple 𝓤 (𝓣 .C #state-scans·scan-record) Record → Triple 𝓤 (𝓣 .C #state-reports·scan-answer) Answer
+    walk : (𝓣 : Tables 𝓤 H) → Room T.the-row (length ys) → which < 2 ^ 64 → disk < 2 ^ 64 → Triple 𝓤 (𝓣 .C #array-states·totals·scan-length) Length → Triple 𝓤 (𝓣 .C #array-states·totals·scan-start) Start → Triple 𝓤 (𝓣 .C #array-states·scan·scan-record) Record → Triple 𝓤 (𝓣 .C #array-states·board·scan-answer) Answer
         → ent 𝓤 (onEntry 𝓤 H A f.signature (κ, tt) (q, tt) x vals) (WpFn 𝓤 H (𝓣 .C) (𝓣 .Λ) code.function (sliceVal (b, o) (length ys) ∷ vint w64 which ∷ vint w64 disk ∷ vbool back ∷ []) End)
     walk 𝓣 room gw gd known-length known-start known-record known-answer =
         qed W ((‵ (flft κ q) ⊛ ‵ ftrue) ∷ ‵ (owns (MutSlice (named 0) κ T.the-row ∷ usize ∷ usize ∷ bool ∷ []) x vals) ∷ []) ∵
@@ -409,7 +409,7 @@ module _ {M : Type 1} (𝓤 : URA M) (H : Heap 𝓤) (A : Atoms 𝓤) (W : Given
         begins 𝓣 l₀ l₁ l₂ l₃ l₄ l₅ l₆ l₇ l₈ l₉ l₁₀ l₁₁ l₁₂ l₁₃ l₁₄ l₁₅ l₁₆ room gw gd known-length known-start known-record known-answer)))))))))))))))))
 
   -- ---- from the walk to the contract
-  module _ (𝓣 : Tables 𝓤 H) (known-length : Triple 𝓤 (𝓣 .C #state-lists·scan-length) Length) (known-start : Triple 𝓤 (𝓣 .C #state-lists·scan-start) Start) (known-record : Triple 𝓤 (𝓣 .C #state-scans·scan-record) Record) (known-answer : Triple 𝓤 (𝓣 .C #state-reports·scan-answer) Answer) where
+  module _ (𝓣 : Tables 𝓤 H) (known-length : Triple 𝓤 (𝓣 .C #array-states·totals·scan-length) Length) (known-start : Triple 𝓤 (𝓣 .C #array-states·totals·scan-start) Start) (known-record : Triple 𝓤 (𝓣 .C #array-states·scan·scan-record) Record) (known-answer : Triple 𝓤 (𝓣 .C #array-states·board·scan-answer) Answer) where
     report-disk-walks : Walks 𝓤 H A f.ended stayed (WpFn 𝓤 H (𝓣 .C) (𝓣 .Λ) code.function) (f.clauses 𝓤 H A mem run)
     report-disk-walks = walked 𝓤 H A f.ended stayed (f.clauses 𝓤 H A mem run) (WpFn 𝓤 H (𝓣 .C) (𝓣 .Λ) code.function) (λ κs. (slice-vals, (uint-vals w64, (uint-vals w64, (bool-vals, tt)))))
         (λ κs. (mut-slice-tells (named 0) (κs .0) T.the-row, (uint-tells w64, (uint-tells w64, (bool-tells, tt)))))
@@ -428,7 +428,7 @@ cuzhaveli-report-disk-spec 𝓤 H 𝓜 𝓖 𝓡 =
     entered 𝓤 H (tripleOf 𝓤 H (𝓖 .A) f.signature (f.spec 𝓤 H (𝓖 .A) (𝓜 .mem) (𝓡 .run)))
     (tables 𝓤 H 𝓜 𝓡 code.env .C) (tables 𝓤 H 𝓜 𝓡 code.env .Λ) #own code.function (code.unfolded 𝓤 H 𝓜 𝓡)
     (report-disk-meets 𝓤 H (𝓖 .A) (givenOf 𝓤 H 𝓜 𝓖) (𝓜 .mem) (𝓡 .run) (tablesOf 𝓤 H 𝓜 (tables 𝓤 H 𝓜 𝓡 code.env))
-    (cited 𝓤 H (Length 𝓤 H (𝓖 .A) (givenOf 𝓤 H 𝓜 𝓖) (𝓜 .mem) (𝓡 .run)) 𝓜 𝓡 code.env #state-lists·scan-length scan-length-def.routine code.calls-state-lists·scan-length (scan-length-thm.met 𝓤 H 𝓜 𝓖 𝓡))
-    (cited 𝓤 H (Start 𝓤 H (𝓖 .A) (givenOf 𝓤 H 𝓜 𝓖) (𝓜 .mem) (𝓡 .run)) 𝓜 𝓡 code.env #state-lists·scan-start scan-start-def.routine code.calls-state-lists·scan-start (scan-start-thm.met 𝓤 H 𝓜 𝓖 𝓡))
-    (cited 𝓤 H (Record 𝓤 H (𝓖 .A) (givenOf 𝓤 H 𝓜 𝓖) (𝓜 .mem) (𝓡 .run)) 𝓜 𝓡 code.env #state-scans·scan-record scan-record-def.routine code.calls-state-scans·scan-record (scan-record-thm.met 𝓤 H 𝓜 𝓖 𝓡))
-    (cited 𝓤 H (Answer 𝓤 H (𝓖 .A) (givenOf 𝓤 H 𝓜 𝓖) (𝓜 .mem) (𝓡 .run)) 𝓜 𝓡 code.env #state-reports·scan-answer scan-answer-def.routine code.calls-state-reports·scan-answer (scan-answer-thm.met 𝓤 H 𝓜 𝓖 𝓡)))
+    (cited 𝓤 H (Length 𝓤 H (𝓖 .A) (givenOf 𝓤 H 𝓜 𝓖) (𝓜 .mem) (𝓡 .run)) 𝓜 𝓡 code.env #array-states·totals·scan-length scan-length-def.routine code.calls-array-states·totals·scan-length (scan-length-thm.met 𝓤 H 𝓜 𝓖 𝓡))
+    (cited 𝓤 H (Start 𝓤 H (𝓖 .A) (givenOf 𝓤 H 𝓜 𝓖) (𝓜 .mem) (𝓡 .run)) 𝓜 𝓡 code.env #array-states·totals·scan-start scan-start-def.routine code.calls-array-states·totals·scan-start (scan-start-thm.met 𝓤 H 𝓜 𝓖 𝓡))
+    (cited 𝓤 H (Record 𝓤 H (𝓖 .A) (givenOf 𝓤 H 𝓜 𝓖) (𝓜 .mem) (𝓡 .run)) 𝓜 𝓡 code.env #array-states·scan·scan-record scan-record-def.routine code.calls-array-states·scan·scan-record (scan-record-thm.met 𝓤 H 𝓜 𝓖 𝓡))
+    (cited 𝓤 H (Answer 𝓤 H (𝓖 .A) (givenOf 𝓤 H 𝓜 𝓖) (𝓜 .mem) (𝓡 .run)) 𝓜 𝓡 code.env #array-states·board·scan-answer scan-answer-def.routine code.calls-array-states·board·scan-answer (scan-answer-thm.met 𝓤 H 𝓜 𝓖 𝓡)))

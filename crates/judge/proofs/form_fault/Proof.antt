@@ -6,8 +6,8 @@ use native.Mathlib.Omega.{arith}
 use lib.Dec.{eqb}
 use borrow.Author.Tests.{eq-eqb, ne-eqb}
 use borrow.Author.Needs.{needs}
-use Rattle.laws.specs.Choice.{when, firstOf}
-use Rattle.laws.proofs.ChoiceLaws.{first-kept}
+use Rattle.mathematics.specs.Choice.{when, firstOf}
+use Rattle.mathematics.proofs.ChoiceLaws.{first-kept}
 use Rattle.liberation.specs.Sets.{planFault}
 use Rattle.liberation.proofs.FaultLaws.{plan-of}
 use Rattle.judge.proofs.form_fault.Statement.{statement}

@@ -6,7 +6,7 @@ use native.Mathlib.Omega.{arith}
 use lib.ListN.{length, take}
 use lib.Seq.{length-take-le}
 use borrow.Author.Needs.{needs}
-use Rattle.laws.proofs.ChoiceLaws.{first-none}
+use Rattle.mathematics.proofs.ChoiceLaws.{first-none}
 use Rattle.liberation.specs.Limits.{InArray}
 use Rattle.liberation.specs.Sets.{planFault, longFault}
 use Rattle.liberation.proofs.FaultLaws.{plan-of, long-of}

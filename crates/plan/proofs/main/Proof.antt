@@ -2,7 +2,7 @@
 use mathlib.Core.Path.{sym}
 use lib.Seq.{length-take-le}
 use borrow.Author.Needs.{needs}
-use Rattle.plan_text.proofs.TextAnswers.{holds-length}
+use Rattle.printed_plan.proofs.TextAnswers.{holds-length}
 use Rattle.plan.proofs.main.Tie as tie
 use Rattle.plan.proofs.main.Statement.{statement}
 

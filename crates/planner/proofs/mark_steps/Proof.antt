@@ -9,7 +9,7 @@ use Rattle.liberation.specs.Plans.{step}
 use Rattle.liberation.specs.Records.{recorded}
 use Rattle.liberation.proofs.MarkLists.{length-marks}
 use Rattle.liberation.proofs.RecordLaws.{length-recorded, recorded-at}
-use Rattle.step_records.proofs.HeldLaws.{held-passed}
+use Rattle.planner.proofs.records.HeldLaws.{held-passed}
 use Rattle.planner.proofs.MarkingLoop.{Reading, reading-start, reading-turn, reading-end}
 use borrow.Author.Needs.{needs}
 use Rattle.planner.proofs.mark_steps.Statement.{statement}

@@ -3,7 +3,7 @@ use mathlib.Core.Path.{_≡_, sym, _∙_}
 use borrow.Author.Needs.{needs}
 use Rattle.liberation.specs.Sets.{planFault}
 use Rattle.liberation.proofs.FaultLaws.{plan-of}
-use Rattle.plan_steps.proofs.PlannedLaws.{ours-held, ours-accepted}
+use Rattle.planner.proofs.steps.PlannedLaws.{ours-held, ours-accepted}
 use Rattle.planner.proofs.PlanAnswers.{plan-gives, plan-refused}
 use Rattle.planner.proofs.plan_disk.Statement.{statement}
 use Rattle.planner.proofs.plan_disk.Tie as tie

@@ -2,7 +2,7 @@
 use mathlib.Core.Path.{_≡_, sym, _∙_}
 use mathlib.Core.Bool.{true}
 use borrow.Author.Needs.{needs}
-use Rattle.laws.specs.Xor.{allBytes}
+use Rattle.mathematics.specs.Xor.{allBytes}
 use Rattle.xor.proofs.SourceLaws.{bytes-all}
 use Rattle.rebuild_cells.specs.Says.{lentFault}
 use Rattle.rebuild_cells.proofs.MendRefusals.{lent-none, mend-refused, mend-done, mend-undetermined}

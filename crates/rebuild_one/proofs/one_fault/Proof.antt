@@ -3,9 +3,9 @@ use mathlib.Core.Path.{_≡_, sym, _∙_}
 use Prim.Native.Nat.{_+_, _*_, _≤_}
 use native.Mathlib.Omega.{arith}
 use borrow.Author.Needs.{needs}
-use Rattle.laws.proofs.ChoiceLaws.{first-kept, first-next}
+use Rattle.mathematics.proofs.ChoiceLaws.{first-kept, first-next}
 use Rattle.liberation.specs.Sets.{numbersFault}
-use Rattle.stripe_refusals.proofs.StripeRefusals.{numbers-most}
+use Rattle.refusals.proofs.stripe.StripeRefusals.{numbers-most}
 use Rattle.rebuild_one.proofs.one_fault.Statement.{statement}
 use Rattle.rebuild_one.proofs.one_fault.Tie as tie
 

@@ -5,10 +5,10 @@ use Prim.Native.Nat.{_+_, _*_, _≤_}
 use lib.ListN.{length}
 use Rattle.liberation.specs.Plans.{Step, planOf}
 use Rattle.liberation.proofs.FaultLaws.{plan-none}
-use Rattle.liberation_stripes.specs.Stripes.{rebuiltBy, rebuilt}
-use Rattle.liberation_stripes.specs.Limits.{Sized}
-use Rattle.step_records.specs.Records.{Holds}
-use Rattle.plan_steps.proofs.PlannedLaws.{held-as, ours-held, ours-accepted, planned-is}
+use Rattle.liberation.specs.stripes.Stripes.{rebuiltBy, rebuilt}
+use Rattle.liberation.specs.stripes.Limits.{Sized}
+use Rattle.planner.specs.records.Records.{Holds}
+use Rattle.planner.proofs.steps.PlannedLaws.{held-as, ours-held, ours-accepted, planned-is}
 use Rattle.rebuild_one.proofs.OneRefusals.{fault-none}
 use borrow.Author.Needs.{needs}
 use Rattle.rebuild_one.proofs.rebuild_column.Statement.{statement}

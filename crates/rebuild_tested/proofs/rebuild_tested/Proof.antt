@@ -1,7 +1,7 @@
 -- `rebuild_tested`: a refusal leaves the column as it was; else the survivors fit, and the disk is rebuilt.
 use mathlib.Core.Path.{_≡_, sym, _∙_}
 use mathlib.Core.Bool.{true}
-use Rattle.laws.specs.Xor.{allBytes}
+use Rattle.mathematics.specs.Xor.{allBytes}
 use Rattle.xor.proofs.SourceLaws.{bytes-all}
 use Rattle.rebuild_tested.specs.Says.{testedFault}
 use Rattle.rebuild_tested.proofs.TestedRefusals.{tested, refused, accepted}

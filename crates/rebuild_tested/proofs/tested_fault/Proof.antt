@@ -3,8 +3,8 @@ use mathlib.Core.Path.{_≡_, sym, ap, _∙_}
 use mathlib.Core.Bool.{Bool, not}
 use lib.ListN.{length}
 use borrow.Author.Needs.{needs}
-use Rattle.laws.specs.Choice.{when}
-use Rattle.laws.proofs.ChoiceLaws.{first-kept}
+use Rattle.mathematics.specs.Choice.{when}
+use Rattle.mathematics.proofs.ChoiceLaws.{first-kept}
 use Rattle.rebuild_one.specs.Says.{lengthsFault}
 use Rattle.rebuild_tested.proofs.TestedRefusals.{test-asks, test-says}
 use Rattle.rebuild_tested.proofs.tested_fault.Statement.{statement}

@@ -2,7 +2,7 @@
 use mathlib.Core.Path.{_≡_, sym, _∙_}
 use mathlib.Core.Bool.{true}
 use borrow.Author.Needs.{needs}
-use Rattle.laws.specs.Xor.{allBytes}
+use Rattle.mathematics.specs.Xor.{allBytes}
 use Rattle.xor.proofs.SourceLaws.{bytes-all}
 use Rattle.rebuild_two.specs.Says.{twoFault}
 use Rattle.rebuild_two.proofs.TwoRefusals.{fault-none, two-refused, two-done}

@@ -6,11 +6,11 @@ use native.Mathlib.Omega.{arith}
 use lib.Dec.{eqb}
 use borrow.Author.Tests.{eq-eqb, ne-eqb}
 use borrow.Author.Needs.{needs}
-use Rattle.laws.proofs.ChoiceLaws.{first-kept, first-next}
-use Rattle.laws.specs.Choice.{when, firstOf}
+use Rattle.mathematics.proofs.ChoiceLaws.{first-kept, first-next}
+use Rattle.mathematics.specs.Choice.{when, firstOf}
 use Rattle.liberation.specs.Sets.{numbersFault, diskFault}
-use Rattle.liberation_stripes.specs.Stripes.{stripeLong}
-use Rattle.stripe_refusals.proofs.StripeRefusals.{numbers-most}
+use Rattle.liberation.specs.stripes.Stripes.{stripeLong}
+use Rattle.refusals.proofs.stripe.StripeRefusals.{numbers-most}
 use Rattle.rebuild_two.proofs.two_fault.Statement.{statement}
 use Rattle.rebuild_two.proofs.two_fault.Tie as tie
 

@@ -1,7 +1,7 @@
 -- `array_fault`: refusal 1, then 13.
 use mathlib.Core.Path.{sym, _∙_}
 use borrow.Author.Needs.{needs}
-use Rattle.laws.proofs.ChoiceLaws.{first-kept, first-next}
+use Rattle.mathematics.proofs.ChoiceLaws.{first-kept, first-next}
 use Rattle.liberation.specs.Sets.{disksFault}
 use Rattle.refusals.proofs.array_fault.Statement.{statement}
 use Rattle.refusals.proofs.array_fault.Tie as tie

@@ -1,7 +1,7 @@
 -- `plan_fault`: refusals 1 and 13, then 3.
 use mathlib.Core.Path.{sym, _∙_}
 use borrow.Author.Needs.{needs}
-use Rattle.laws.proofs.ChoiceLaws.{first-kept, first-next}
+use Rattle.mathematics.proofs.ChoiceLaws.{first-kept, first-next}
 use Rattle.liberation.specs.Sets.{diskFault}
 use Rattle.refusals.proofs.plan_fault.Statement.{statement}
 use Rattle.refusals.proofs.plan_fault.Tie as tie

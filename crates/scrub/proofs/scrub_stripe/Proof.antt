@@ -2,9 +2,9 @@
 use mathlib.Core.Path.{_≡_, sym, _∙_}
 use native.Mathlib.Omega.{arith}
 use borrow.Author.Needs.{needs}
-use Rattle.liberation_stripes.specs.Limits.{Sized}
-use Rattle.stripe_refusals.specs.Says.{stripeFault}
-use Rattle.stripe_refusals.proofs.StripeRefusals.{fault-none}
+use Rattle.liberation.specs.stripes.Limits.{Sized}
+use Rattle.refusals.specs.stripe.Says.{stripeFault}
+use Rattle.refusals.proofs.stripe.StripeRefusals.{fault-none}
 use Rattle.scrub.proofs.ScrubRefusals.{scrub-refused, scrub-clean, scrub-one, scrub-more}
 use Rattle.scrub.proofs.scrub_stripe.Statement.{statement}
 use Rattle.scrub.proofs.scrub_stripe.Tie as tie

@@ -3,7 +3,7 @@ use mathlib.Core.Path.{_≡_, sym, ap, _∙_}
 use Prim.Native.Nat.{ℕ, _*_}
 use native.Mathlib.Omega.{arith}
 use borrow.Author.Needs.{needs}
-use Rattle.space_tests.specs.Faults.{spaceFault}
+use Rattle.space.specs.limits.Faults.{spaceFault}
 use Rattle.space.proofs.SpaceLaws.{Bounds, small, refusal-says, space-says}
 use Rattle.space.proofs.package_space.Statement.{statement}
 use Rattle.space.proofs.package_space.Tie as tie

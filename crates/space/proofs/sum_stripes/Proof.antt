@@ -3,9 +3,9 @@ use mathlib.Core.Path.{_≡_}
 use Prim.Native.Nat.{_+_, _-_, _≤_}
 use native.Mathlib.Omega.{arith}
 use lib.ListN.{length, drop}
-use Rattle.laws.specs.Sums.{total}
+use Rattle.mathematics.specs.Sums.{total}
 use Rattle.space.specs.Says.{upEach}
-use Rattle.space_tests.proofs.LeftLaws.{left-next}
+use Rattle.space.proofs.limits.LeftLaws.{left-next}
 use Rattle.space.proofs.FilesLaws.{left-each, each-none, stripes-small}
 use Rattle.space.proofs.sum_stripes.Statement.{statement}
 use Rattle.space.proofs.sum_stripes.Tie as tie

@@ -6,13 +6,13 @@ use native.Mathlib.Omega.{arith}
 use lib.ListN.{length}
 use borrow.Author.Needs.{needs}
 use borrow.Rule.Slice.PartMut.{putMid}
-use Rattle.laws.specs.Xor.{xorL}
+use Rattle.mathematics.specs.Xor.{xorL}
 use Rattle.liberation.specs.Sets.{place}
-use Rattle.liberation_stripes.specs.Stripes.{withCell}
+use Rattle.liberation.specs.stripes.Stripes.{withCell}
 use Rattle.xor.specs.Parts.{part}
 use Rattle.xor.proofs.PartLaws.{put-part}
 use Rattle.xor.proofs.SourceLaws.{bytes-all}
-use Rattle.update_parity.proofs.CellPlaces.{places-small, own-fits}
+use Rattle.update.proofs.parity.CellPlaces.{places-small, own-fits}
 use Rattle.update.proofs.PutLaws.{change-put, cell-put}
 use Rattle.update.proofs.put_cell.Statement.{statement}
 use Rattle.update.proofs.put_cell.Tie as tie

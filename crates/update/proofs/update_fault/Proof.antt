@@ -5,8 +5,8 @@ use Prim.Native.Nat.{ℕ, _+_, _*_, _≤_}
 use native.Mathlib.Omega.{arith}
 use lib.Dec.{eqb}
 use borrow.Author.Needs.{needs}
-use Rattle.laws.specs.Choice.{when, firstOf}
-use Rattle.laws.proofs.ChoiceLaws.{first-kept, first-next}
+use Rattle.mathematics.specs.Choice.{when, firstOf}
+use Rattle.mathematics.proofs.ChoiceLaws.{first-kept, first-next}
 use Rattle.liberation.specs.Sets.{shapeFault}
 use Rattle.liberation.proofs.FaultLaws.{shape-most}
 use Rattle.update.specs.Says.{rowFault, updateLengthsFault}

@@ -1,0 +1,3 @@
+-- The refusals of a report on one array.
+pub mod StateLaws
+pub mod series

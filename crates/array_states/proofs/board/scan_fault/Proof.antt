@@ -1,0 +1,23 @@
+-- `scan_fault`: 20 where no record is named, else what the scan has found.
+use mathlib.Core.Path.{sym, ap, _∙_}
+use mathlib.Core.Bool.{Bool}
+use borrow.Author.Needs.{needs}
+use borrow.Author.Tests.{le-leb, lt-leb}
+use Rattle.mathematics.specs.Choice.{when, firstOf}
+use Rattle.array_states.specs.board.Reports.{scanFault}
+use Rattle.array_states.proofs.board.scan_fault.Statement.{statement}
+use Rattle.array_states.proofs.board.scan_fault.Tie as tie
+
+returns : tie.Need-returns
+unfolding scanFault
+returns c = simp (le-leb _ _ (c .if1 .taken))
+
+returns-2 : tie.Need-returns-2
+unfolding scanFault
+returns-2 c =
+    let e = c .before in
+    let a = e .before .args in
+    c .first-fault .ensures ∙ sym (ap (λ (b : Bool). firstOf (when b 20) (firstOf (a .s .fault) (a .s .own))) (lt-leb (a .n) (a .which) (e .if1 .left)))
+
+pub scan-fault-spec : {M : Type 1} → statement M
+scan-fault-spec = tie.close (tie.spec returns (λ c κs. search needs) returns-2)

@@ -1,1 +1,0 @@
-// Equations over bits as words, and their reduction: definitions, with the theorems about them. No functions.

@@ -1,1 +1,0 @@
-// Theorems about the mend of missing cells, from the promise of its call alone. No functions.

@@ -1,1 +1,0 @@
-// Theorems about the calls on the balanced plan, the relief plan and a host's plan, from their promises alone. No functions.

@@ -1,0 +1,34 @@
+// Encoding a stripe by groups of data disks: which disks a group has, and one group added after the other.
+ghost use mathlib.Core.Path.{_≡_};
+ghost use Prim.Native.Nat.{_≤_, _<_};
+ghost use Rattle.liberation.specs.stripes.Stripes.{encoded};
+ghost use Rattle.liberation.specs.stripes.Limits.{Sized};
+use super::sums;
+
+// Where the group from disk lo on ends: after all disks that are left if these are few; else after seven in the first group, and after six in the others, which have the parity cell as a source too.
+fn group_end(lo: usize, disks: usize) -> usize
+    requires { ⌜ lo < disks ⌝ }
+    ensures { λ r. ⌜ (lo < r) × (r ≤ disks) ⌝ }
+{
+    if disks - lo <= 8 {
+        return disks;
+    }
+    if lo == 0 {
+        return 7;
+    }
+    lo + 6
+}
+
+// Writes P and Q of a stripe, group by group.
+pub fn encode_groups(width: usize, disks: usize, size: usize, stripe: &mut [u8])
+    requires { ⌜ Sized width disks size (now stripe) ⌝ }
+    ensures { λ _. ⌜ now (stripe .exit) ≡ encoded width disks size (now (stripe .entry)) ⌝ }
+{
+    let mut at = stripe_cells::no_offsets();
+    let mut lo = 0;
+    while lo < disks {
+        let hi = group_end(lo, disks);
+        sums::add_group(width, disks, size, lo, hi, stripe, &mut at);
+        lo = hi;
+    }
+}

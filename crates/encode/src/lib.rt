@@ -1,0 +1,49 @@
+// Encoding a stripe, which writes P and Q: by groups of data disks where that is faster, else P as one run of bytes and Q diagonal by diagonal.
+mod groups;
+mod offsets;
+mod sets;
+mod sums;
+
+ghost use mathlib.Core.Path.{_≡_};
+ghost use mathlib.Core.Bool.{_&&_};
+ghost use lib.Dec.{leb};
+ghost use Rattle.liberation.specs.stripes.Stripes.{encoded};
+ghost use Rattle.liberation.specs.stripes.Limits.{Sized};
+ghost use Rattle.encode.specs.Says.{EncodeSays};
+use refusals::Answer;
+use refusals::Shape;
+
+// Do groups go faster? With few data disks the data are still in the cache when they are read again, and with small cells the passes cost more than the reads. No answer depends on it.
+fn by_groups(disks: usize, size: usize) -> bool
+    ensures { λ r. ⌜ r ≡ (leb 11 disks && leb 512 size) ⌝ }
+{
+    if disks < 11 {
+        return false;
+    }
+    512 <= size
+}
+
+// Writes P and Q of a stripe within the limits.
+fn write_parity(width: usize, disks: usize, size: usize, stripe: &mut [u8])
+    requires { ⌜ Sized width disks size (now stripe) ⌝ }
+    ensures { λ _. ⌜ now (stripe .exit) ≡ encoded width disks size (now (stripe .entry)) ⌝ }
+{
+    if by_groups(disks, size) {
+        groups::encode_groups(width, disks, size, stripe);
+        return;
+    }
+    stripe_cells::solve_rows(width, disks, size, disks, stripe);
+    stripe_cells::solve_diagonals(width, disks, size, stripe);
+}
+
+// Writes P and Q of a stripe. Refusals: 1, 13, 2, 5; a refused call leaves the stripe as it was.
+pub fn encode_stripe(shape: Shape, stripe: &mut [u8]) -> Answer
+    ensures { λ r. ⌜ EncodeSays (shape .width) (shape .disks) (shape .«cell_size») (now (stripe .entry)) (now (stripe .exit)) r ⌝ }
+{
+    let fault = refusals::stripe_fault(shape.width, shape.disks, shape.cell_size, stripe.len());
+    if fault != 0 {
+        return refusals::answered(fault);
+    }
+    write_parity(shape.width, shape.disks, shape.cell_size, stripe);
+    refusals::answered(0)
+}

@@ -1,2 +1,0 @@
--- What encoding a stripe promises.
-pub mod Says

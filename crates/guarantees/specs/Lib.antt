@@ -1,0 +1,2 @@
+pub mod further_plans
+pub mod limits

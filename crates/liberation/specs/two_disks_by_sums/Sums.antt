@@ -1,0 +1,70 @@
+-- Two lost data disks x and y: the start's sets are summed into the lost cells that they will give, and the walk's last steps add to them what the sets have of other lost cells.
+use mathlib.Core.List.{List, [], _∷_, _++_}
+use Prim.Native.Nat.{ℕ, zero, suc, _-_, _/_}
+use Rattle.liberation.specs.Sets.{place, rowSet, lostIn, survivingIn, setOf}
+use Rattle.liberation.specs.Plans.{extraRowOn, diagonalOf}
+use Rattle.liberation.specs.stripes.Stripes.{cellAt, withCell, xorOver, solved}
+use Rattle.liberation.specs.stripes.Steps.{CellStep, cellStep}
+use Rattle.liberation.specs.two_disks.Pairs.{nextRow, diagonalWalk}
+use Rattle.liberation.specs.two_disks.PairSteps.{walkSteps}
+
+-- the cells of a list on neither disk
+abbrev pub survivorsOf : ℕ → ℕ → ℕ → List ℕ → List ℕ
+survivorsOf p x y xs = survivingIn p x (survivingIn p y xs)
+
+-- disk f's cells in these rows
+unfoldable pub placed : ℕ → ℕ → List ℕ → List ℕ
+placed p f [] = []
+placed p f (r ∷ rs) = place p r f ∷ placed p f rs
+
+-- the cells of a list on disk x, then those on disk y
+abbrev pub lostCells : ℕ → ℕ → ℕ → List ℕ → List ℕ
+lostCells p x y xs = placed p x (lostIn p x xs) ++ placed p y (lostIn p y xs)
+
+-- a step's cell becomes the XOR of its set's surviving cells
+abbrev pub summed : ℕ → ℕ → ℕ → ℕ → ℕ → CellStep → List ℕ → List ℕ
+summed p k s x y c t = withCell s (c .cell) (xorOver s (cellAt s t) (survivorsOf p x y (setOf p k (c .kind) (c .number)))) t
+
+unfoldable pub summedAll : ℕ → ℕ → ℕ → ℕ → ℕ → List CellStep → List ℕ → List ℕ
+summedAll p k s x y [] t = t
+summedAll p k s x y (c ∷ cs) t = summedAll p k s x y cs (summed p k s x y c t)
+
+-- a step's cell becomes the XOR of its set's lost cells, of which it is one
+abbrev pub added : ℕ → ℕ → ℕ → ℕ → ℕ → CellStep → List ℕ → List ℕ
+added p k s x y c t = withCell s (c .cell) (xorOver s (cellAt s t) (lostCells p x y (setOf p k (c .kind) (c .number)))) t
+
+unfoldable pub addedAll : ℕ → ℕ → ℕ → ℕ → ℕ → List CellStep → List ℕ → List ℕ
+addedAll p k s x y [] t = t
+addedAll p k s x y (c ∷ cs) t = addedAll p k s x y cs (added p k s x y c t)
+
+-- the start's sets with the cells that they give: R r gives (r, x), and D (r - x) the cell of disk y in the next row
+unfoldable pub startSteps : ℕ → ℕ → ℕ → ℕ → ℕ → List CellStep
+startSteps zero p x y r = []
+startSteps (suc n) p x y r = cellStep (place p r x) 0 r ∷ (cellStep (place p (nextRow p x y r) y) 1 (diagonalOf p x r) ∷ startSteps n p x y (nextRow p x y r))
+
+-- the walk's last steps: those from the row of the extra cell on y on, its cell of disk y standing
+abbrev pub lastSteps : ℕ → ℕ → ℕ → ℕ → List CellStep
+lastSteps m p x y = cellStep (place p (extraRowOn p y) x) 0 (extraRowOn p y) ∷ walkSteps m p x y (extraRowOn p y)
+
+-- the cells of steps
+unfoldable pub cellsOf : List CellStep → List ℕ
+cellsOf [] = []
+cellsOf (c ∷ cs) = c .cell ∷ cellsOf cs
+
+-- the start's steps: (p - 1)/2 rows from that of the extra cell on y on. The last of them gives the first cell of the walk
+abbrev pub sumSteps : ℕ → ℕ → ℕ → List CellStep
+sumSteps p x y = startSteps ((p - 1) / 2) p x y (extraRowOn p y)
+
+-- the first cell becomes the XOR of all their cells, of which it is one
+abbrev pub firstAdded : ℕ → ℕ → ℕ → ℕ → List ℕ → List ℕ
+firstAdded p s x y t = withCell s (place p (extraRowOn p x) y) (xorOver s (cellAt s t) (cellsOf (sumSteps p x y))) t
+
+-- the start: sums, and the first cell from them
+abbrev pub sumStarted : ℕ → ℕ → ℕ → ℕ → ℕ → List ℕ → List ℕ
+sumStarted p k s x y t = firstAdded p s x y (summedAll p k s x y (sumSteps p x y) t)
+
+-- then the other cell of the first cell's row, the walk until the cell of disk y in the row of its extra cell stands, and the last steps
+abbrev pub sumWalked : ℕ → ℕ → ℕ → ℕ → ℕ → List ℕ → List ℕ
+sumWalked p k s x y t =
+    addedAll p k s x y (lastSteps ((p - 1) / 2 - 1) p x y)
+    (diagonalWalk p p k s x y (extraRowOn p x) (solved s (place p (extraRowOn p x) x) (rowSet p k (extraRowOn p x)) (sumStarted p k s x y t)))

@@ -1,0 +1,22 @@
+-- Laws over all numbers and lists.
+pub mod Flags
+pub mod FirstLaws
+pub mod TestLaws
+pub mod OrderLaws
+pub mod Modulo
+pub mod Primes
+pub mod SumLaws
+pub mod ListLaws
+pub mod OneOf
+pub mod ShiftLaws
+pub mod XorLaws
+pub mod Residues
+pub mod MemberLaws
+pub mod KeptLaws
+pub mod Walks
+pub mod ByteLaws
+pub mod AllLaws
+pub mod SearchLaws
+pub mod ChoiceLaws
+pub mod LengthLaws
+pub mod bit_rows

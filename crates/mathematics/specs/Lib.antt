@@ -1,0 +1,6 @@
+-- Definitions that know nothing of the code: choices, lists as sets, finite sums, XOR of bytes.
+pub mod Choice
+pub mod Lists
+pub mod Sums
+pub mod Xor
+pub mod bit_rows

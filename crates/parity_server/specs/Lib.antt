@@ -1,0 +1,3 @@
+-- What writing and rebuilding a server promise.
+pub mod Says
+pub mod mends

@@ -1,0 +1,42 @@
+// The refusals of a call on the stripes of several servers by 1, 13, 2, 18 and 5.
+ghost use mathlib.Core.Path.{_≡_};
+ghost use mathlib.Core.Bool.{not};
+ghost use lib.Dec.{eqb};
+ghost use Rattle.mathematics.specs.Choice.{when, firstOf};
+ghost use Rattle.liberation.specs.Sets.{shapeFault};
+ghost use Rattle.liberation.specs.parity_server.Servers.{serversLong, serverFault};
+
+// The refusal of the number of servers, and of a server, by 18, 0 for none. The extra server's number is as many as the others are.
+fn server_fault(servers: usize, server: usize) -> u8
+    ensures { λ r. ⌜ r ≡ serverFault servers server ⌝ }
+{
+    if servers < 2 {
+        return 18;
+    }
+    if 16 < servers {
+        return 18;
+    }
+    if servers < server { 18 } else { 0 }
+}
+
+// The refusal of either call on stripes of `long` bytes in all, by 1, 13, 2, 18 or 5, 0 for none.
+pub fn call_fault(
+    width: usize,
+    disks: usize,
+    size: usize,
+    servers: usize,
+    server: usize,
+    long: usize,
+) -> u8
+    ensures { λ r. ⌜ r ≡ firstOf (shapeFault width disks size) (firstOf (serverFault servers server) (when (not (eqb long (serversLong width disks size servers))) 5)) ⌝ }
+{
+    let shape = refusals::shape_fault(width, disks, size);
+    if shape != 0 {
+        return shape;
+    }
+    let number = server_fault(servers, server);
+    if number != 0 {
+        return number;
+    }
+    refusals::length_fault(long, (servers + 1) * ((disks + 2) * (width * size)))
+}

@@ -1,3 +1,0 @@
--- The printed plan.
-pub mod Text
-pub mod Says

@@ -1,0 +1,5 @@
+pub mod form
+pub mod judged
+pub mod numbers
+pub mod plain
+pub mod reader

@@ -1,0 +1,26 @@
+// The judge of a plan that is a text from the host.
+ghost use Rattle.plan_texts.specs.judged.Says.{JudgeTextSays};
+use super::reader;
+use judge::Judged;
+
+// Judges a plan that is a text. Refusals: 1, 13, 3, 22, then 6 to 9 with the step as their place.
+pub fn judge_text(width: usize, disks: usize, lost: usize, text: &[u8]) -> Judged
+    ensures { λ r. ⌜ JudgeTextSays width disks lost (now (text .entry)) r ⌝ }
+{
+    let fault = refusals::plan_fault(width, disks, lost);
+    if fault != 0 {
+        return Judged {
+            answer: refusals::answered(fault),
+            reads: 0,
+        };
+    }
+    let read = reader::parse(width, text);
+    if !read.ok {
+        return Judged {
+            answer: refusals::answered(22),
+            reads: 0,
+        };
+    }
+    let plan = read.plan;
+    judge::judge_plan(width, disks, lost, &plan[..3 * width])
+}

@@ -1,0 +1,4 @@
+-- The printed plan.
+pub mod Text
+pub mod Says
+pub mod input

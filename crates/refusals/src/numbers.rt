@@ -1,0 +1,53 @@
+// The tests of single numbers that calls have in common: width, data disks, size of a cell, disk, length of a lent slice.
+ghost use mathlib.Core.Path.{_≡_};
+ghost use mathlib.Core.Bool.{not};
+ghost use lib.Dec.{eqb};
+ghost use Rattle.mathematics.specs.Choice.{when};
+ghost use Rattle.liberation.specs.Sets.{widthFault, disksFault, sizeFault, diskFault};
+
+// The refusal of a width: 0 for one of the ten, 1 for any other number.
+pub fn width_fault(width: usize) -> u8
+    ensures { λ r. ⌜ r ≡ widthFault width ⌝ }
+{
+    match width {
+        3 | 5 | 7 | 11 | 13 | 17 | 19 | 23 | 29 | 31 => 0,
+        _ => 1,
+    }
+}
+
+// The refusal of a number of data disks: 13 for fewer than 2, or more than the width.
+pub fn disks_fault(width: usize, disks: usize) -> u8
+    ensures { λ r. ⌜ r ≡ disksFault width disks ⌝ }
+{
+    if disks < 2 {
+        return 13;
+    }
+    if width < disks { 13 } else { 0 }
+}
+
+// The refusal of a cell's size: 2 for 0 bytes or more than 4,096.
+pub fn size_fault(size: usize) -> u8
+    ensures { λ r. ⌜ r ≡ sizeFault size ⌝ }
+{
+    if size == 0 {
+        return 2;
+    }
+    if 4096 < size { 2 } else { 0 }
+}
+
+// The refusal of a disk: 3 for a number past Q, which is the second after the data disks.
+pub fn disk_fault(disks: usize, disk: usize) -> u8
+    ensures { λ r. ⌜ r ≡ diskFault disks disk ⌝ }
+{
+    if disk <= disks {
+        return 0;
+    }
+    if disk - disks == 1 { 0 } else { 3 }
+}
+
+// The refusal of a lent slice: 5 for another length than required.
+pub fn length_fault(long: usize, required: usize) -> u8
+    ensures { λ r. ⌜ r ≡ when (not (eqb long required)) 5 ⌝ }
+{
+    if long == required { 0 } else { 5 }
+}

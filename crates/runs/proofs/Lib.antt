@@ -1,2 +1,0 @@
--- The promise of a skip from what was refused or done, and what holds of a record that is not refused.
-pub mod RunRefusals

@@ -1,2 +1,0 @@
--- The record of a run: its refusals, how it moves on, and what a skip does.
-pub mod Runs

@@ -1,2 +1,0 @@
--- What writing and rebuilding a server promise.
-pub mod Says

@@ -1,0 +1,37 @@
+// The refusals of the space call by 1, 13, 2, 14 and 11: the numbers of the array, the number of files and the sum of their lengths.
+ghost use mathlib.Core.Path.{_≡_};
+ghost use Prim.Native.Nat.{_^_};
+ghost use lib.Dec.{ltb};
+ghost use Rattle.mathematics.specs.Sums.{total};
+ghost use Rattle.space.specs.limits.Faults.{spaceFault};
+
+// Do the lengths add up to more than 2^48? Each is compared with what is left of that, so no sum wraps.
+fn too_long(lengths: &[u64]) -> bool
+    ensures { λ r. ⌜ r ≡ ltb (2 ^ 48) (total (now (lengths .entry))) ⌝ }
+{
+    let mut seen: u64 = 0;
+    let mut i = 0;
+    while i < lengths.len() {
+        let bytes = lengths[i];
+        if 281474976710656 - seen < bytes {
+            return true;
+        }
+        seen += bytes;
+        i += 1;
+    }
+    false
+}
+
+// The refusal of a package of files, 0 for none: 1, 13, 2, then 14 for more than 4,096 files, then 11 for more than 2^48 bytes.
+pub fn space_fault(width: usize, disks: usize, size: usize, lengths: &[u64]) -> u8
+    ensures { λ r. ⌜ r ≡ spaceFault width disks size (now (lengths .entry)) ⌝ }
+{
+    let fault = refusals::shape_fault(width, disks, size);
+    if fault != 0 {
+        return fault;
+    }
+    if 4096 < lengths.len() {
+        return 14;
+    }
+    if too_long(lengths) { 11 } else { 0 }
+}

@@ -1,2 +1,0 @@
--- The refusals of a report on one array.
-pub mod StateLaws

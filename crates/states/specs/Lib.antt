@@ -1,2 +1,0 @@
--- States of arrays and reports on one.
-pub mod States

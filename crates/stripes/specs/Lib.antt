@@ -1,2 +1,0 @@
--- What the steps over a stripe ask.
-pub mod Cells

@@ -1,0 +1,2 @@
+pub mod first_cell
+pub mod set_sums

@@ -1,0 +1,13 @@
+// The walk over two lost data disks: its first cell, its diagonal and row steps, and the walk from sums.
+mod first_cell;
+mod first_cell_by_sums;
+mod last_steps;
+mod lost_cells;
+mod numbers;
+mod set_sums;
+mod steps;
+pub mod walk;
+
+pub use first_cell::start;
+pub use walk::walk_sums;
+pub use walk::walk_to_zero;
