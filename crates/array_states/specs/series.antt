@@ -1,2 +1,2 @@
 -- Reports on a list of arrays: what is claimed of one and of any series.
-pub mod Claims
+pub mod ReportSeries

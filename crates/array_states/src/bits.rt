@@ -1,7 +1,8 @@
-// The lost disks of an array as the bits of a word: one tested, set or cleared, and the refusal of a word with a bit past Q.
+// The lost disks of an array as the bits of a word: one tested, set or cleared, and the refusal of
+// a word with a bit past Q.
 ghost use mathlib.Core.Path.{_≡_};
 ghost use Prim.Native.Nat.{_^_, _≤_, _<_};
-ghost use Rattle.array_states.specs.bits.Lost.{isLost, lostAfter, lostFault};
+ghost use Rattle.array_states.specs.Lost.{hasBit, lostAfter, lostRefusal};
 
 // The word with a disk's bit alone.
 fn bit_of(disk: usize) -> u64
@@ -14,7 +15,7 @@ fn bit_of(disk: usize) -> u64
 // Is this disk lost?
 pub fn is_lost(lost: u64, disk: usize) -> bool
     requires { ⌜ disk < 64 ⌝ }
-    ensures { λ r. ⌜ r ≡ isLost lost disk ⌝ }
+    ensures { λ r. ⌜ r ≡ hasBit lost disk ⌝ }
 {
     (lost >> disk) & 1 == 1
 }
@@ -33,9 +34,9 @@ pub fn lost_after(lost: u64, disk: usize, back: bool) -> u64
 }
 
 // The refusal of a word of lost disks by 3, for one past Q; 0 for none.
-pub fn lost_fault(disks: usize, lost: u64) -> u8
+pub fn lost_refusal(disks: usize, lost: u64) -> u8
     requires { ⌜ disks ≤ 31 ⌝ }
-    ensures { λ r. ⌜ r ≡ lostFault disks lost ⌝ }
+    ensures { λ r. ⌜ r ≡ lostRefusal disks lost ⌝ }
 {
     let past = bit_of(disks + 2);
     if past <= lost { 3 } else { 0 }

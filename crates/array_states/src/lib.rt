@@ -1,5 +1,8 @@
-// The state of an array, its refusals, and reports by value that a disk of it was lost or is back.
-pub mod bits;
+// The states of up to 64 arrays (document 02, ask 12): which disks are lost, reports that a disk was
+// lost or is back, and how many arrays can bear two more losses, one, none, or are past saving.
+// `board`, `scan` and `totals` are public, since the export over the lent list is proved by hand and
+// cites their proofs.
+mod bits;
 pub mod board;
 pub mod scan;
 pub mod totals;
@@ -12,10 +15,11 @@ pub use totals::scan_length;
 pub use totals::scan_start;
 ghost use mathlib.Core.Path.{_≡_};
 ghost use Prim.Native.Nat.{_<_};
-ghost use Rattle.array_states.specs.States.{stateFault, againFault, stateReportFault, StateSays};
+ghost use Rattle.array_states.specs.States.{stateRefusal, againRefusal, stateReportRefusal, StateSays};
 use refusals::Answer;
 
-// An array of a list: its width p, its data disks k, and a word with bit d set for each lost disk d.
+// An array of a list: its width p, its data disks k, and a word with bit d set for each lost disk
+// d.
 #[repr(C)]
 pub struct ArrayState {
     pub width: usize,
@@ -30,20 +34,20 @@ pub struct StateAnswer {
 }
 
 // The refusal of a record by 1, 13 or 3, 0 for none.
-pub fn state_fault(state: ArrayState) -> u8
-    ensures { λ r. ⌜ r ≡ stateFault state ⌝ }
+pub fn state_refusal(state: ArrayState) -> u8
+    ensures { λ r. ⌜ r ≡ stateRefusal state ⌝ }
 {
-    let fault = refusals::array_fault(state.width, state.disks);
-    if fault != 0 {
-        return fault;
+    let refusal = refusals::array_refusal(state.width, state.disks);
+    if refusal != 0 {
+        return refusal;
     }
-    bits::lost_fault(state.disks, state.lost)
+    bits::lost_refusal(state.disks, state.lost)
 }
 
 // The refusal of a loss of a lost disk, or of a return of a present one, by 21; 0 for none.
-fn again_fault(lost: u64, disk: usize, back: bool) -> u8
+fn again_refusal(lost: u64, disk: usize, back: bool) -> u8
     requires { ⌜ disk < 64 ⌝ }
-    ensures { λ r. ⌜ r ≡ againFault lost disk back ⌝ }
+    ensures { λ r. ⌜ r ≡ againRefusal lost disk back ⌝ }
 {
     let now = bits::is_lost(lost, disk);
     if back {
@@ -53,28 +57,28 @@ fn again_fault(lost: u64, disk: usize, back: bool) -> u8
 }
 
 // The refusal of a report on one array by 1, 13, 3 or 21, 0 for none.
-fn state_report_fault(state: ArrayState, disk: usize, back: bool) -> u8
-    ensures { λ r. ⌜ r ≡ stateReportFault state disk back ⌝ }
+fn state_report_refusal(state: ArrayState, disk: usize, back: bool) -> u8
+    ensures { λ r. ⌜ r ≡ stateReportRefusal state disk back ⌝ }
 {
-    let fault = state_fault(state);
-    if fault != 0 {
-        return fault;
+    let refusal = state_refusal(state);
+    if refusal != 0 {
+        return refusal;
     }
-    let past = refusals::disk_fault(state.disks, disk);
+    let past = refusals::disk_refusal(state.disks, disk);
     if past != 0 {
         return past;
     }
-    again_fault(state.lost, disk, back)
+    again_refusal(state.lost, disk, back)
 }
 
 // A report on one array: a disk was lost, or is back. Refusals: 1, 13, 3, 21.
 pub fn report_state(state: ArrayState, disk: usize, back: bool) -> StateAnswer
     ensures { λ r. ⌜ StateSays state disk back r ⌝ }
 {
-    let fault = state_report_fault(state, disk, back);
-    if fault != 0 {
+    let refusal = state_report_refusal(state, disk, back);
+    if refusal != 0 {
         return StateAnswer {
-            answer: refusals::answered(fault),
+            answer: refusals::answered(refusal),
             state: state,
         };
     }

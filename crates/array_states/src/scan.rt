@@ -1,13 +1,13 @@
 // The scan of a list of arrays, record by record, for a report on one of them.
 ghost use mathlib.Core.Path.{_≡_};
 ghost use Rattle.mathematics.specs.Choice.{firstOf};
-ghost use Rattle.array_states.specs.scan.Records.{MayScan, scanRecord};
+ghost use Rattle.array_states.specs.Records.{MayScan, scanRecord};
 use super::ArrayState;
 use super::totals;
 use super::totals::Scan;
 
 // The first of two refusals, 0 for none.
-pub fn first_fault(first: u8, second: u8) -> u8
+pub fn first_refusal(first: u8, second: u8) -> u8
     ensures { λ r. ⌜ r ≡ firstOf first second ⌝ }
 {
     if first != 0 { first } else { second }
@@ -20,14 +20,14 @@ pub fn scan_record(s: Scan, which: usize, disk: usize, back: bool, state: ArrayS
 {
     let at = s.at;
     let totals = s.totals;
-    let here = super::state_fault(state);
-    let fault = first_fault(s.fault, here);
+    let here = super::state_refusal(state);
+    let refusal = first_refusal(s.refusal, here);
     if at == which {
         let r = super::report_state(state, disk, back);
         let after = r.state;
         return Scan {
             at: at + 1,
-            fault: fault,
+            refusal: refusal,
             own: r.answer.refusal,
             found: after,
             totals: totals::count_state(totals, after.lost),
@@ -36,7 +36,7 @@ pub fn scan_record(s: Scan, which: usize, disk: usize, back: bool, state: ArrayS
     let found = s.found;
     Scan {
         at: at + 1,
-        fault: fault,
+        refusal: refusal,
         own: s.own,
         found: found,
         totals: totals::count_state(totals, state.lost),

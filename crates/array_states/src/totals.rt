@@ -1,7 +1,9 @@
-// What the scan of a list of arrays finds, for a report on one of them: the first refusal, the named record after the report, the totals. How it starts, and how an array is counted; `state_scans` goes on record by record.
+// What the scan of a list of arrays finds, for a report on one of them: the first refusal, the
+// named record after the report, the totals. How it starts, and how an array is counted;
+// `scan` goes on record by record.
 ghost use mathlib.Core.Path.{_≡_};
 ghost use lib.Count.{ones};
-ghost use Rattle.array_states.specs.totals.Scanning.{noTotals, Few, countedOn, scanLength, scanStart};
+ghost use Rattle.array_states.specs.Scanning.{noTotals, FewCounted, countedOn, scanLength, scanStart};
 use super::ArrayState;
 
 // How many arrays of a list can bear two more losses, one more, none, and how many are past saving.
@@ -13,10 +15,11 @@ pub struct Totals {
     pub failed: u32,
 }
 
-// What the scan of a list has found in the records before `at`: the first refusal of a record; the refusal of the report on record `which`, and that record after it; the totals.
+// What the scan of a list has found in the records before `at`: the first refusal of a record; the
+// refusal of the report on record `which`, and that record after it; the totals.
 pub struct Scan {
     pub at: usize,
-    pub fault: u8,
+    pub refusal: u8,
     pub own: u8,
     pub found: ArrayState,
     pub totals: Totals,
@@ -36,7 +39,7 @@ pub fn no_totals() -> Totals
 
 // The totals with an array more.
 pub fn count_state(totals: Totals, lost: u64) -> Totals
-    requires { ⌜ Few totals ⌝ }
+    requires { ⌜ FewCounted totals ⌝ }
     ensures { λ r. ⌜ r ≡ countedOn totals (ones lost) ⌝ }
 {
     let n = u64::count_ones(lost);
@@ -66,7 +69,7 @@ pub fn scan_start() -> Scan
 {
     Scan {
         at: 0,
-        fault: 0,
+        refusal: 0,
         own: 0,
         found: ArrayState {
             width: 0,

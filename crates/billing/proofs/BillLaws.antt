@@ -1,4 +1,5 @@
--- The bands add up to the bytes, and no product or sum of a bill wraps, since the rates are at most 1,000 and the bytes at most 2^54: 1,000 × 2^54 is below 2^64.
+-- The bands add up to the bytes, and no product or sum of a bill wraps, since the rates are at most
+-- 1,000 and the bytes at most 2^54: 1,000 × 2^54 is below 2^64.
 use mathlib.Core.Path.{_≡_, refl, sym, ap, ap₂, subst₂, _∙_}
 use mathlib.Core.Bool.{Bool, true, false, _||_}
 use Prim.Native.Nat.{ℕ, _+_, _-_, _*_, _^_, _≤_}
@@ -13,8 +14,8 @@ use Rattle.refusals.specs.declared.Answer.{Answer}
 use Rattle.refusals.specs.Answers.{Answers}
 use Rattle.refusals.proofs.AnswerLaws.{answers-as}
 use Rattle.billing.specs.declared.Bill.{Bill}
-use Rattle.billing.specs.numbers.Cents.{least, nearest, rateFault, bytesFault, billFault}
-use Rattle.billing.specs.Bills.{inFirst, inSecond, inThird, centsOf, Refused, Says, BillSays}
+use Rattle.billing.specs.Cents.{least, nearest, rateRefusal, bytesRefusal, billRefusal}
+use Rattle.billing.specs.Bills.{inFirst, inSecond, inThird, centsOf, BillRefused, Says, BillSays}
 
 -- the smaller of two numbers is at most each of them
 pub least-most : (a b : ℕ) → (least a b ≤ a) × (least a b ≤ b)
@@ -42,9 +43,9 @@ pub record Fair (b r s t low most : ℕ) : Type 0 where
   pub second : (most - low) * s ≤ (most - low) * 1000
   pub third : (b - most) * t ≤ (b - most) * 1000
 
-fair : (b r s t : ℕ) → billFault b r s t ≡ 0 → Fair b r s t (least b (2 ^ 36)) (least b (2 ^ 40))
+fair : (b r s t : ℕ) → billRefusal b r s t ≡ 0 → Fair b r s t (least b (2 ^ 36)) (least b (2 ^ 40))
 fair b r s t e =
-    let w = first-none (rateFault r s t) (bytesFault b) e in
+    let w = first-none (rateRefusal r s t) (bytesRefusal b) e in
     let x : (ltb 1000 r || (ltb 1000 s || ltb 1000 t)) ≡ false = when-none (ltb 1000 r || (ltb 1000 s || ltb 1000 t)) 15 (w .0) in
     let y : (ltb 1000 s || ltb 1000 t) ≡ false = or-false-r (ltb 1000 r) (ltb 1000 s || ltb 1000 t) x in
     record {
@@ -56,10 +57,10 @@ fair b r s t e =
       third = mul-le-mul-left (inThird b) (ltb-false 1000 t (or-false-r (ltb 1000 s) (ltb 1000 t) y));
     }
 
-pub fault-none : (b r s t low most : ℕ) → billFault b r s t ≡ 0 → low ≡ least b (2 ^ 36) → most ≡ least b (2 ^ 40) → Fair b r s t low most
-fault-none b r s t low most e l m = subst₂ (λ (x y : ℕ). Fair b r s t x y) (sym l) (sym m) (fair b r s t e)
+pub refusal-none : (b r s t low most : ℕ) → billRefusal b r s t ≡ 0 → low ≡ least b (2 ^ 36) → most ≡ least b (2 ^ 40) → Fair b r s t low most
+refusal-none b r s t low most e l m = subst₂ (λ (x y : ℕ). Fair b r s t x y) (sym l) (sym m) (fair b r s t e)
 
-pub bill-refused : (m b r s t n : ℕ) (x : Bill) → n ≡ m → (n ≡ 0 → ⊥) → Refused n x → Says m b r s t x
+pub bill-refused : (m b r s t n : ℕ) (x : Bill) → n ≡ m → (n ≡ 0 → ⊥) → BillRefused n x → Says m b r s t x
 bill-refused m b r s t n x e z k =
     record {
       answer = answers-as n m (x .answer) e (k .answer);
@@ -69,10 +70,10 @@ bill-refused m b r s t n x e z k =
       cents = k .cents ∙ pick-refused n m (centsOf b r s t) 0 e z;
     }
 
-pub bill-done : (b r s t low most n : ℕ) (a : Answer) → billFault b r s t ≡ 0 → Answers 0 a → low ≡ least b (2 ^ 36) → most ≡ least b (2 ^ 40) → n ≡ nearest (low * r + (most - low) * s + (b - most) * t)
+pub bill-done : (b r s t low most n : ℕ) (a : Answer) → billRefusal b r s t ≡ 0 → Answers 0 a → low ≡ least b (2 ^ 36) → most ≡ least b (2 ^ 40) → n ≡ nearest (low * r + (most - low) * s + (b - most) * t)
     → BillSays b r s t (record { answer = a; first = low; second = most - low; third = b - most; cents = n })
 bill-done b r s t low most c a z k l m e =
-    let n : ℕ = billFault b r s t in
+    let n : ℕ = billRefusal b r s t in
     record {
       answer = answers-as 0 n a (sym z) k;
       first = l ∙ pick-done n (inFirst b) 0 z;

@@ -1,4 +1,5 @@
--- What an accepted bill means, of bytes or of a run: its bands add up to the bytes, and its cents are the nearest to what the bands cost together, at an exact half the even ones, and only they.
+-- What an accepted bill means, of bytes or of a run: its bands add up to the bytes, and its cents
+-- are the nearest to what the bands cost together, at an exact half the even ones, and only they.
 use mathlib.Core.Path.{_≡_, sym, ap, ap₂, subst, _∙_}
 use Prim.Native.Nat.{ℕ, _+_, _*_}
 use lib.Dec.{eqb}
@@ -6,13 +7,13 @@ use Rattle.mathematics.specs.Choice.{pick}
 use Rattle.mathematics.proofs.ChoiceLaws.{first-none}
 use Rattle.rebuild_runs.specs.declared.Run.{Run}
 use Rattle.rebuild_runs.specs.declared.progress.Progress.{Progress}
-use Rattle.rebuild_runs.specs.progress.Says.{cellsSoFar, ProgressSays}
-use Rattle.rebuild_runs.specs.Runs.{readFault}
+use Rattle.rebuild_runs.specs.ProgressSays.{cellsSoFar, ProgressSays}
+use Rattle.rebuild_runs.specs.Runs.{readRefusal}
 use Rattle.billing.specs.declared.Bill.{Bill}
-use Rattle.billing.specs.numbers.Cents.{Nearest, billFault}
-use Rattle.billing.specs.Bills.{inFirst, inSecond, inThird, charge, centsOf, Says, BillSays, runBytes, runBillFault, RunBillSays}
+use Rattle.billing.specs.Cents.{Nearest, billRefusal}
+use Rattle.billing.specs.Bills.{inFirst, inSecond, inThird, charge, centsOf, Says, BillSays, runBytes, runBillRefusal, RunBillSays}
 use Rattle.billing.proofs.BillLaws.{bands-add}
-use Rattle.billing.proofs.numbers.CentsLaws.{nearest-right, nearest-only}
+use Rattle.billing.proofs.CentsLaws.{nearest-right, nearest-only}
 
 -- what the bands of a bill cost at the rates r, s and t, in cents times bytes of a GiB
 abbrev pub costs : Bill → ℕ → ℕ → ℕ → ℕ
@@ -44,13 +45,13 @@ means m b r s t x k z =
     }
 
 pub bill-means : (b r s t : ℕ) (x : Bill) → BillSays b r s t x → x .answer .refusal ≡ 0 → BillMeans b r s t x
-bill-means b r s t x k z = means (billFault b r s t) b r s t x k z
+bill-means b r s t x k z = means (billRefusal b r s t) b r s t x k z
 
 pub run-bill-means : (x : Run) (r s t : ℕ) (y : Bill) → RunBillSays x r s t y → y .answer .refusal ≡ 0 → BillMeans (runBytes x) r s t y
-run-bill-means x r s t y k z = means (runBillFault x r s t) (runBytes x) r s t y k z
+run-bill-means x r s t y k z = means (runBillRefusal x r s t) (runBytes x) r s t y k z
 
 -- "The bill of a run takes cells read × s as its bytes": the cells that reading the record answers
 pub run-bill-read : (x : Run) (r s t : ℕ) (y : Bill) (g : Progress) → RunBillSays x r s t y → y .answer .refusal ≡ 0 → ProgressSays x g → BillMeans (g .cells * x .shape .«cell_size») r s t y
 run-bill-read x r s t y g k z q =
-    let e : readFault x ≡ 0 = first-none (readFault x) (billFault (runBytes x) r s t) (sym (k .answer .refusal) ∙ z) .0 in
+    let e : readRefusal x ≡ 0 = first-none (readRefusal x) (billRefusal (runBytes x) r s t) (sym (k .answer .refusal) ∙ z) .0 in
     subst (λ (n : ℕ). BillMeans (n * x .shape .«cell_size») r s t y) (sym (q .cells ∙ ap (λ (n : ℕ). pick (eqb n 0) (cellsSoFar x) 0) e)) (run-bill-means x r s t y k z)

@@ -1,16 +1,18 @@
--- Bills of hosted rebuilds (document 02, asks 6 and 10), and the promises of the calls, for accepted and refused calls alike.
+-- Bills of hosted rebuilds (document 02, asks 6 and 10), and the promises of the calls, for
+-- accepted and refused calls alike.
 use mathlib.Core.Path.{_≡_}
 use Prim.Native.Nat.{ℕ, _+_, _-_, _*_, _^_}
 use lib.Dec.{eqb}
 use Rattle.mathematics.specs.Choice.{pick, firstOf}
 use Rattle.refusals.specs.Answers.{Answers}
 use Rattle.rebuild_runs.specs.declared.Run.{Run}
-use Rattle.rebuild_runs.specs.progress.Says.{cellsSoFar}
-use Rattle.rebuild_runs.specs.Runs.{readFault}
-use Rattle.billing.specs.numbers.Cents.{least, nearest, billFault}
+use Rattle.rebuild_runs.specs.ProgressSays.{cellsSoFar}
+use Rattle.rebuild_runs.specs.Runs.{readRefusal}
+use Rattle.billing.specs.Cents.{least, nearest, billRefusal}
 use Rattle.billing.specs.declared.Bill.{Bill}
 
--- "The first 64 GiB have one rate, the part above that up to 1,024 GiB a second, the rest a third": the bytes in each band
+-- "The first 64 GiB have one rate, the part above that up to 1,024 GiB a second, the rest a third":
+-- the bytes in each band
 abbrev pub inFirst : ℕ → ℕ
 inFirst b = least b (2 ^ 36)
 
@@ -38,21 +40,22 @@ pub record Says (n b r s t : ℕ) (x : Bill) : Type 0 where
 
 -- the bill of b bytes at the rates r, s and t
 abbrev pub BillSays : ℕ → ℕ → ℕ → ℕ → Bill → Type 0
-BillSays b r s t x = Says (billFault b r s t) b r s t x
+BillSays b r s t x = Says (billRefusal b r s t) b r s t x
 
--- "The bill of a run takes cells read × s as its bytes": its record refuses by 1, 13, 2, 3 and 10, as reading it does
+-- "The bill of a run takes cells read × s as its bytes": its record refuses by 1, 13, 2, 3 and 10,
+-- as reading it does
 abbrev pub runBytes : Run → ℕ
 runBytes x = cellsSoFar x * x .shape .«cell_size»
 
-abbrev pub runBillFault : Run → ℕ → ℕ → ℕ → ℕ
-runBillFault x r s t = firstOf (readFault x) (billFault (runBytes x) r s t)
+abbrev pub runBillRefusal : Run → ℕ → ℕ → ℕ → ℕ
+runBillRefusal x r s t = firstOf (readRefusal x) (billRefusal (runBytes x) r s t)
 
 -- the bill of a run at the rates r, s and t
 abbrev pub RunBillSays : Run → ℕ → ℕ → ℕ → Bill → Type 0
-RunBillSays x r s t y = Says (runBillFault x r s t) (runBytes x) r s t y
+RunBillSays x r s t y = Says (runBillRefusal x r s t) (runBytes x) r s t y
 
 -- a refusal by number n
-pub record Refused (n : ℕ) (x : Bill) : Type 0 where
+pub record BillRefused (n : ℕ) (x : Bill) : Type 0 where
   pub answer : Answers n (x .answer)
   pub first : x .first ≡ 0
   pub second : x .second ≡ 0

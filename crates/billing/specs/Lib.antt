@@ -1,3 +1,3 @@
 -- What a bill of a hosted rebuild is.
 pub mod Bills
-pub mod numbers
+pub mod Cents

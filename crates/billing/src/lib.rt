@@ -1,7 +1,8 @@
-// Bills of hosted rebuilds (document 02, asks 6 and 10): bytes read in three bands, each with its rate in cents per GiB.
+// Bills of hosted rebuilds (document 02, asks 6 and 10): bytes read in three bands, each with its
+// rate in cents per GiB.
 mod numbers;
 
-ghost use Rattle.billing.specs.Bills.{Refused, BillSays, RunBillSays};
+ghost use Rattle.billing.specs.Bills.{BillRefused, BillSays, RunBillSays};
 use rebuild_runs::Run;
 use refusals::Answer;
 
@@ -17,7 +18,7 @@ pub struct Bill {
 
 // A refusal: every other field is zero.
 fn refused_bill(refusal: u8) -> Bill
-    ensures { λ r. ⌜ Refused refusal r ⌝ }
+    ensures { λ r. ⌜ BillRefused refusal r ⌝ }
 {
     Bill {
         answer: refusals::answered(refusal),
@@ -32,9 +33,9 @@ fn refused_bill(refusal: u8) -> Bill
 pub fn bill_bytes(bytes: u64, first: u64, second: u64, third: u64) -> Bill
     ensures { λ r. ⌜ BillSays bytes first second third r ⌝ }
 {
-    let fault = numbers::bill_fault(bytes, first, second, third);
-    if fault != 0 {
-        return refused_bill(fault);
+    let refusal = numbers::bill_refusal(bytes, first, second, third);
+    if refusal != 0 {
+        return refused_bill(refusal);
     }
     let low = numbers::least_of(bytes, 68719476736);
     let most = numbers::least_of(bytes, 1099511627776);

@@ -1,6 +1,6 @@
 // The numbers of a bill: its refusals, the smaller of two numbers, the cents of a charge.
 ghost use mathlib.Core.Path.{_≡_};
-ghost use Rattle.billing.specs.numbers.Cents.{least, nearest, billFault};
+ghost use Rattle.billing.specs.Cents.{least, nearest, billRefusal};
 
 // The smaller of two numbers.
 pub fn least_of(a: u64, b: u64) -> u64
@@ -10,8 +10,8 @@ pub fn least_of(a: u64, b: u64) -> u64
 }
 
 // The refusal of a bill by 16 or 17, 0 for none.
-pub fn bill_fault(bytes: u64, first: u64, second: u64, third: u64) -> u8
-    ensures { λ r. ⌜ r ≡ billFault bytes first second third ⌝ }
+pub fn bill_refusal(bytes: u64, first: u64, second: u64, third: u64) -> u8
+    ensures { λ r. ⌜ r ≡ billRefusal bytes first second third ⌝ }
 {
     if 1000 < first {
         return 16;

@@ -1,13 +1,14 @@
-// The calls on plans for C and Rust: each hands its numbers and slices on to the proved call and promises what that call promises.
+// The calls on plans for C and Rust: each hands its numbers and slices on to the proved call and
+// promises what that call promises.
 // Widths, disks, sizes and lengths come in as `usize`, so nothing is narrowed before it is tested.
-ghost use Rattle.planner.specs.Says.{PlanSays};
-ghost use Rattle.planner.specs.balanced.Says.{BalancedSays};
-ghost use Rattle.planner.specs.relief.Says.{ReliefSays};
-ghost use Rattle.planner.specs.reads.Says.{ListSays};
-ghost use Rattle.host_plans.specs.reads.Says.{PlanListSays};
-ghost use Rattle.judge.specs.Says.{JudgeSays};
-ghost use Rattle.plan_texts.specs.judged.Says.{JudgeTextSays};
-ghost use Rattle.plan_texts.specs.plain.Says.{WriteSays, PlainSays};
+ghost use Rattle.planner.specs.PlanSays.{PlanSays};
+ghost use Rattle.planner.specs.BalancedPlanSays.{BalancedSays};
+ghost use Rattle.planner.specs.ReliefPlanSays.{ReliefSays};
+ghost use Rattle.planner.specs.ReadListSays.{ListSays};
+ghost use Rattle.host_plans.specs.PlanListSays.{PlanListSays};
+ghost use Rattle.judge.specs.JudgeSays.{JudgeSays};
+ghost use Rattle.plan_texts.specs.JudgeTextSays.{JudgeTextSays};
+ghost use Rattle.plan_texts.specs.PlainTextSays.{WriteSays, PlainSays};
 ghost use Rattle.printed_plan.specs.Says.{TextSays};
 use judge::Judged;
 use plan_texts::Written;

@@ -1,8 +1,8 @@
 // The calls for C and Rust that rebuild lost disks of a stripe.
 // Each hands its arguments on to the proved call and promises what that call promises.
-ghost use Rattle.rebuild_one.specs.Says.{OneSays};
-ghost use Rattle.host_plans.specs.rebuild.Says.{ByPlanSays};
-ghost use Rattle.rebuild_one.specs.balanced.Says.{BalancedOneSays};
+ghost use Rattle.rebuild_one.specs.RebuildOneSays.{OneSays};
+ghost use Rattle.host_plans.specs.RebuildByPlanSays.{ByPlanSays};
+ghost use Rattle.rebuild_one.specs.RebuildBalancedSays.{BalancedOneSays};
 ghost use Rattle.rebuild_two.specs.Says.{TwoSays};
 use refusals::Answer;
 use refusals::Shape;

@@ -2,9 +2,9 @@
 // Each hands its arguments on to the proved call and promises what that call promises.
 ghost use mathlib.Core.Path.{_≡_};
 ghost use Rattle.rebuild_runs.specs.Runs.{SkipSays};
-ghost use Rattle.rebuild_runs.specs.starts.Starts.{OpenSays, resumed, resumedDisks};
-ghost use Rattle.rebuild_runs.specs.steps.Says.{StepSays};
-ghost use Rattle.rebuild_runs.specs.progress.Says.{ProgressSays};
+ghost use Rattle.rebuild_runs.specs.Starts.{OpenSays, resumed, resumedDisks};
+ghost use Rattle.rebuild_runs.specs.StepSays.{StepSays};
+ghost use Rattle.rebuild_runs.specs.ProgressSays.{ProgressSays};
 use rebuild_runs::DisksRun;
 use rebuild_runs::FullRun;
 use rebuild_runs::Progress;
@@ -21,7 +21,8 @@ pub extern "C" fn cuzhaveli_open_run(shape: Shape, lost: usize, stripes: u32) ->
     rebuild_runs::open_run(shape, lost, stripes)
 }
 
-// A run that was open when its record had no number of data disks goes on with as many as its width.
+// A run that was open when its record had no number of data disks goes on with as many as its
+// width.
 #[no_mangle]
 pub extern "C" fn cuzhaveli_resume_full_run(old: FullRun) -> Run
     ensures { λ r. ⌜ r ≡ resumed old ⌝ }
@@ -37,7 +38,9 @@ pub extern "C" fn cuzhaveli_resume_disks_run(old: DisksRun) -> Run
     rebuild_runs::resume_disks_run(old)
 }
 
-// A step of a run over its lent record: rebuilds stripe `which` into the column and moves the record on by one. A refusal stores nothing, so the record may then lie in memory that is only read.
+// A step of a run over its lent record: rebuilds stripe `which` into the column and moves the
+// record on by one. A refusal stores nothing, so the record may then lie in memory that is only
+// read.
 #[no_mangle]
 pub extern "C" fn cuzhaveli_step_run(
     run: &mut Run,
@@ -55,7 +58,8 @@ pub extern "C" fn cuzhaveli_step_run(
     stepped.answer
 }
 
-// A skip of stripe `which` over the lent record of a run: moves it on by one stripe that is not rebuilt. A refusal stores nothing.
+// A skip of stripe `which` over the lent record of a run: moves it on by one stripe that is not
+// rebuilt. A refusal stores nothing.
 #[no_mangle]
 pub extern "C" fn cuzhaveli_skip_stripe(run: &mut Run, which: u64) -> Answer
     ensures { λ r. ⌜ SkipSays (now (run .entry)) (now (run .exit)) which r ⌝ }

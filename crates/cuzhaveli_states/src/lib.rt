@@ -1,10 +1,11 @@
 // The call for C and Rust on a list of the states of arrays.
-// It goes over the lent records itself and hands each to the proved steps of `state_lists`, `state_scans` and `state_reports`.
-ghost use Rattle.array_states.specs.board.Reports.{ReportSays};
+// It goes over the lent records itself and hands each to the proved steps of `array_states`.
+ghost use Rattle.array_states.specs.Reports.{ReportSays};
 use array_states::ArrayState;
 use array_states::Board;
 
-// A report on array `which` of a lent list: its disk `disk` was lost, or is back. Every record is read, and one is written or none.
+// A report on array `which` of a lent list: its disk `disk` was lost, or is back. Every record is
+// read, and one is written or none.
 #[no_mangle]
 pub extern "C" fn cuzhaveli_report_disk(
     list: &mut [ArrayState],

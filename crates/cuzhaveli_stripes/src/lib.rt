@@ -1,4 +1,5 @@
-// The calls for C and Rust that write a stripe: P and Q from all data cells, or one data cell and the parity that depends on it.
+// The calls for C and Rust that write a stripe: P and Q from all data cells, or one data cell and
+// the parity that depends on it.
 // Each hands its arguments on to the proved call and promises what that call promises.
 ghost use Rattle.encode.specs.Says.{EncodeSays};
 ghost use Rattle.update.specs.Says.{UpdateSays};
@@ -13,7 +14,8 @@ pub extern "C" fn cuzhaveli_encode_stripe(shape: Shape, stripe: &mut [u8]) -> An
     encode::encode_stripe(shape, stripe)
 }
 
-// Puts a lent cell of s bytes into row `row` of data disk `disk` of a lent stripe, and keeps the XOR of every set.
+// Puts a lent cell of s bytes into row `row` of data disk `disk` of a lent stripe, and keeps the
+// XOR of every set.
 #[no_mangle]
 pub extern "C" fn cuzhaveli_update_cell(
     shape: Shape,

@@ -1,5 +1,5 @@
 -- What encoding a stripe promises.
 pub mod Says
-pub mod offsets
-pub mod sets
-pub mod sums
+pub mod Extras
+pub mod Added
+pub mod Groups

@@ -1,4 +1,5 @@
--- The promise of encoding (document 01, "Stripe and sets"), for accepted and refused calls alike. Stripes have p rows and k data disks.
+-- The promise of encoding (document 01, "Stripe and sets"), for accepted and refused calls alike.
+-- Stripes have p rows and k data disks.
 use mathlib.Core.Path.{_≡_}
 use mathlib.Core.Bool.{true}
 use mathlib.Core.List.{List}
@@ -9,11 +10,11 @@ use Rattle.mathematics.specs.Xor.{allBytes}
 use Rattle.liberation.specs.stripes.Stripes.{encoded}
 use Rattle.refusals.specs.declared.Answer.{Answer}
 use Rattle.refusals.specs.Answers.{Answers}
-use Rattle.refusals.specs.stripe.Says.{stripeFault}
+use Rattle.refusals.specs.StripeSays.{stripeRefusal}
 
 -- the stripe t becomes t′: encoded, or as it was on a refusal
 pub record EncodeSays (p k s : ℕ) (t t′ : List ℕ) (r : Answer) : Type 0 where
-  pub answer : Answers (stripeFault p k s t) r
-  pub stripe : t′ ≡ pick (eqb (stripeFault p k s t) 0) (encoded p k s t) t
+  pub answer : Answers (stripeRefusal p k s t) r
+  pub stripe : t′ ≡ pick (eqb (stripeRefusal p k s t) 0) (encoded p k s t) t
   -- what was lent are bytes
   pub bytes : allBytes t ≡ true

@@ -1,11 +1,14 @@
-// Encoding a stripe by groups of data disks: which disks a group has, and one group added after the other.
+// Encoding a stripe by groups of data disks: which disks a group has, and one group added after the
+// other.
 ghost use mathlib.Core.Path.{_≡_};
 ghost use Prim.Native.Nat.{_≤_, _<_};
 ghost use Rattle.liberation.specs.stripes.Stripes.{encoded};
-ghost use Rattle.liberation.specs.stripes.Limits.{Sized};
+ghost use Rattle.liberation.specs.stripes.StripeLimits.{Sized};
 use super::sums;
 
-// Where the group from disk lo on ends: after all disks that are left if these are few; else after seven in the first group, and after six in the others, which have the parity cell as a source too.
+// Where the group from disk lo on ends: after all disks that are left if these are few; else after
+// seven in the first group, and after six in the others, which have the parity cell as a source
+// too.
 fn group_end(lo: usize, disks: usize) -> usize
     requires { ⌜ lo < disks ⌝ }
     ensures { λ r. ⌜ (lo < r) × (r ≤ disks) ⌝ }

@@ -1,4 +1,5 @@
-// Encoding a stripe, which writes P and Q: by groups of data disks where that is faster, else P as one run of bytes and Q diagonal by diagonal.
+// Encoding a stripe, which writes P and Q: by groups of data disks where that is faster, else P as
+// one run of bytes and Q diagonal by diagonal.
 mod groups;
 mod offsets;
 mod sets;
@@ -8,12 +9,13 @@ ghost use mathlib.Core.Path.{_≡_};
 ghost use mathlib.Core.Bool.{_&&_};
 ghost use lib.Dec.{leb};
 ghost use Rattle.liberation.specs.stripes.Stripes.{encoded};
-ghost use Rattle.liberation.specs.stripes.Limits.{Sized};
+ghost use Rattle.liberation.specs.stripes.StripeLimits.{Sized};
 ghost use Rattle.encode.specs.Says.{EncodeSays};
 use refusals::Answer;
 use refusals::Shape;
 
-// Do groups go faster? With few data disks the data are still in the cache when they are read again, and with small cells the passes cost more than the reads. No answer depends on it.
+// Do groups go faster? With few data disks the data are still in the cache when they are read
+// again, and with small cells the passes cost more than the reads. No answer depends on it.
 fn by_groups(disks: usize, size: usize) -> bool
     ensures { λ r. ⌜ r ≡ (leb 11 disks && leb 512 size) ⌝ }
 {
@@ -40,9 +42,9 @@ fn write_parity(width: usize, disks: usize, size: usize, stripe: &mut [u8])
 pub fn encode_stripe(shape: Shape, stripe: &mut [u8]) -> Answer
     ensures { λ r. ⌜ EncodeSays (shape .width) (shape .disks) (shape .«cell_size») (now (stripe .entry)) (now (stripe .exit)) r ⌝ }
 {
-    let fault = refusals::stripe_fault(shape.width, shape.disks, shape.cell_size, stripe.len());
-    if fault != 0 {
-        return refusals::answered(fault);
+    let refusal = refusals::stripe_refusal(shape.width, shape.disks, shape.cell_size, stripe.len());
+    if refusal != 0 {
+        return refusals::answered(refusal);
     }
     write_parity(shape.width, shape.disks, shape.cell_size, stripe);
     refusals::answered(0)

@@ -1,14 +1,16 @@
-// Lists of offsets for a group of data disks: the offset of a parity cell, except in the first group, and that of the extra cell of a diagonal, if it is in the group.
+// Lists of offsets for a group of data disks: the offset of a parity cell, except in the first
+// group, and that of the extra cell of a diagonal, if it is in the group.
 ghost use mathlib.Core.Path.{_≡_};
 ghost use mathlib.Core.List.{[], _∷_};
 ghost use Prim.Native.Nat.{_≤_, _<_};
 ghost use lib.Dec.{eqb};
 ghost use lib.ListN.{length};
 ghost use Rattle.mathematics.specs.Choice.{pick};
-ghost use Rattle.stripe_cells.specs.offsets.Offsets.{scaled, Pushed};
-ghost use Rattle.encode.specs.offsets.Extras.{extraBetween};
+ghost use Rattle.stripe_cells.specs.Offsets.{scaled, Pushed};
+ghost use Rattle.encode.specs.Extras.{extraBetween};
 
-// The offset of a parity cell as the first number of a lent list, except in the first group, where the sum begins; the count of numbers.
+// The offset of a parity cell as the first number of a lent list, except in the first group, where
+// the sum begins; the count of numbers.
 pub fn push_own(lo: usize, to: usize, at: &mut [usize]) -> usize
     requires { ⌜ length (now at) ≡ 33 ⌝ }
     ensures { λ r. ⌜ Pushed (now (at .entry)) (now (at .exit)) 0 r (pick (eqb lo 0) [] (to ∷ [])) ⌝ }
@@ -20,7 +22,8 @@ pub fn push_own(lo: usize, to: usize, at: &mut [usize]) -> usize
     1
 }
 
-// The offset of the extra cell of diagonal `number`, after the first `count` numbers, if it has one on disks lo to hi - 1; the new count.
+// The offset of the extra cell of diagonal `number`, after the first `count` numbers, if it has one
+// on disks lo to hi - 1; the new count.
 pub fn push_extra(
     width: usize,
     size: usize,

@@ -1,10 +1,11 @@
 // A group of data disks, added to the parity cell of one row set or one diagonal set of a stripe.
 ghost use mathlib.Core.Path.{_≡_};
 ghost use Prim.Native.Nat.{_<_};
-ghost use Rattle.encode.specs.sets.Groups.{addedSet, Group};
+ghost use Rattle.encode.specs.Groups.{addedSet, Group};
 use super::offsets;
 
-// P's cell of a row gets the row's cells on disks lo to hi - 1 added; in the first group it becomes their sum.
+// P's cell of a row gets the row's cells on disks lo to hi - 1 added; in the first group it becomes
+// their sum.
 pub fn add_row(
     width: usize,
     disks: usize,
@@ -24,7 +25,8 @@ pub fn add_row(
     xor_in_place::gather_within(stripe, to, size, &at[..m]);
 }
 
-// Q's cell of a diagonal: the same with the diagonal's cells, and its extra cell if it is on these disks.
+// Q's cell of a diagonal: the same with the diagonal's cells, and its extra cell if it is on these
+// disks.
 pub fn add_diagonal(
     width: usize,
     disks: usize,

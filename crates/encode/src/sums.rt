@@ -1,7 +1,8 @@
-// A group of data disks, added to every row sum and diagonal sum of a stripe in turn, so a cell that one of them reads is still in the cache when the other does.
+// A group of data disks, added to every row sum and diagonal sum of a stripe in turn, so a cell
+// that one of them reads is still in the cache when the other does.
 ghost use Prim.Native.Nat.{_+_, _≤_};
-ghost use Rattle.encode.specs.sets.Groups.{Group};
-ghost use Rattle.encode.specs.sums.Added.{SetsAdded};
+ghost use Rattle.encode.specs.Groups.{Group};
+ghost use Rattle.encode.specs.Added.{SetsAdded};
 use super::sets;
 
 // `count` rows from `row` on and as many diagonals from `number` on, in turn.
@@ -28,7 +29,8 @@ fn add_sets(
     }
 }
 
-// All rows and all diagonals. With a diagonal goes the row that it has on disk lo + 2, so its cells are of rows that were just added or come next. No answer depends on it.
+// All rows and all diagonals. With a diagonal goes the row that it has on disk lo + 2, so its cells
+// are of rows that were just added or come next. No answer depends on it.
 pub fn add_group(
     width: usize,
     disks: usize,

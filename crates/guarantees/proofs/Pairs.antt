@@ -1,4 +1,5 @@
--- Demand 2 for two lost disks, said of the call: the stripe that it leaves is the one clean stripe with the other disks' contents.
+-- Demand 2 for two lost disks, said of the call: the stripe that it leaves is the one clean stripe
+-- with the other disks' contents.
 use mathlib.Core.Path.{_≡_, sym, ap, _∙_}
 use mathlib.Core.Bool.{true}
 use mathlib.Core.List.{List}
@@ -17,8 +18,8 @@ use Rattle.liberation.proofs.stripes.WidenedRebuilds.{widened-alike}
 use Rattle.liberation.specs.two_disks.Pairs.{pairSolved}
 use Rattle.liberation.proofs.two_disks.PairLaws.{pair-stripe, pair-off, pair-clean, pair-back}
 use Rattle.refusals.specs.declared.Answer.{Answer}
-use Rattle.rebuild_two.specs.Says.{twoFault, TwoSays}
-use Rattle.rebuild_two.proofs.TwoRefusals.{fault-none}
+use Rattle.rebuild_two.specs.Says.{twoRefusal, TwoSays}
+use Rattle.rebuild_two.proofs.TwoRefusals.{refusal-none}
 use Rattle.guarantees.proofs.limits.Demand1.{demand1}
 use Rattle.guarantees.proofs.Stripes.{is-stripe, full-long}
 
@@ -29,13 +30,14 @@ pub record Restored (p k s a b : ℕ) (t t′ : List ℕ) : Type 0 where
   pub is-clean : clean p k s t′ ≡ true
   -- the rest is untouched
   pub kept : (x : ℕ) → (diskAt p x ≡ a → ⊥) → (diskAt p x ≡ b → ⊥) → cellAt s t′ x ≡ cellAt s t x
-  -- no other clean stripe has the other disks' contents: survivors of a clean stripe u bring u back, whatever the lost columns held
+  -- no other clean stripe has the other disks' contents: survivors of a clean stripe u bring u
+  -- back, whatever the lost columns held
   pub only : (u : List ℕ) → isStripe p k s u ≡ true → clean p k s u ≡ true → ((x : ℕ) → x < p * (k + 2) → (diskAt p x ≡ a → ⊥) → (diskAt p x ≡ b → ⊥) → cellAt s t x ≡ cellAt s u x) → t′ ≡ u
 
 pub restores : (p k s a b : ℕ) (t t′ : List ℕ) (r : Answer) → TwoSays p k s a b t t′ r → r .refusal ≡ 0 → Restored p k s a b t t′
 restores p k s a b t t′ r d z =
-    let e : twoFault p k s a b t ≡ 0 = sym (d .answer .refusal) ∙ z in
-    let c = fault-none p k s a b t e in
+    let e : twoRefusal p k s a b t ≡ 0 = sym (d .answer .refusal) ∙ z in
+    let c = refusal-none p k s a b t e in
     let m : k ≤ p = c .0 .array .disks in
     let ha : a < k + 2 = omega (arith, c .1) in
     let hb : b < k + 2 = omega (arith, c .2) in
@@ -48,7 +50,8 @@ restores p k s a b t t′ r d z =
       only = λ u v d h. done ∙ pair-back p k s a b (c .0 .array .width) m ha hb (c .3) t u ok v d h;
     }
 
--- Ask 1 for two lost disks: the rebuild of the full stripe, with zeros on the absent disks, leaves the rebuilt one with zeros there.
+-- Ask 1 for two lost disks: the rebuild of the full stripe, with zeros on the absent disks, leaves
+-- the rebuilt one with zeros there.
 pub absent-restored : (p k s a b : ℕ) (t t′ u′ : List ℕ) (r q : Answer) → TwoSays p k s a b t t′ r → r .refusal ≡ 0 → TwoSays p p s (fullDisk p k a) (fullDisk p k b) (widened p k s t) u′ q → u′ ≡ widened p k s t′
 absent-restored p k s a b t t′ u′ r q d z e =
     let w = demand1 .rebuild-two p k s a b t t′ r d .accepted z in

@@ -1,4 +1,5 @@
--- Demand 3 and ask 13 said of the planner's and the judge's calls: whatever bytes a host sends and whatever the two calls return, as long as they keep their promises.
+-- Demand 3 and ask 13 said of the planner's and the judge's calls: whatever bytes a host sends and
+-- whatever the two calls return, as long as they keep their promises.
 use mathlib.Core.Path.{_≡_, sym, ap, ap₂, _∙_}
 use mathlib.Core.Bool.{true}
 use mathlib.Core.List.{List}
@@ -15,25 +16,26 @@ use Rattle.liberation.specs.Judging.{accepted, stepsIn}
 use Rattle.liberation.specs.Claims.{isBest, diagonalsUsed, loneExtras, byExtra, Rearranged, fullDisk}
 use Rattle.liberation.proofs.Widths.{width-least}
 use Rattle.liberation.proofs.PartLaws.{full-range}
-use Rattle.liberation.proofs.FaultLaws.{plan-none}
+use Rattle.liberation.proofs.RefusalLaws.{plan-none}
 use Rattle.liberation.proofs.Rearranging.{count-same}
 use Rattle.liberation.proofs.Demand3.{plans-best}
 use Rattle.liberation.proofs.PartPlans.{plan-accepted, plans-part}
 use Rattle.liberation.specs.stripes.Stripes.{isStripe, followed}
-use Rattle.liberation.proofs.stripes.Rearranging.{bytes-same}
+use Rattle.liberation.proofs.stripes.RearrangedBytes.{bytes-same}
 use Rattle.planner.specs.declared.Plan.{Plan}
 use Rattle.refusals.specs.declared.Answer.{Answer}
-use Rattle.planner.specs.Says.{PlanSays}
+use Rattle.planner.specs.PlanSays.{PlanSays}
 use Rattle.planner.proofs.FormLaws.{formOf, length-of, plan-form}
-use Rattle.planner.proofs.MeansLaws.{plan-means}
-use Rattle.planner.specs.reads.Says.{ListSays}
+use Rattle.planner.proofs.PlanMeans.{plan-means}
+use Rattle.planner.specs.ReadListSays.{ListSays}
 use Rattle.judge.specs.declared.all_steps.Judged.{Judged}
-use Rattle.judge.specs.Says.{JudgeSays}
+use Rattle.judge.specs.JudgeSays.{JudgeSays}
 use Rattle.judge.proofs.AcceptLaws.{Acceptable, zero-accepts, accepts-zero, zero-counts}
 use Rattle.guarantees.specs.limits.Calls.{OneOfTen}
 use Rattle.guarantees.proofs.limits.Demand1.{demand1}
 
--- What holds of a host's plan bs for a lost data disk f that the judge accepts with answer j, where our planner answers r.
+-- What holds of a host's plan bs for a lost data disk f that the judge accepts with answer j, where
+-- our planner answers r.
 pub record Compared (p f : ℕ) (bs : List ℕ) (r : Plan) (j : Judged) : Type 0 where
   -- ours reads no more
   pub least : r .reads ≤ j .reads
@@ -56,7 +58,8 @@ compared p f bs r j l k d z =
       equally = ap₂ eqb theirs ours ∙ best .equally ss (a .accepts);
     }
 
--- Ask 13: "For a lost data disk and k = p, every plan that the judge accepts reads exactly p² - t(p - t) + u + v cells", said of the judge's count.
+-- Ask 13: "For a lost data disk and k = p, every plan that the judge accepts reads exactly p² - t(p
+-- - t) + u + v cells", said of the judge's count.
 pub record Priced (p f : ℕ) (bs : List ℕ) (j : Judged) : Type 0 where
   -- t is at most p, so that p - t is a difference
   pub few : diagonalsUsed p (stepsIn p bs) ≤ p
@@ -69,7 +72,8 @@ priced p f bs j l d z =
     let q = plans-best p f (a .array .width) l .price ss (a .accepts) in
     record { few = q .few; price = ap (λ (n : ℕ). n + diagonalsUsed p ss * (p - diagonalsUsed p ss)) (zero-counts p p f bs j d z) ∙ q .price }
 
--- "rearranging a plan's steps into another accepted plan changes neither its count nor any byte its steps rebuild, on dirty stripes too", whatever disk is lost and however many data disks there are
+-- "rearranging a plan's steps into another accepted plan changes neither its count nor any byte its
+-- steps rebuild, on dirty stripes too", whatever disk is lost and however many data disks there are
 pub record Unchanged (p k f : ℕ) (bs cs : List ℕ) (j q : Judged) : Type 0 where
   pub count : j .reads ≡ q .reads
   pub bytes : (s : ℕ) (t : List ℕ) → isStripe p k s t ≡ true → followed p k s f (stepsIn p bs) t ≡ followed p k s f (stepsIn p cs) t
@@ -83,7 +87,8 @@ rearranged p k f bs cs j q d z e y r =
       bytes = λ s t h. bytes-same p k s f (stepsIn p bs) (stepsIn p cs) a b r t h;
     }
 
--- The judge accepts the record of the planner's accepted answer put into its form, with the planner's count.
+-- The judge accepts the record of the planner's accepted answer put into its form, with the
+-- planner's count.
 pub record OwnAccepted (r : Plan) (j : Judged) : Type 0 where
   pub refusal : j .answer .refusal ≡ 0
   pub reads : j .reads ≡ r .reads
@@ -109,7 +114,10 @@ parity-count p k f r l d z = plan-means p k f r d z .parity l
 our-list : (p k f : ℕ) (o o′ : List ℕ) (a : Answer) → ListSays p k f o o′ a → a .refusal ≡ 0 → o′ ≡ readList p k f
 our-list p k f o o′ a d z = d .list ∙ ap (λ (n : ℕ). pick (eqb n 0) (readList p k f) o) (sym (d .answer .refusal) ∙ z)
 
--- Ask 1: our plan reads "only cells the full cabinet would read, P and Q cells being compared with P and Q cells of the same row", and all of those on the disks present: the two lists that `read_list` writes agree there. The second is lent with its length; that it is written need not be supposed.
+-- Ask 1: our plan reads "only cells the full cabinet would read, P and Q cells being compared with
+-- P and Q cells of the same row", and all of those on the disks present: the two lists that
+-- `read_list` writes agree there. The second is lent with its length; that it is written need not
+-- be supposed.
 pub part-within :
     (p k f : ℕ) (o o′ n n′ : List ℕ) (a b : Answer) → ListSays p k f o o′ a → a .refusal ≡ 0 → ListSays p p (fullDisk p k f) n n′ b → length n ≡ p * (p + 2)
     → (r c : ℕ) → r < p → c < k + 2 → getD o′ (place p r c) 0 ≡ getD n′ (place p r (fullDisk p k c)) 0
@@ -121,12 +129,14 @@ part-within p k f o o′ n n′ a b d z e long r c h g =
     ∙ plans-part p k f (w .0) most (w .1 .1 .0) .within r c h g
     ∙ sym (ap (λ (x : List ℕ). getD x (place p r (fullDisk p k c)) 0) (our-list p p (fullDisk p k f) n n′ b e y))
 
--- Demand 3 as one statement of two answers of the judge, where k = p: j is that for our plan, "the p steps of the planner's record, put in that form", q that for any bytes bs of a host.
+-- Demand 3 as one statement of two answers of the judge, where k = p: j is that for our plan, "the
+-- p steps of the planner's record, put in that form", q that for any bytes bs of a host.
 pub record Demand3 (p f : ℕ) (bs : List ℕ) (j q : Judged) : Type 0 where
   -- ours is accepted, and reads (3p² + 1)/4 cells
   pub accepted : j .answer .refusal ≡ 0
   pub count : 4 * j .reads ≡ 3 * (p * p) + 1
-  -- any that is accepted reads as many or more, and as many exactly under the three conditions on its steps
+  -- any that is accepted reads as many or more, and as many exactly under the three conditions on
+  -- its steps
   pub least : q .answer .refusal ≡ 0 → j .reads ≤ q .reads
   pub equally : q .answer .refusal ≡ 0 → (q .reads ≡ j .reads) ↔ (isBest p p f (stepsIn p bs) ≡ true)
 

@@ -1,4 +1,5 @@
--- Ask 2 of document 02, said of the scrub: whatever it returns, as long as it keeps its promise. t is the lent stripe; that it has the length required and is bytes comes with the answer.
+-- Ask 2 of document 02, said of the scrub: whatever it returns, as long as it keeps its promise. t
+-- is the lent stripe; that it has the length required and is bytes comes with the answer.
 use mathlib.Core.Path.{_≡_, sym, ap, subst, _∙_}
 use mathlib.Core.Bool.{Bool, true, false, _&&_}
 use mathlib.Core.List.{List}
@@ -17,10 +18,10 @@ use Rattle.liberation.specs.scrub.Survivors.{fits, suspect, verdict}
 use Rattle.liberation.specs.scrub.Explained.{Explains, NoDisk}
 use Rattle.liberation.proofs.scrub.Explaining.{column-explains, explains-fits, explains-once}
 use Rattle.liberation.proofs.scrub.Verdicts.{verdict-means}
-use Rattle.refusals.specs.stripe.Says.{stripeFault}
-use Rattle.refusals.proofs.stripe.StripeRefusals.{fault-none}
+use Rattle.refusals.specs.StripeSays.{stripeRefusal}
+use Rattle.refusals.proofs.StripeRefusals.{refusal-none}
 use Rattle.scrub.specs.declared.Scrubbed.{Scrubbed}
-use Rattle.scrub.specs.Says.{ScrubSays}
+use Rattle.scrub.specs.ScrubSays.{ScrubSays}
 use Rattle.guarantees.proofs.Stripes.{is-stripe}
 
 -- Some column of p × s bytes in the place of disk d makes t clean.
@@ -86,8 +87,8 @@ module _ (p k s : ℕ) (width : isWidth p ≡ true) (most : k ≤ p) (t : List �
 
 pub scrubs : (p k s : ℕ) (t : List ℕ) (r : Scrubbed) → ScrubSays p k s t r → r .answer .refusal ≡ 0 → Scrubs p k s t r
 scrubs p k s t r d z =
-    let e : stripeFault p k s t ≡ 0 = sym (d .answer .refusal) ∙ z in
-    let a = fault-none p k s t e in
+    let e : stripeRefusal p k s t ≡ 0 = sym (d .answer .refusal) ∙ z in
+    let a = refusal-none p k s t e in
     scrubs-so p k s (a .array .width) (a .array .disks) t (is-stripe p k s t (a .long) (d .bytes)) r
     (d .verdict ∙ ap (λ (n : ℕ). pick (eqb n 0) (verdict p k s t) 0) e)
     (d .disk ∙ ap (λ (n : ℕ). pick (eqb n 0 && eqb (verdict p k s t) 1) (suspect p k s t) 0) e)

@@ -1,5 +1,7 @@
--- Demand 2, and the last sentence of demand 3, said of the calls that encode, check and rebuild one disk: whatever they return, as long as they keep their promises.
--- t, u are lent stripes, o a column as it was lent, o′ as it is given back. That their lengths are those required and that stripes are bytes comes with the answers.
+-- Demand 2, and the last sentence of demand 3, said of the calls that encode, check and rebuild one
+-- disk: whatever they return, as long as they keep their promises.
+-- t, u are lent stripes, o a column as it was lent, o′ as it is given back. That their lengths are
+-- those required and that stripes are bytes comes with the answers.
 use mathlib.Core.Path.{_≡_, sym, ap, _∙_}
 use mathlib.Core.Bool.{true, _&&_}
 use mathlib.Core.List.{List}
@@ -17,21 +19,21 @@ use Rattle.liberation.specs.Claims.{fullDisk}
 use Rattle.liberation.proofs.PartLaws.{full-range}
 use Rattle.liberation.proofs.PartPlans.{plan-accepted}
 use Rattle.liberation.specs.stripes.Stripes.{cellAt, columnOf, stripeLong, isStripe, clean, encoded, rebuilt}
-use Rattle.liberation.specs.stripes.Limits.{Sized}
+use Rattle.liberation.specs.stripes.StripeLimits.{Sized}
 use Rattle.liberation.specs.stripes.Widened.{widened}
 use Rattle.liberation.proofs.stripes.Widening.{widened-stripe, widened-clean, widened-encoded}
 use Rattle.liberation.proofs.stripes.WidenedRebuilds.{widened-rebuilt}
 use Rattle.liberation.proofs.stripes.Encoding.{encoded-stripe, encoded-data, encoded-clean, encoded-only}
 use Rattle.liberation.proofs.stripes.Rebuilding.{one-back, lost-unused, only-read}
 use Rattle.refusals.specs.declared.Answer.{Answer}
-use Rattle.planner.specs.reads.Says.{ListSays}
+use Rattle.planner.specs.ReadListSays.{ListSays}
 use Rattle.scrub.specs.declared.clean.Checked.{Checked}
-use Rattle.refusals.specs.stripe.Says.{stripeFault}
+use Rattle.refusals.specs.StripeSays.{stripeRefusal}
 use Rattle.encode.specs.Says.{EncodeSays}
-use Rattle.scrub.specs.clean.Says.{CheckSays}
-use Rattle.refusals.proofs.stripe.StripeRefusals.{fault-none as within-limits}
-use Rattle.rebuild_one.specs.Says.{OneSays}
-use Rattle.rebuild_one.proofs.OneRefusals.{fault-none}
+use Rattle.scrub.specs.CheckSays.{CheckSays}
+use Rattle.refusals.proofs.StripeRefusals.{refusal-none as within-limits}
+use Rattle.rebuild_one.specs.RebuildOneSays.{OneSays}
+use Rattle.rebuild_one.proofs.OneRefusals.{refusal-none}
 use Rattle.guarantees.specs.limits.Limits.{Within}
 use Rattle.guarantees.specs.limits.Calls.{onStripe}
 use Rattle.guarantees.proofs.limits.Demand1.{demand1}
@@ -54,7 +56,7 @@ encoded-is p k s t t′ r d z = d .stripe ∙ ap (λ (n : ℕ). pick (eqb n 0) (
 
 pub encodes : (p k s : ℕ) (t t′ : List ℕ) (r : Answer) → EncodeSays p k s t t′ r → r .refusal ≡ 0 → Encodes p k s t t′
 encodes p k s t t′ r d z =
-    let e : stripeFault p k s t ≡ 0 = sym (d .answer .refusal) ∙ z in
+    let e : stripeRefusal p k s t ≡ 0 = sym (d .answer .refusal) ∙ z in
     let done : t′ ≡ encoded p k s t = encoded-is p k s t t′ r d z in
     let ok : isStripe p k s t ≡ true = is-stripe p k s t (within-limits p k s t e .long) (d .bytes) in
     record {
@@ -68,14 +70,16 @@ encodes p k s t t′ r d z =
 pub checks : (p k s : ℕ) (t : List ℕ) (r : Checked) → CheckSays p k s t r → r .answer .refusal ≡ 0 → r .clean ≡ clean p k s t
 checks p k s t r d z = d .clean ∙ ap (λ (n : ℕ). eqb n 0 && clean p k s t) (sym (d .answer .refusal) ∙ z)
 
--- Ask 1: cells of absent disks "count as zero". A call on the full stripe, with zeros on the absent disks, is within its limits where one on the stripe is
+-- Ask 1: cells of absent disks "count as zero". A call on the full stripe, with zeros on the absent
+-- disks, is within its limits where one on the stripe is
 pub full-long : (p k s : ℕ) (t : List ℕ) → k ≤ p → isStripe p k s t ≡ true → length (widened p k s t) ≡ stripeLong p p s
 full-long p k s t most ok = eqb-true (length (widened p k s t)) (stripeLong p p s) (and-l _ _ (widened-stripe p k s t most ok))
 
 full-within : (p k s : ℕ) (t : List ℕ) → allBytes t ≡ true → Within (onStripe p k s t) → Within (onStripe p p s (widened p k s t))
 full-within p k s t b w = (w .0, ((omega (arith, w .1 .0 .0, w .1 .0 .1), omega arith), (w .1 .1 .0, (full-long p k s t (w .1 .0 .1) (is-stripe p k s t (w .1 .1 .1 .0) b), tt))))
 
--- The check says of a stripe what it says of the full one; that the second call is accepted need not be supposed,
+-- The check says of a stripe what it says of the full one; that the second call is accepted need
+-- not be supposed,
 pub absent-checked : (p k s : ℕ) (t : List ℕ) (r q : Checked) → CheckSays p k s t r → r .answer .refusal ≡ 0 → CheckSays p p s (widened p k s t) q → r .clean ≡ q .clean
 absent-checked p k s t r q d z e =
     let w = demand1 .check-stripe p k s t r d .accepted z in
@@ -91,7 +95,7 @@ absent-encoded p k s t t′ u′ r q d z e =
 
 -- what an accepted rebuild shows of its arguments
 taken : (p k s f : ℕ) (t o o′ : List ℕ) (r : Answer) → OneSays p k s f t o o′ r → r .refusal ≡ 0 → Sized p k s t × (f ≤ k + 1)
-taken p k s f t o o′ r d z = let q = fault-none p k s f (length o) t (sym (d .answer .refusal) ∙ z) in (q .0, q .1)
+taken p k s f t o o′ r d z = let q = refusal-none p k s f (length o) t (sym (d .answer .refusal) ∙ z) in (q .0, q .1)
 
 stripe-is : (p k s f : ℕ) (t o o′ : List ℕ) (r : Answer) → OneSays p k s f t o o′ r → r .refusal ≡ 0 → isStripe p k s t ≡ true
 stripe-is p k s f t o o′ r d z = is-stripe p k s t (taken p k s f t o o′ r d z .0 .long) (d .bytes)
@@ -99,7 +103,8 @@ stripe-is p k s f t o o′ r d z = is-stripe p k s t (taken p k s f t o o′ r d
 column-is : (p k s f : ℕ) (t o o′ : List ℕ) (r : Answer) → OneSays p k s f t o o′ r → r .refusal ≡ 0 → o′ ≡ rebuilt p k s f t
 column-is p k s f t o o′ r d z = d .column ∙ ap (λ (n : ℕ). pick (eqb n 0) (rebuilt p k s f t) o) (sym (d .answer .refusal) ∙ z)
 
--- Demand 2 for one lost disk: survivors of a clean stripe u bring the disk back as it was in u, whatever stood in the lost column.
+-- Demand 2 for one lost disk: survivors of a clean stripe u bring the disk back as it was in u,
+-- whatever stood in the lost column.
 pub brings-back :
     (p k s f : ℕ) (t u o o′ : List ℕ) (r : Answer) → isStripe p k s u ≡ true → clean p k s u ≡ true → OneSays p k s f t o o′ r → r .refusal ≡ 0
     → ((x : ℕ) → x < p * (k + 2) → (diskAt p x ≡ f → ⊥) → cellAt s t x ≡ cellAt s u x) → o′ ≡ columnOf p s f u
@@ -107,7 +112,8 @@ brings-back p k s f t u o o′ r v c d z h =
     let a = taken p k s f t o o′ r d z in
     column-is p k s f t o o′ r d z ∙ one-back p k s f (plan-accepted p k f (a .0 .array .width) (a .0 .array .disks) (a .1)) (omega (arith, a .1)) t u (stripe-is p k s f t o o′ r d z) v c h
 
--- "What the stripe holds for the lost disk is never used": two accepted calls on stripes alike off that disk write one column, on dirty stripes too.
+-- "What the stripe holds for the lost disk is never used": two accepted calls on stripes alike off
+-- that disk write one column, on dirty stripes too.
 pub never-used :
     (p k s f : ℕ) (t u o o′ n n′ : List ℕ) (r q : Answer) → OneSays p k s f t o o′ r → r .refusal ≡ 0 → OneSays p k s f u n n′ q → q .refusal ≡ 0
     → ((x : ℕ) → x < p * (k + 2) → (diskAt p x ≡ f → ⊥) → cellAt s t x ≡ cellAt s u x) → o′ ≡ n′
@@ -117,7 +123,8 @@ never-used p k s f t u o o′ n n′ r q d z m y h =
     ∙ lost-unused p k s f (plan-accepted p k f (a .0 .array .width) (a .0 .array .disks) (a .1)) (omega (arith, a .1)) t u (stripe-is p k s f t o o′ r d z) (stripe-is p k s f u n n′ q m y) h
     ∙ sym (column-is p k s f u n n′ q m y)
 
--- The last sentence of demand 3: stripes alike in every cell marked 1 in the list that `read_list` writes give one rebuilt disk, dirty stripes too.
+-- The last sentence of demand 3: stripes alike in every cell marked 1 in the list that `read_list`
+-- writes give one rebuilt disk, dirty stripes too.
 pub one-column :
     (p k s f : ℕ) (t u o o′ n n′ l l′ : List ℕ) (r q a : Answer)
     → OneSays p k s f t o o′ r → r .refusal ≡ 0 → OneSays p k s f u n n′ q → q .refusal ≡ 0 → ListSays p k f l l′ a → length l ≡ p * (k + 2)
@@ -130,7 +137,8 @@ one-column p k s f t u o o′ n n′ l l′ r q a d z m y w e h =
     ∙ only-read p k s f (plan-accepted p k f (i .0 .array .width) (i .0 .array .disks) (i .1)) (omega (arith, i .1)) t u (stripe-is p k s f t o o′ r d z) (stripe-is p k s f u n n′ q m y) (λ x v. h x (ap (λ (y : List ℕ). getD y x 0) list ∙ v))
     ∙ sym (column-is p k s f u n n′ q m y)
 
--- Ask 1 for the rebuild: that of the full stripe, with zeros on the absent disks, writes the same column, dirty stripes too.
+-- Ask 1 for the rebuild: that of the full stripe, with zeros on the absent disks, writes the same
+-- column, dirty stripes too.
 pub absent-rebuilt : (p k s f : ℕ) (t o o′ n n′ : List ℕ) (r q : Answer) → OneSays p k s f t o o′ r → r .refusal ≡ 0 → OneSays p p s (fullDisk p k f) (widened p k s t) n n′ q → length n ≡ p * s → n′ ≡ o′
 absent-rebuilt p k s f t o o′ n n′ r q d z e l =
     let w = demand1 .rebuild-one p k s f t o o′ r d .accepted z in

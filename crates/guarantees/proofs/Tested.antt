@@ -1,5 +1,7 @@
--- Ask 11 of document 02, said of the rebuild with tested survivors: whatever it returns, as long as it keeps its promise. t is the lent stripe, o a column as it was lent, o′ as it is given back.
--- `Explains p k s f t u` says that u is a clean stripe which agrees with t in every cell that survives the loss of disk f; what t holds for that disk plays no part.
+-- Ask 11 of document 02, said of the rebuild with tested survivors: whatever it returns, as long as
+-- it keeps its promise. t is the lent stripe, o a column as it was lent, o′ as it is given back.
+-- `Explains p k s f t u` says that u is a clean stripe which agrees with t in every cell that
+-- survives the loss of disk f; what t holds for that disk plays no part.
 use mathlib.Core.Path.{_≡_, sym, ap, _∙_}
 use mathlib.Core.Bool.{Bool, true, false, not}
 use mathlib.Core.Logic.{_⊎_, inl, inr, ⊎-elim}
@@ -16,15 +18,15 @@ use Rattle.mathematics.proofs.ChoiceLaws.{first-is, pick-refused}
 use Rattle.liberation.specs.Sets.{diskAt}
 use Rattle.liberation.proofs.Widths.{width-least}
 use Rattle.liberation.specs.stripes.Stripes.{cellAt, columnOf, isStripe, rebuilt}
-use Rattle.liberation.specs.stripes.Limits.{Sized}
+use Rattle.liberation.specs.stripes.StripeLimits.{Sized}
 use Rattle.liberation.proofs.two_disks.PairLaws.{pair-only}
 use Rattle.liberation.specs.scrub.Survivors.{withRebuilt, fits}
 use Rattle.liberation.specs.scrub.Explained.{Explains}
 use Rattle.liberation.proofs.scrub.Explaining.{fits-explains, explains-fits, explains-column, none-unfit}
 use Rattle.refusals.specs.declared.Answer.{Answer}
-use Rattle.rebuild_one.specs.Says.{oneFault, OneSays}
-use Rattle.rebuild_one.proofs.OneRefusals.{fault-none}
-use Rattle.rebuild_tested.specs.Says.{testedFault, TestedSays}
+use Rattle.rebuild_one.specs.RebuildOneSays.{oneRefusal, OneSays}
+use Rattle.rebuild_one.proofs.OneRefusals.{refusal-none}
+use Rattle.rebuild_tested.specs.Says.{testedRefusal, TestedSays}
 use Rattle.guarantees.specs.limits.Limits.{none, Within}
 use Rattle.guarantees.specs.limits.Calls.{rebuildOne, rebuildTested}
 use Rattle.guarantees.proofs.limits.LimitLaws.{first-outside}
@@ -44,17 +46,17 @@ pub record Tested (p k s f : ℕ) (t o o′ : List ℕ) (r : Answer) : Type 0 wh
 module _ (p k s f : ℕ) (t o o′ : List ℕ) (r : Answer) (d : TestedSays p k s f t o o′ r) where
   -- "the column stands on every refusal"
   pub stands : (r .refusal ≡ 0 → ⊥) → o′ ≡ o
-  stands z = d .column ∙ sym (pick-refused (r .refusal) (testedFault p k s f t o) (rebuilt p k s f t) o (d .answer .refusal) z)
+  stands z = d .column ∙ sym (pick-refused (r .refusal) (testedRefusal p k s f t o) (rebuilt p k s f t) o (d .answer .refusal) z)
 
   -- where the rebuild without a test refuses, so does this one, by the same number
   pub refuses-alike : (n′ : List ℕ) (q : Answer) → OneSays p k s f t o n′ q → (q .refusal ≡ 0 → ⊥) → r .refusal ≡ q .refusal
   refuses-alike n′ q c z =
       let e = c .answer .refusal in
-      d .answer .refusal ∙ first-is (oneFault p k s f t o) (when (not (fits p k s f t)) 19) (ne-eqb (oneFault p k s f t o) 0 (λ w. z (e ∙ w))) ∙ sym e
+      d .answer .refusal ∙ first-is (oneRefusal p k s f t o) (when (not (fits p k s f t)) 19) (ne-eqb (oneRefusal p k s f t o) 0 (λ w. z (e ∙ w))) ∙ sym e
 
-  module _ (e : oneFault p k s f t o ≡ 0) where
+  module _ (e : oneRefusal p k s f t o ≡ 0) where
     within : Sized p k s t × (f ≤ k + 1) × (length o ≡ p * s)
-    within = fault-none p k s f (length o) t e
+    within = refusal-none p k s f (length o) t e
 
     ok : isStripe p k s t ≡ true
     ok = is-stripe p k s t (within .0 .long) (d .bytes)
@@ -62,11 +64,11 @@ module _ (p k s f : ℕ) (t o o′ : List ℕ) (r : Answer) (d : TestedSays p k 
     below : f < k + 2
     below = omega (arith, within .1)
 
-    fault-is : (b : Bool) → fits p k s f t ≡ b → testedFault p k s f t o ≡ when (not b) 19
-    fault-is b q = ap (λ (n : ℕ). firstOf n (when (not (fits p k s f t)) 19)) e ∙ ap (λ (c : Bool). when (not c) 19) q
+    refusal-is : (b : Bool) → fits p k s f t ≡ b → testedRefusal p k s f t o ≡ when (not b) 19
+    refusal-is b q = ap (λ (n : ℕ). firstOf n (when (not (fits p k s f t)) 19)) e ∙ ap (λ (c : Bool). when (not c) 19) q
 
     answer-is : (b : Bool) → fits p k s f t ≡ b → r .refusal ≡ when (not b) 19
-    answer-is b q = d .answer .refusal ∙ fault-is b q
+    answer-is b q = d .answer .refusal ∙ refusal-is b q
 
     fit : (u : List ℕ) → Explains p k s f t u → fits p k s f t ≡ true
     fit u x = explains-fits p k s f (within .0 .array .width) (within .0 .array .disks) below t ok u x
@@ -80,14 +82,16 @@ module _ (p k s f : ℕ) (t o o′ : List ℕ) (r : Answer) (d : TestedSays p k 
           some = λ h. ⊎-elim (λ q. (withRebuilt p k s f t, fits-explains p k s f (within .0 .array .width) (within .0 .array .disks) below t ok q)) (λ q. absurd (omega (arith, answer-is false q, h))) (flag (fits p k s f t));
           writes = λ u x. (
             answer-is true (fit u x),
-            d .column ∙ ap (λ (n : ℕ). pick (eqb n 0) (rebuilt p k s f t) o) (fault-is true (fit u x)) ∙ sym (explains-column p k s f (within .0 .array .width) (within .0 .array .disks) below t ok u x),
+            d .column ∙ ap (λ (n : ℕ). pick (eqb n 0) (rebuilt p k s f t) o) (refusal-is true (fit u x)) ∙ sym (explains-column p k s f (within .0 .array .width) (within .0 .array .disks) below t ok u x),
           );
         }
 
 pub tested : (p k s f : ℕ) (t o o′ n′ : List ℕ) (r q : Answer) → TestedSays p k s f t o o′ r → OneSays p k s f t o n′ q → q .refusal ≡ 0 → Tested p k s f t o o′ r
 tested p k s f t o o′ n′ r q d c z = tested-so p k s f t o o′ r d (sym (c .answer .refusal) ∙ z)
 
--- A change on one surviving disk is always noticed: where the call accepts t, it refuses by 19 every stripe u that differs from t in some cell x of a surviving disk and agrees with t on all others that survive.
+-- A change on one surviving disk is always noticed: where the call accepts t, it refuses by 19
+-- every stripe u that differs from t in some cell x of a surviving disk and agrees with t on all
+-- others that survive.
 pub change-noticed :
     (p k s f x : ℕ) (t u o o′ n n′ : List ℕ) (r q : Answer) → TestedSays p k s f t o o′ r → r .refusal ≡ 0 → TestedSays p k s f u n n′ q → length u ≡ length t → length n ≡ length o
     → ((y : ℕ) → y < p * (k + 2) → (diskAt p y ≡ f → ⊥) → (diskAt p y ≡ diskAt p x → ⊥) → cellAt s t y ≡ cellAt s u y)

@@ -1,2 +1,2 @@
-pub mod reads
-pub mod rebuild
+pub mod PlanListSays
+pub mod RebuildByPlanSays

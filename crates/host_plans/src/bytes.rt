@@ -3,7 +3,7 @@ ghost use mathlib.Core.Path.{_≡_};
 ghost use Prim.Native.Nat.{_*_, _≤_};
 ghost use lib.ListN.{length};
 ghost use Rattle.liberation.specs.Judging.{stepsIn};
-ghost use Rattle.planner.specs.records.Records.{held};
+ghost use Rattle.planner.specs.StepRecords.{held};
 use planner::Steps;
 
 // The steps that the bytes name: row, kind, number.

@@ -1,7 +1,7 @@
 // Any plan that the judge accepts, carried out: its read list, and the rebuild of one disk by it.
 mod bytes;
-pub mod reads;
-pub mod rebuild;
+mod reads;
+mod rebuild;
 
 pub use reads::plan_list;
 pub use rebuild::rebuild_by_plan;

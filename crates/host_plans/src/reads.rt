@@ -6,26 +6,26 @@ ghost use lib.Dec.{eqb};
 ghost use lib.ListN.{length};
 ghost use Rattle.mathematics.specs.Choice.{firstOf, when};
 ghost use Rattle.liberation.specs.Limits.{InArray};
-ghost use Rattle.liberation.specs.Sets.{planFault};
+ghost use Rattle.liberation.specs.Sets.{planRefusal};
 ghost use Rattle.liberation.specs.Plans.{listOf};
 ghost use Rattle.liberation.specs.Judging.{accepted, stepsIn};
-ghost use Rattle.host_plans.specs.reads.Says.{PlanListSays};
+ghost use Rattle.host_plans.specs.PlanListSays.{PlanListSays};
 use super::bytes;
 use refusals::Answer;
 
 // The refusal of a plan and a list of these many bytes before any step is looked at, 0 for none.
-fn lengths_fault(width: usize, disks: usize, lost: usize, plan: usize, list: usize) -> u8
-    ensures { λ r. ⌜ r ≡ firstOf (planFault width disks lost) (firstOf (when (not (eqb plan (3 * width))) 5) (when (not (eqb list (width * (disks + 2)))) 5)) ⌝ }
+fn lengths_refusal(width: usize, disks: usize, lost: usize, plan: usize, list: usize) -> u8
+    ensures { λ r. ⌜ r ≡ firstOf (planRefusal width disks lost) (firstOf (when (not (eqb plan (3 * width))) 5) (when (not (eqb list (width * (disks + 2)))) 5)) ⌝ }
 {
-    let fault = refusals::plan_fault(width, disks, lost);
-    if fault != 0 {
-        return fault;
+    let refusal = refusals::plan_refusal(width, disks, lost);
+    if refusal != 0 {
+        return refusal;
     }
-    let short = refusals::length_fault(plan, 3 * width);
+    let short = refusals::length_refusal(plan, 3 * width);
     if short != 0 {
         return short;
     }
-    refusals::length_fault(list, width * (disks + 2))
+    refusals::length_refusal(list, width * (disks + 2))
 }
 
 // Marks the cells that an accepted plan reads.
@@ -39,13 +39,15 @@ fn write_list(width: usize, disks: usize, lost: usize, plan: &[u8], list: &mut [
     planner::mark_steps(width, disks, lost, steps, list);
 }
 
-// The read list of a plan of three bytes a step, a byte for each cell: 1 where the plan reads it. Refusals: 1, 13, 3, 5, then 6 to 9 with the step as their place; a refused call leaves the list as it was.
+// The read list of a plan of three bytes a step, a byte for each cell: 1 where the plan reads it.
+// Refusals: 1, 13, 3, 5, then 6 to 9 with the step as their place; a refused call leaves the list
+// as it was.
 pub fn plan_list(width: usize, disks: usize, lost: usize, plan: &[u8], list: &mut [u8]) -> Answer
     ensures { λ r. ⌜ PlanListSays width disks lost (now (plan .entry)) (now (list .entry)) (now (list .exit)) r ⌝ }
 {
-    let fault = lengths_fault(width, disks, lost, plan.len(), list.len());
-    if fault != 0 {
-        return refusals::answered(fault);
+    let refusal = lengths_refusal(width, disks, lost, plan.len(), list.len());
+    if refusal != 0 {
+        return refusals::answered(refusal);
     }
     let judged = judge::judge_plan(width, disks, lost, plan);
     let answer = judged.answer;

@@ -1,21 +1,23 @@
-// The rebuild of one lost disk by any plan that the judge accepts, from a lent stripe into a lent column.
+// The rebuild of one lost disk by any plan that the judge accepts, from a lent stripe into a lent
+// column.
 ghost use mathlib.Core.Path.{_≡_};
 ghost use mathlib.Core.Bool.{true, not};
 ghost use Prim.Native.Nat.{_+_, _*_, _≤_};
 ghost use lib.Dec.{eqb};
 ghost use lib.ListN.{length};
 ghost use Rattle.mathematics.specs.Choice.{firstOf, when};
-ghost use Rattle.liberation.specs.Sets.{numbersFault};
+ghost use Rattle.liberation.specs.Sets.{numbersRefusal};
 ghost use Rattle.liberation.specs.Judging.{accepted, stepsIn};
 ghost use Rattle.liberation.specs.stripes.Stripes.{stripeLong, rebuiltBy};
-ghost use Rattle.liberation.specs.stripes.Limits.{Sized};
-ghost use Rattle.host_plans.specs.rebuild.Says.{ByPlanSays};
+ghost use Rattle.liberation.specs.stripes.StripeLimits.{Sized};
+ghost use Rattle.host_plans.specs.RebuildByPlanSays.{ByPlanSays};
 use super::bytes;
 use refusals::Answer;
 use refusals::Shape;
 
-// The refusal of a plan, a stripe and a column of these many bytes before any step is looked at, 0 for none.
-fn call_fault(
+// The refusal of a plan, a stripe and a column of these many bytes before any step is looked at, 0
+// for none.
+fn call_refusal(
     width: usize,
     disks: usize,
     size: usize,
@@ -24,17 +26,17 @@ fn call_fault(
     stripe: usize,
     column: usize,
 ) -> u8
-    ensures { λ r. ⌜ r ≡ firstOf (numbersFault width disks size disk) (firstOf (when (not (eqb plan (3 * width))) 5) (firstOf (when (not (eqb stripe (stripeLong width disks size))) 5) (when (not (eqb column (width * size))) 5))) ⌝ }
+    ensures { λ r. ⌜ r ≡ firstOf (numbersRefusal width disks size disk) (firstOf (when (not (eqb plan (3 * width))) 5) (firstOf (when (not (eqb stripe (stripeLong width disks size))) 5) (when (not (eqb column (width * size))) 5))) ⌝ }
 {
-    let fault = refusals::numbers_fault(width, disks, size, disk);
-    if fault != 0 {
-        return fault;
+    let refusal = refusals::numbers_refusal(width, disks, size, disk);
+    if refusal != 0 {
+        return refusal;
     }
-    let short = refusals::length_fault(plan, 3 * width);
+    let short = refusals::length_refusal(plan, 3 * width);
     if short != 0 {
         return short;
     }
-    rebuild_one::one_fault(width, disks, size, disk, stripe, column)
+    rebuild_one::one_refusal(width, disks, size, disk, stripe, column)
 }
 
 // Follows an accepted plan.
@@ -55,7 +57,8 @@ fn plan_column(
     rebuild_one::follow(width, disks, size, disk, steps, stripe, column);
 }
 
-// Rebuilds one lost disk into the column by a plan of three bytes a step. Refusals: 1, 13, 2, 3, 5, then 6 to 9 with the step as their place; a refused call leaves the column as it was.
+// Rebuilds one lost disk into the column by a plan of three bytes a step. Refusals: 1, 13, 2, 3, 5,
+// then 6 to 9 with the step as their place; a refused call leaves the column as it was.
 pub fn rebuild_by_plan(
     shape: Shape,
     lost: usize,
@@ -68,7 +71,7 @@ pub fn rebuild_by_plan(
     let width = shape.width;
     let disks = shape.disks;
     let size = shape.cell_size;
-    let fault = call_fault(
+    let refusal = call_refusal(
         width,
         disks,
         size,
@@ -77,8 +80,8 @@ pub fn rebuild_by_plan(
         stripe.len(),
         column.len(),
     );
-    if fault != 0 {
-        return refusals::answered(fault);
+    if refusal != 0 {
+        return refusals::answered(refusal);
     }
     let judged = judge::judge_plan(width, disks, lost, plan);
     let answer = judged.answer;

@@ -1,4 +1,5 @@
--- The judge's answer and acceptance: its number is 0 exactly for the bytes of an accepted plan, and its reads are then that plan's read count.
+-- The judge's answer and acceptance: its number is 0 exactly for the bytes of an accepted plan, and
+-- its reads are then that plan's read count.
 use mathlib.Core.Path.{_≡_, refl, sym, ap, ap₂, _∙_}
 use mathlib.Core.Bool.{true}
 use mathlib.Core.List.{List}
@@ -10,13 +11,13 @@ use Rattle.mathematics.specs.Choice.{pick, firstOf}
 use Rattle.mathematics.proofs.ChoiceLaws.{first-none}
 use Rattle.mathematics.proofs.Flags.{and-i, and-r}
 use Rattle.liberation.specs.Limits.{InArray}
-use Rattle.liberation.specs.Sets.{planFault, longFault}
+use Rattle.liberation.specs.Sets.{planRefusal, longRefusal}
 use Rattle.liberation.specs.Plans.{readCount}
 use Rattle.liberation.specs.Judging.{judge, stepsIn, accepted}
-use Rattle.liberation.proofs.FaultLaws.{plan-of, plan-none, long-accepted, long-of}
+use Rattle.liberation.proofs.RefusalLaws.{plan-of, plan-none, long-accepted, long-of}
 use Rattle.refusals.specs.declared.Answer.{Answer}
 use Rattle.judge.specs.declared.all_steps.Judged.{Judged}
-use Rattle.judge.specs.Says.{formFault, DecidesOn, JudgeSays}
+use Rattle.judge.specs.JudgeSays.{formRefusal, DecidesOn, JudgeSays}
 
 -- the bytes bs are an accepted plan for lost disk f
 pub record Acceptable (p k f : ℕ) (bs : List ℕ) : Type 0 where
@@ -40,7 +41,8 @@ pub accepts-judged : (p k f : ℕ) (bs : List ℕ) → accepted p k f (stepsIn p
 unfolding accepted
 accepts-judged p k f bs e = eqb-true (judge p k f (stepsIn p bs) .number) 0 (and-r (eqb (length (stepsIn p bs)) p) (eqb (judge p k f (stepsIn p bs) .number) 0) e)
 
--- a call after other tests that refuses nothing: neither do those, the plan is accepted, and the lent memory is the new one
+-- a call after other tests that refuses nothing: neither do those, the plan is accepted, and the
+-- lent memory is the new one
 pub decided : (p k f n : ℕ) (bs new o o′ : List ℕ) (r : Answer) → DecidesOn n (judge p k f (stepsIn p bs)) new o o′ r → r .refusal ≡ 0 → (n ≡ 0) × (accepted p k f (stepsIn p bs) ≡ true) × (o′ ≡ new)
 decided p k f n bs new o o′ r d z =
     let none : firstOf n (judge p k f (stepsIn p bs) .number) ≡ 0 = sym (d .refusal) ∙ z in
@@ -56,11 +58,11 @@ zero-accepts p k f bs r s e =
       accepts = judged-accepts p k f bs (all .1);
     }
   where
-    all : (formFault p k f bs ≡ 0) × (judge p k f (stepsIn p bs) .number ≡ 0)
-    all = first-none (formFault p k f bs) (judge p k f (stepsIn p bs) .number) (sym (s .refusal) ∙ e)
+    all : (formRefusal p k f bs ≡ 0) × (judge p k f (stepsIn p bs) .number ≡ 0)
+    all = first-none (formRefusal p k f bs) (judge p k f (stepsIn p bs) .number) (sym (s .refusal) ∙ e)
 
-    form : (planFault p k f ≡ 0) × (longFault (3 * p) bs ≡ 0)
-    form = first-none (planFault p k f) (longFault (3 * p) bs) (all .0)
+    form : (planRefusal p k f ≡ 0) × (longRefusal (3 * p) bs ≡ 0)
+    form = first-none (planRefusal p k f) (longRefusal (3 * p) bs) (all .0)
 
     numbers : InArray p k × (f ≤ k + 1)
     numbers = plan-of p k f (form .0)
@@ -68,7 +70,7 @@ zero-accepts p k f bs r s e =
 pub accepts-zero : (p k f : ℕ) (bs : List ℕ) (r : Judged) → JudgeSays p k f bs r → Acceptable p k f bs → r .answer .refusal ≡ 0
 accepts-zero p k f bs r s a = s .refusal ∙ ap₂ firstOf form steps
   where
-    form : formFault p k f bs ≡ 0
+    form : formRefusal p k f bs ≡ 0
     form = ap₂ firstOf (plan-none p k f (a .array) (a .disk)) (long-accepted (3 * p) bs (a .long))
 
     steps : judge p k f (stepsIn p bs) .number ≡ 0

@@ -1,3 +1,3 @@
 -- What the judge promises.
-pub mod Says
-pub mod all_steps
+pub mod JudgeSays
+pub mod JudgeStepsSays

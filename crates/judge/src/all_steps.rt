@@ -1,11 +1,12 @@
-// The judge of the steps of a plan, one after another: its read count, or a refusal of a step with its place.
+// The judge of the steps of a plan, one after another: its read count, or a refusal of a step with
+// its place.
 ghost use mathlib.Core.Path.{_≡_};
 ghost use mathlib.Core.List.{[]};
 ghost use Prim.Native.Nat.{_+_, _*_, _≤_};
 ghost use lib.ListN.{length};
 ghost use Rattle.liberation.specs.Limits.{InArray};
 ghost use Rattle.liberation.specs.Plans.{marksFrom};
-ghost use Rattle.judge.specs.all_steps.Says.{StepsSay};
+ghost use Rattle.judge.specs.JudgeStepsSays.{StepsSay};
 use super::one_step;
 use refusals::Answer;
 
@@ -23,7 +24,8 @@ pub fn wide(byte: u8) -> usize
     byte as usize
 }
 
-// Judges the steps in order. `marks` has a byte a cell, none marked, and collects the cells that the steps read.
+// Judges the steps in order. `marks` has a byte a cell, none marked, and collects the cells that
+// the steps read.
 pub fn judge_steps(width: usize, disks: usize, lost: usize, plan: &[u8], marks: &mut [u8]) -> Judged
     requires { ⌜ InArray width disks × (lost ≤ disks + 1) ⌝ }
     requires { ⌜ length (now plan) ≡ 3 * width ⌝ }
@@ -37,12 +39,12 @@ pub fn judge_steps(width: usize, disks: usize, lost: usize, plan: &[u8], marks: 
         let row = wide(plan[3 * i]);
         let kind = wide(plan[3 * i + 1]);
         let number = wide(plan[3 * i + 2]);
-        let fault = one_step::step_fault(width, disks, lost, row, kind, number, done);
-        if fault != 0 {
+        let refusal = one_step::step_refusal(width, disks, lost, row, kind, number, done);
+        if refusal != 0 {
             let place = i as u32;
             return Judged {
                 answer: Answer {
-                    refusal: fault,
+                    refusal: refusal,
                     place,
                 },
                 reads: 0,

@@ -1,5 +1,5 @@
 // The judge of a plan sent by a host: its read count, or a refusal with its place.
-pub mod all_steps;
+mod all_steps;
 mod one_step;
 
 pub use all_steps::Judged;
@@ -9,16 +9,16 @@ ghost use mathlib.Core.Bool.{not};
 ghost use Prim.Native.Nat.{_*_};
 ghost use lib.Dec.{eqb};
 ghost use Rattle.mathematics.specs.Choice.{firstOf, when};
-ghost use Rattle.liberation.specs.Sets.{planFault};
-ghost use Rattle.judge.specs.Says.{JudgeSays};
+ghost use Rattle.liberation.specs.Sets.{planRefusal};
+ghost use Rattle.judge.specs.JudgeSays.{JudgeSays};
 
 // The refusal of a plan of `long` bytes before any step is looked at, 0 for none.
-fn form_fault(width: usize, disks: usize, lost: usize, long: usize) -> u8
-    ensures { λ r. ⌜ r ≡ firstOf (planFault width disks lost) (when (not (eqb long (3 * width))) 5) ⌝ }
+fn form_refusal(width: usize, disks: usize, lost: usize, long: usize) -> u8
+    ensures { λ r. ⌜ r ≡ firstOf (planRefusal width disks lost) (when (not (eqb long (3 * width))) 5) ⌝ }
 {
-    let fault = refusals::plan_fault(width, disks, lost);
-    if fault != 0 {
-        return fault;
+    let refusal = refusals::plan_refusal(width, disks, lost);
+    if refusal != 0 {
+        return refusal;
     }
     if long != 3 * width {
         return 5;
@@ -26,14 +26,15 @@ fn form_fault(width: usize, disks: usize, lost: usize, long: usize) -> u8
     0
 }
 
-// Judges a plan of three bytes a step: row, kind, number. Refusals: 1, 13, 3, 5, then 6 to 9 with the step as their place.
+// Judges a plan of three bytes a step: row, kind, number. Refusals: 1, 13, 3, 5, then 6 to 9 with
+// the step as their place.
 pub fn judge_plan(width: usize, disks: usize, lost: usize, plan: &[u8]) -> Judged
     ensures { λ r. ⌜ JudgeSays width disks lost (now (plan .entry)) r ⌝ }
 {
-    let fault = form_fault(width, disks, lost, plan.len());
-    if fault != 0 {
+    let refusal = form_refusal(width, disks, lost, plan.len());
+    if refusal != 0 {
         return Judged {
-            answer: refusals::answered(fault),
+            answer: refusals::answered(refusal),
             reads: 0,
         };
     }

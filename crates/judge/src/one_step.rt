@@ -7,7 +7,7 @@ ghost use Rattle.mathematics.specs.Lists.{isIn};
 ghost use Rattle.liberation.specs.Limits.{InArray};
 ghost use Rattle.liberation.specs.Sets.{setOf, lostIn};
 ghost use Rattle.liberation.specs.Plans.{step, marksFrom};
-ghost use Rattle.liberation.specs.Judging.{othersThere, stepFault};
+ghost use Rattle.liberation.specs.Judging.{othersThere, stepRefusal};
 
 // Does a set hold the cell of this row on the lost disk?
 fn holds_row(
@@ -86,7 +86,7 @@ fn others_there(
 }
 
 // The refusal of one step, 0 for none; `done` has a byte a row, 1 where the row is rebuilt.
-pub fn step_fault(
+pub fn step_refusal(
     width: usize,
     disks: usize,
     lost: usize,
@@ -96,7 +96,7 @@ pub fn step_fault(
     done: [u8; 31],
 ) -> u8
     requires { ⌜ InArray width disks × (lost ≤ disks + 1) ⌝ }
-    ensures { λ r. ⌜ ((ds : List ℕ) → done ≡ marksFrom 31 0 ds → r ≡ stepFault width disks lost ds (step row kind number)) ⌝ }
+    ensures { λ r. ⌜ ((ds : List ℕ) → done ≡ marksFrom 31 0 ds → r ≡ stepRefusal width disks lost ds (step row kind number)) ⌝ }
 {
     if width <= row {
         return 6;

@@ -1,5 +1,7 @@
--- The cells that a set has on a lost disk: a row set has one on each data disk and on P, a diagonal set one on each data disk and on Q and, on the disk of its extra cell, that one too.
--- Disk c > 0 holds one extra cell, in row e = extraRowOn p c, of the diagonal p - 1 - e. Every width and every number k ≤ p of data disks.
+-- The cells that a set has on a lost disk: a row set has one on each data disk and on P, a diagonal
+-- set one on each data disk and on Q and, on the disk of its extra cell, that one too.
+-- Disk c > 0 holds one extra cell, in row e = extraRowOn p c, of the diagonal p - 1 - e. Every
+-- width and every number k ≤ p of data disks.
 use mathlib.Core.Path.{_≡_, refl, sym, ap, ap₂, _∙_}
 use mathlib.Core.Bool.{Bool, true, false, _&&_, _||_, and-false, false≢true}
 use mathlib.Core.Logic.{_⊎_, inl, inr, ⊎-elim}
@@ -133,7 +135,8 @@ off-first d n c o e = ⊎-elim (λ l. omega arith) (λ l. omega arith) o
 off-rest : (d n c : ℕ) → Off d (suc n) c → Off (suc d) n c
 off-rest d n c o = ⊎-elim (λ l. inl (omega arith)) (λ l. inr (omega arith)) o
 
--- one cell on each of n disks from d on: none where disk c is not among them, and its row where it is
+-- one cell on each of n disks from d on: none where disk c is not among them, and its row where it
+-- is
 module _ (p : ℕ) (g : ℕ → ℕ) {l : ℕ → ℕ → List ℕ} (w : Walk (λ c. place p (g c) c) l) (rows : (c : ℕ) → g c < p) where
   walk-off : (n d c : ℕ) → Off d n c → lostIn p c (l n d) ≡ []
   walk-off zero d c o = ap (lostIn p c) (w .none d) ∙ lost-nil p c

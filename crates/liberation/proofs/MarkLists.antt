@@ -1,4 +1,5 @@
--- Marks, a byte a cell, that stand for a list of cells: their number, the first of them, and one cell more.
+-- Marks, a byte a cell, that stand for a list of cells: their number, the first of them, and one
+-- cell more.
 use mathlib.Core.Path.{_≡_, refl, sym, ap, ap₂, _∙_}
 use mathlib.Core.Bool.{Bool, _||_}
 use mathlib.Core.List.{List, [], _∷_}

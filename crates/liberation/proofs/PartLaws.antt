@@ -1,5 +1,7 @@
--- A part-filled array (k data disks, k ≤ p) beside the full one: the rule for plans does not look at k, and a set has the same rows on disk f of the one as on disk fullDisk p k f of the other.
--- So the judge says the same of any steps, and the sets of steps hold the same cells on the disks present.
+-- A part-filled array (k data disks, k ≤ p) beside the full one: the rule for plans does not look
+-- at k, and a set has the same rows on disk f of the one as on disk fullDisk p k f of the other.
+-- So the judge says the same of any steps, and the sets of steps hold the same cells on the disks
+-- present.
 use mathlib.Core.Path.{_≡_, refl, sym, ap, ap₂, _∙_}
 use mathlib.Core.Bool.{Bool, true, false, _&&_, _||_, not, false≢true}
 use mathlib.Core.Logic.{_⊎_, inl, inr, ⊎-elim}
@@ -16,7 +18,7 @@ use Rattle.mathematics.proofs.OrderLaws.{lt-or-le}
 use Rattle.mathematics.proofs.TestLaws.{eqb-same}
 use Rattle.liberation.specs.Sets.{place, rowSet, diagonalSet, setOf, lostIn}
 use Rattle.liberation.specs.Plans.{Step, allOf, planOf}
-use Rattle.liberation.specs.Judging.{othersThere, stepFault, Judged, judged, judgeFrom, accepted}
+use Rattle.liberation.specs.Judging.{othersThere, stepRefusal, Judged, judged, judgeFrom, accepted}
 use Rattle.liberation.specs.Claims.{fullDisk}
 use Rattle.liberation.proofs.SetLaws.{in-lost}
 use Rattle.liberation.proofs.LostLaws.{lost-row, lost-row-Q, lost-diagonal, lost-diagonal-P, lost-diagonal-Q}
@@ -84,9 +86,9 @@ module _ (p k : ℕ) (most : k ≤ p) where
 
   module _ (f : ℕ) (h : f ≤ k + 1) where
     -- the judge says the same
-    pub fault-part : (done : List ℕ) (s : Step) → stepFault p k f done s ≡ stepFault p p (fullDisk p k f) done s
-    unfolding stepFault
-    fault-part done s =
+    pub refusal-part : (done : List ℕ) (s : Step) → stepRefusal p k f done s ≡ stepRefusal p p (fullDisk p k f) done s
+    unfolding stepRefusal
+    refusal-part done s =
         ⊎-elim
         (λ l. ap (λ (xs : List ℕ). firstOf (when outside 6) (firstOf (when (not (isIn (s .row) xs)) 7) (firstOf (when (isIn (s .row) done) 8) (when (not (othersThere (s .row) xs done)) 9)))) (lost-part f (s .kind) (s .number) h l))
         (λ l. six-first outside _ _ (or-r (leb p (s .row)) (leb p (s .number) || ltb 1 (s .kind)) (or-l (leb p (s .number)) (ltb 1 (s .kind)) (le-leb p (s .number) l))))
@@ -98,7 +100,7 @@ module _ (p k : ℕ) (most : k ≤ p) where
     pub judge-part : (i : ℕ) (done : List ℕ) (ss : List Step) → judgeFrom i p k f done ss ≡ judgeFrom i p p (fullDisk p k f) done ss
     unfolding judgeFrom
     judge-part i done [] = refl
-    judge-part i done (s ∷ ss) = ap₂ (λ (n : ℕ) (j : Judged). elim (eqb n 0) [ true ↦ j | false ↦ judged n i ]) (fault-part done s) (judge-part (suc i) (s .row ∷ done) ss)
+    judge-part i done (s ∷ ss) = ap₂ (λ (n : ℕ) (j : Judged). elim (eqb n 0) [ true ↦ j | false ↦ judged n i ]) (refusal-part done s) (judge-part (suc i) (s .row ∷ done) ss)
 
     pub accepted-part : (ss : List Step) → accepted p k f ss ≡ accepted p p (fullDisk p k f) ss
     unfolding accepted

@@ -1,4 +1,5 @@
--- Our plan in a part-filled array (k data disks, k ≤ p): it is accepted, it reads on the disks present what the full array's plan reads there, and for a lost P or Q every data cell.
+-- Our plan in a part-filled array (k data disks, k ≤ p): it is accepted, it reads on the disks
+-- present what the full array's plan reads there, and for a lost P or Q every data cell.
 use mathlib.Core.Path.{_≡_, sym, ap, ap₂, _∙_}
 use mathlib.Core.Bool.{Bool, true, _&&_, not}
 use mathlib.Core.Logic.{_⊎_, inl, inr}

@@ -1,4 +1,5 @@
--- Steps in a record of 31 places and in the judge's form: where a record that holds ss has step i, and that the form gives the recorded steps back.
+-- Steps in a record of 31 places and in the judge's form: where a record that holds ss has step i,
+-- and that the form gives the recorded steps back.
 use mathlib.Core.Path.{_≡_, refl, sym, ap, ap₂, subst, _∙_}
 use mathlib.Core.Bool.{true}
 use mathlib.Core.List.{List, [], _∷_, _++_}

@@ -1,4 +1,5 @@
--- A set of either kind: how many cells it has, and each of them, as the two functions test for them.
+-- A set of either kind: how many cells it has, and each of them, as the two functions test for
+-- them.
 use mathlib.Core.Path.{_≡_, sym, ap, _∙_}
 use mathlib.Core.Bool.{Bool, true, false, _&&_}
 use mathlib.Core.Logic.{⊎-elim}

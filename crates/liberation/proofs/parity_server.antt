@@ -1,6 +1,7 @@
--- Theorems about a parity server: the list of the servers, the refusals, mending one stripe and all of them, writing and rebuilding a server, what is not read.
+-- Theorems about a parity server: the list of the servers, the refusals, mending one stripe and all
+-- of them, writing and rebuilding a server, what is not read.
 pub mod UpTo
-pub mod RefusalLaws
+pub mod ServerRefusalLaws
 pub mod Mending
 pub mod ServerLaws
 pub mod Writing

@@ -1,4 +1,5 @@
--- Theorems: what every plan asks of a disk, progressions mod a prime, the progression plan, the relief plan, arrays one disk short of full, the balanced plan in part-filled arrays.
+-- Theorems: what every plan asks of a disk, progressions mod a prime, the progression plan, the
+-- relief plan, arrays one disk short of full, the balanced plan in part-filled arrays.
 pub mod FlagSums
 pub mod HalfAsked
 pub mod ProgressionLaws

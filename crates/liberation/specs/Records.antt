@@ -1,4 +1,5 @@
--- A plan's steps in a record with 31 places ("The plan record holds its steps in 31 places, zeros after the p-th"), and in the judge's form.
+-- A plan's steps in a record with 31 places ("The plan record holds its steps in 31 places, zeros
+-- after the p-th"), and in the judge's form.
 use mathlib.Core.List.{List, [], _∷_, _++_}
 use Prim.Native.Nat.{ℕ, zero, suc, _-_}
 use lib.ListN.{length, getD, replicate}

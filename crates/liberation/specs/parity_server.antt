@@ -1,3 +1,3 @@
 -- A parity server.
 pub mod Servers
-pub mod Claims
+pub mod ServerClaims

@@ -1,4 +1,5 @@
--- A test of every number below n: it says what its flag says of each, and holds if each holds; the same for a loop that makes the tests one by one.
+-- A test of every number below n: it says what its flag says of each, and holds if each holds; the
+-- same for a loop that makes the tests one by one.
 use mathlib.Core.Path.{_≡_, refl, sym, ap, ap₂, _∙_}
 use mathlib.Core.Bool.{Bool, true, false, _&&_, not}
 use mathlib.Core.Logic.{⊎-elim}

@@ -43,7 +43,8 @@ pub when-most : (t : Bool) → when t 1 ≤ 1
 when-most true = omega arith
 when-most false = omega arith
 
--- What is picked by a refusal number that a test gave: the second where it is not 0, the first where it is.
+-- What is picked by a refusal number that a test gave: the second where it is not 0, the first
+-- where it is.
 pub pick-refused : {A : Type 0} (n m : ℕ) (x y : A) → n ≡ m → (n ≡ 0 → ⊥) → y ≡ pick (eqb m 0) x y
 pick-refused n m x y e z = sym (ap (λ (b : Bool). pick b x y) (ne-eqb m 0 (λ q. z (e ∙ q))))
 

@@ -1,4 +1,5 @@
--- The first number that passes a test: it passes where there is one, and no number that passes is before it.
+-- The first number that passes a test: it passes where there is one, and no number that passes is
+-- before it.
 use mathlib.Core.Path.{_≡_, refl, sym, ap, _∙_}
 use mathlib.Core.Bool.{Bool, true, false}
 use mathlib.Core.Logic.{⊎-elim}

@@ -1,4 +1,5 @@
--- Lists of which some numbers are kept, those that a test does not leave out: joined lists, members, bounds, lengths, tests that agree.
+-- Lists of which some numbers are kept, those that a test does not leave out: joined lists,
+-- members, bounds, lengths, tests that agree.
 use mathlib.Core.Path.{_≡_, refl, sym, ap, ap₂, _∙_}
 use mathlib.Core.Bool.{Bool, true, false, _&&_, _||_, not, and-false}
 use mathlib.Core.List.{List, [], _∷_, _++_}

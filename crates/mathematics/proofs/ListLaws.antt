@@ -1,4 +1,5 @@
--- Lists as sets: what `added` holds, that it stays distinct, and the length of a distinct list as a count.
+-- Lists as sets: what `union` holds, that it stays distinct, and the length of a distinct list as a
+-- count.
 use mathlib.Core.Path.{_≡_, refl, sym, ap, _∙_}
 use mathlib.Core.Bool.{Bool, true, false, _||_, not, or-assoc}
 use mathlib.Core.List.{List, [], _∷_, _++_, append-nil}
@@ -12,7 +13,7 @@ use borrow.Author.Tests.{eqb-true, ltb-true, not-true}
 use Rattle.mathematics.proofs.Flags.{and-l, and-r, and-i}
 use Rattle.mathematics.specs.Choice.{pick, when}
 use Rattle.mathematics.specs.Sums.{sumTo}
-use Rattle.mathematics.specs.Lists.{isIn, added, distinct, allBelow}
+use Rattle.mathematics.specs.Lists.{isIn, union, distinct, allBelow}
 use Rattle.mathematics.proofs.SumLaws.{sum-none, sum-more}
 
 pub isIn-append : (x : ℕ) (xs ys : List ℕ) → isIn x (xs ++ ys) ≡ (isIn x xs || isIn x ys)
@@ -24,8 +25,8 @@ below-append n [] ys h k = k
 below-append n (x ∷ xs) ys h k = and-i (ltb x n) (allBelow n (xs ++ ys)) (and-l (ltb x n) (allBelow n xs) h) (below-append n xs ys (and-r (ltb x n) (allBelow n xs) h) k)
 
 -- membership in what is added
-pub isIn-added : (x : ℕ) (xs ys : List ℕ) → isIn x (added xs ys) ≡ (isIn x xs || isIn x ys)
-unfolding added
+pub isIn-added : (x : ℕ) (xs ys : List ℕ) → isIn x (union xs ys) ≡ (isIn x xs || isIn x ys)
+unfolding union
 isIn-added x [] ys = refl
 isIn-added x (z ∷ xs) ys = isIn-added x xs (pick (isIn z ys) ys (z ∷ ys)) ∙ ap (λ (b : Bool). isIn x xs || b) (once (isIn z ys) refl) ∙ turn (isIn x xs) (eqb x z) (isIn x ys)
   where
@@ -43,8 +44,8 @@ isIn-added x (z ∷ xs) ys = isIn-added x xs (pick (isIn z ys) ys (z ∷ ys)) �
     once true t = same t (eqb x z) refl
     once false t = refl
 
-pub distinct-added : (xs ys : List ℕ) → distinct ys ≡ true → distinct (added xs ys) ≡ true
-unfolding added
+pub distinct-added : (xs ys : List ℕ) → distinct ys ≡ true → distinct (union xs ys) ≡ true
+unfolding union
 distinct-added [] ys d = d
 distinct-added (x ∷ xs) ys d = distinct-added xs (pick (isIn x ys) ys (x ∷ ys)) (go (isIn x ys) refl)
   where
@@ -52,8 +53,8 @@ distinct-added (x ∷ xs) ys d = distinct-added xs (pick (isIn x ys) ys (x ∷ y
     go true t = d
     go false t = and-i (not (isIn x ys)) (distinct ys) (ap not t) d
 
-pub below-added : (n : ℕ) (xs ys : List ℕ) → allBelow n xs ≡ true → allBelow n ys ≡ true → allBelow n (added xs ys) ≡ true
-unfolding added
+pub below-added : (n : ℕ) (xs ys : List ℕ) → allBelow n xs ≡ true → allBelow n ys ≡ true → allBelow n (union xs ys) ≡ true
+unfolding union
 below-added n [] ys h k = k
 below-added n (x ∷ xs) ys h k = below-added n xs (pick (isIn x ys) ys (x ∷ ys)) (and-r (ltb x n) (allBelow n xs) h) (go (isIn x ys))
   where

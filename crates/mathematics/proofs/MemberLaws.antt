@@ -1,4 +1,5 @@
--- Members of a list: the first and the later ones, the bound of a member, a distinct list one longer, a distinct list of all numbers below n, and lists tested equal.
+-- Members of a list: the first and the later ones, the bound of a member, a distinct list one
+-- longer, a distinct list of all numbers below n, and lists tested equal.
 use mathlib.Core.Path.{_≡_, refl, ap, ap₂, _∙_}
 use mathlib.Core.Bool.{true, false, _||_, not, or-false, false≢true}
 use mathlib.Core.Logic.{⊎-elim}

@@ -1,4 +1,5 @@
--- A `match` on a number with several keys in one arm: what that arm and the rest know, as a test of membership in the list of keys.
+-- A `match` on a number with several keys in one arm: what that arm and the rest know, as a test of
+-- membership in the list of keys.
 use mathlib.Core.Path.{_≡_, ap, _∙_}
 use mathlib.Core.Bool.{Bool, true, false, _||_}
 use mathlib.Core.List.{List, [], _∷_}

@@ -1,4 +1,5 @@
--- A prime: no number between 1 and it divides it. Every non-zero residue has an inverse; so a walk by any step visits every residue, each once.
+-- A prime: no number between 1 and it divides it. Every non-zero residue has an inverse; so a walk
+-- by any step visits every residue, each once.
 use mathlib.Core.Path.{_≡_, refl, sym, ap, _∙_}
 use mathlib.Core.Bool.{Bool, true, _&&_, _||_, not, false≢true}
 use mathlib.Core.Logic.{_⊎_, inl, inr, ⊎-elim}

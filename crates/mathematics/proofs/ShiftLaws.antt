@@ -1,5 +1,7 @@
--- Finite sums over a range that is turned round: shifted mod p, reversed, reflected mod p; sums with a factor, sums with one term marked, and 0/1 of two flags.
--- A map of [0, n) with an inverse there leaves a sum as it is, and a reflection is a reversal followed by a shift.
+-- Finite sums over a range that is turned round: shifted mod p, reversed, reflected mod p; sums
+-- with a factor, sums with one term marked, and 0/1 of two flags.
+-- A map of [0, n) with an inverse there leaves a sum as it is, and a reflection is a reversal
+-- followed by a shift.
 use mathlib.Core.Path.{_≡_, refl, sym, ap, _∙_}
 use mathlib.Core.Bool.{Bool, true, false, _&&_, _||_, not}
 use Prim.Native.Nat.{ℕ, _+_, _-_, _*_, _%_, _<_}

@@ -1,4 +1,5 @@
--- Tests of numbers: two tests are the same flag where the facts that they test follow from one another.
+-- Tests of numbers: two tests are the same flag where the facts that they test follow from one
+-- another.
 use mathlib.Core.Path.{_≡_, refl, sym, ap₂}
 use mathlib.Core.Bool.{Bool, false, _&&_, _||_}
 use mathlib.Core.Logic.{⊎-elim}

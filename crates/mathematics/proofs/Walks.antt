@@ -1,4 +1,5 @@
--- A walk over consecutive numbers: a list that has one number for each of them. Its length, its elements, its last element apart, a bound.
+-- A walk over consecutive numbers: a list that has one number for each of them. Its length, its
+-- elements, its last element apart, a bound.
 use mathlib.Core.Path.{_≡_, sym, ap, ap₂, _∙_}
 use mathlib.Core.Bool.{true}
 use mathlib.Core.List.{List, [], _∷_, _++_}

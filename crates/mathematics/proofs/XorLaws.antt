@@ -1,4 +1,5 @@
--- XOR of bytes: `xorFrom` is the machine's XOR on numbers of that many digits; it is commutative, associative, has 0 and undoes itself; and so for lists of bytes.
+-- XOR of bytes: `xorFrom` is the machine's XOR on numbers of that many digits; it is commutative,
+-- associative, has 0 and undoes itself; and so for lists of bytes.
 use mathlib.Core.Path.{_≡_, refl, sym, ap, ap₂, _∙_}
 use mathlib.Core.List.{List, [], _∷_}
 use mathlib.Core.Bool.{Bool, true, _&&_}

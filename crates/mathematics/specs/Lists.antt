@@ -11,9 +11,9 @@ isIn x [] = false
 isIn x (y ∷ ys) = eqb x y || isIn x ys
 
 -- ys with those of xs that it lacks
-unfoldable pub added : List ℕ → List ℕ → List ℕ
-added [] ys = ys
-added (x ∷ xs) ys = added xs (pick (isIn x ys) ys (x ∷ ys))
+unfoldable pub union : List ℕ → List ℕ → List ℕ
+union [] ys = ys
+union (x ∷ xs) ys = union xs (pick (isIn x ys) ys (x ∷ ys))
 
 -- no number stands twice in the list
 abbrev pub distinct : List ℕ → Bool

@@ -1,4 +1,5 @@
--- Finite sums over [0, n) and over a list, the ones of a list, a test of all numbers below n, and the first that passes one.
+-- Finite sums over [0, n) and over a list, the ones of a list, a test of all numbers below n, and
+-- the first that passes one.
 use mathlib.Core.Bool.{Bool, true, _&&_}
 use mathlib.Core.List.{List, [], _∷_}
 use Prim.Native.Nat.{ℕ, zero, suc, _+_}

@@ -1,3 +1,3 @@
 -- What writing and rebuilding a server promise.
 pub mod Says
-pub mod mends
+pub mod Turns

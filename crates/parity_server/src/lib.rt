@@ -1,7 +1,9 @@
-// A parity server for several servers, whose stripes lie one after another: the extra stripe written as the XOR of the others, and any one server rebuilt from the others, whose lost disks are mended first.
+// A parity server for several servers, whose stripes lie one after another: the extra stripe
+// written as the XOR of the others, and any one server rebuilt from the others, whose lost disks
+// are mended first.
 mod limits;
 mod losses;
-pub mod mends;
+mod mends;
 mod sums;
 
 ghost use mathlib.Core.Path.{_≡_};
@@ -10,7 +12,7 @@ use refusals::Answer;
 use refusals::Shape;
 
 // The refusal of a rebuild, 0 for none: all of it is tested before a byte is written.
-fn rebuild_fault(
+fn rebuild_refusal(
     width: usize,
     disks: usize,
     size: usize,
@@ -21,34 +23,36 @@ fn rebuild_fault(
 ) -> u8
     ensures { λ r. ⌜ r ≡ rebuildTests width disks size servers lost long (now (losses .entry)) ⌝ }
 {
-    let call = limits::call_fault(width, disks, size, servers, lost, long);
+    let call = limits::call_refusal(width, disks, size, servers, lost, long);
     if call != 0 {
         return call;
     }
-    let pairs = refusals::length_fault(losses.len(), 2 * (servers + 1));
+    let pairs = refusals::length_refusal(losses.len(), 2 * (servers + 1));
     if pairs != 0 {
         return pairs;
     }
-    losses::losses_fault(disks, servers, lost, losses)
+    losses::losses_refusal(disks, servers, lost, losses)
 }
 
-// Writes the extra server's stripe. Refusals: 1, 13, 2, 18, 5; a refused call leaves the stripes as they were.
+// Writes the extra server's stripe. Refusals: 1, 13, 2, 18, 5; a refused call leaves the stripes as
+// they were.
 pub fn write_server(shape: Shape, servers: usize, stripes: &mut [u8]) -> Answer
     ensures { λ r. ⌜ WriteServerSays (shape .width) (shape .disks) (shape .«cell_size») servers (now (stripes .entry)) (now (stripes .exit)) r ⌝ }
 {
     let width = shape.width;
     let disks = shape.disks;
     let size = shape.cell_size;
-    let fault = limits::call_fault(width, disks, size, servers, servers, stripes.len());
-    if fault != 0 {
-        return refusals::answered(fault);
+    let refusal = limits::call_refusal(width, disks, size, servers, servers, stripes.len());
+    if refusal != 0 {
+        return refusals::answered(refusal);
     }
     let long = (disks + 2) * (width * size);
     sums::solve_server(long, servers, servers, stripes);
     refusals::answered(0)
 }
 
-// Rebuilds a lost server from the others, whose losses are mended first. Refusals: 1, 13, 2, 18, 5, 3, 4; a refused call leaves the stripes as they were.
+// Rebuilds a lost server from the others, whose losses are mended first. Refusals: 1, 13, 2, 18, 5,
+// 3, 4; a refused call leaves the stripes as they were.
 pub fn rebuild_server(
     shape: Shape,
     servers: usize,
@@ -61,9 +65,9 @@ pub fn rebuild_server(
     let width = shape.width;
     let disks = shape.disks;
     let size = shape.cell_size;
-    let fault = rebuild_fault(width, disks, size, servers, lost, stripes.len(), losses);
-    if fault != 0 {
-        return refusals::answered(fault);
+    let refusal = rebuild_refusal(width, disks, size, servers, lost, stripes.len(), losses);
+    if refusal != 0 {
+        return refusals::answered(refusal);
     }
     mends::mend_all(width, disks, size, servers, lost, stripes, losses);
     let long = (disks + 2) * (width * size);

@@ -3,12 +3,13 @@ ghost use mathlib.Core.Path.{_≡_};
 ghost use mathlib.Core.Bool.{not};
 ghost use lib.Dec.{eqb};
 ghost use Rattle.mathematics.specs.Choice.{when, firstOf};
-ghost use Rattle.liberation.specs.Sets.{shapeFault};
-ghost use Rattle.liberation.specs.parity_server.Servers.{serversLong, serverFault};
+ghost use Rattle.liberation.specs.Sets.{shapeRefusal};
+ghost use Rattle.liberation.specs.parity_server.Servers.{serversLong, serverRefusal};
 
-// The refusal of the number of servers, and of a server, by 18, 0 for none. The extra server's number is as many as the others are.
-fn server_fault(servers: usize, server: usize) -> u8
-    ensures { λ r. ⌜ r ≡ serverFault servers server ⌝ }
+// The refusal of the number of servers, and of a server, by 18, 0 for none. The extra server's
+// number is as many as the others are.
+fn server_refusal(servers: usize, server: usize) -> u8
+    ensures { λ r. ⌜ r ≡ serverRefusal servers server ⌝ }
 {
     if servers < 2 {
         return 18;
@@ -20,7 +21,7 @@ fn server_fault(servers: usize, server: usize) -> u8
 }
 
 // The refusal of either call on stripes of `long` bytes in all, by 1, 13, 2, 18 or 5, 0 for none.
-pub fn call_fault(
+pub fn call_refusal(
     width: usize,
     disks: usize,
     size: usize,
@@ -28,15 +29,15 @@ pub fn call_fault(
     server: usize,
     long: usize,
 ) -> u8
-    ensures { λ r. ⌜ r ≡ firstOf (shapeFault width disks size) (firstOf (serverFault servers server) (when (not (eqb long (serversLong width disks size servers))) 5)) ⌝ }
+    ensures { λ r. ⌜ r ≡ firstOf (shapeRefusal width disks size) (firstOf (serverRefusal servers server) (when (not (eqb long (serversLong width disks size servers))) 5)) ⌝ }
 {
-    let shape = refusals::shape_fault(width, disks, size);
+    let shape = refusals::shape_refusal(width, disks, size);
     if shape != 0 {
         return shape;
     }
-    let number = server_fault(servers, server);
+    let number = server_refusal(servers, server);
     if number != 0 {
         return number;
     }
-    refusals::length_fault(long, (servers + 1) * ((disks + 2) * (width * size)))
+    refusals::length_refusal(long, (servers + 1) * ((disks + 2) * (width * size)))
 }

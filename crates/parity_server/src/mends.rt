@@ -1,10 +1,11 @@
-// The lost disks of several servers rebuilt, each server's in its part of the slice of all stripes: one by our plan and two by the walk.
+// The lost disks of several servers rebuilt, each server's in its part of the slice of all stripes:
+// one by our plan and two by the walk.
 ghost use mathlib.Core.Path.{_≡_};
 ghost use Prim.Native.Nat.{_+_};
-ghost use Rattle.liberation.specs.parity_server.Servers.{pairFault, mended, mendedTurn, mendedAll};
-ghost use Rattle.liberation.specs.parity_server.Claims.{Given, GivenLosses};
-ghost use Rattle.liberation.specs.stripes.Limits.{Sized};
-ghost use Rattle.parity_server.specs.mends.Turns.{onlyLoss, Turn};
+ghost use Rattle.liberation.specs.parity_server.Servers.{pairRefusal, mended, mendedTurn, mendedAll};
+ghost use Rattle.liberation.specs.parity_server.ServerClaims.{Given, GivenLosses};
+ghost use Rattle.liberation.specs.stripes.StripeLimits.{Sized};
+ghost use Rattle.parity_server.specs.Turns.{onlyLoss, Turn};
 
 // The one lost disk of a stripe, 255 if none is lost or two are.
 fn only_loss(first: usize, second: usize) -> usize
@@ -26,7 +27,7 @@ fn mend_server(
     stripe: &mut [u8],
 )
     requires { ⌜ Sized width disks size (now stripe) ⌝ }
-    requires { ⌜ pairFault disks first second ≡ 0 ⌝ }
+    requires { ⌜ pairRefusal disks first second ≡ 0 ⌝ }
     ensures { λ _. ⌜ now (stripe .exit) ≡ mended width disks size first second (now (stripe .entry)) ⌝ }
 {
     let disk = only_loss(first, second);

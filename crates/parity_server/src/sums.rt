@@ -1,4 +1,5 @@
-// The XOR of the stripes of several servers, which lie one after another: a server's stripe becomes that of all others.
+// The XOR of the stripes of several servers, which lie one after another: a server's stripe becomes
+// that of all others.
 ghost use mathlib.Core.Path.{_≡_};
 ghost use mathlib.Core.List.{[], _∷_};
 ghost use Prim.Native.Nat.{_+_, _*_, _≤_, _<_};
@@ -7,7 +8,7 @@ ghost use lib.ListN.{length};
 ghost use Rattle.mathematics.specs.Choice.{pick};
 ghost use Rattle.liberation.specs.stripes.Stripes.{without, solved};
 ghost use Rattle.liberation.specs.parity_server.Servers.{upTo};
-ghost use Rattle.stripe_cells.specs.offsets.Offsets.{scaled, Pushed};
+ghost use Rattle.stripe_cells.specs.Offsets.{scaled, Pushed};
 
 // A list with room for the stripes of all servers.
 fn no_servers() -> [usize; 17]
@@ -16,7 +17,8 @@ fn no_servers() -> [usize; 17]
     [0; 17]
 }
 
-// The offset of server i's stripe of `long` bytes, after the first `count` numbers of a list, but none for the server left out; the new count.
+// The offset of server i's stripe of `long` bytes, after the first `count` numbers of a list, but
+// none for the server left out; the new count.
 fn push_server(long: usize, out: usize, i: usize, at: &mut [usize], count: usize) -> usize
     requires { ⌜ (long ≤ 4190208) × (i ≤ 16) × (count < length (now at)) ⌝ }
     ensures { λ r. ⌜ Pushed (now (at .entry)) (now (at .exit)) count r (scaled long (pick (eqb out i) [] (i ∷ []))) ⌝ }

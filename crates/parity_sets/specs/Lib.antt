@@ -1,1 +1,1 @@
-pub mod marks
+pub mod Marks

@@ -1,6 +1,6 @@
-// The parity sets of the code as functions: the cells of a set one by one, and marks of the cells that a plan reads.
-// The sets of the code as functions: the cells of a set one by one.
-pub mod marks;
+// The parity sets of the code as functions: the cells of a set one by one, and marks of the cells
+// that a plan reads.
+mod marks;
 
 pub use marks::mark_set;
 pub use marks::no_marks;
@@ -12,7 +12,8 @@ ghost use Rattle.liberation.specs.Sets.{diskAt, extraDisk, setOf};
 ghost use Rattle.liberation.specs.Plans.{diagonalOf, secondRow};
 ghost use Rattle.liberation.specs.Limits.{InArray};
 
-// The disk of the extra cell of diagonal `number`: the width less twice the number, which goes round the width at most once, so no remainder is taken.
+// The disk of the extra cell of diagonal `number`: the width less twice the number, which goes
+// round the width at most once, so no remainder is taken.
 pub fn extra_disk(width: usize, number: usize) -> usize
     requires { ⌜ (width ≤ 31) × (number < width) ⌝ }
     ensures { λ r. ⌜ r ≡ extraDisk width number ⌝ }
@@ -34,7 +35,8 @@ pub fn next_row(width: usize, row: usize) -> usize
     if next == width { 0 } else { next }
 }
 
-// The row of diagonal `number` on a data disk: it goes round the width at most once, so no remainder is taken.
+// The row of diagonal `number` on a data disk: it goes round the width at most once, so no
+// remainder is taken.
 pub fn row_on(width: usize, number: usize, disk: usize) -> usize
     requires { ⌜ (width ≤ 31) × (number < width) × (disk ≤ width + 3) ⌝ }
     ensures { λ r. ⌜ (disk ≤ width → r ≡ (number + disk) % width) ⌝ }
@@ -43,7 +45,8 @@ pub fn row_on(width: usize, number: usize, disk: usize) -> usize
     if row < width { row } else { row - width }
 }
 
-// The number of the diagonal that has a data disk's cell of this row as an ordinary cell: the row less the disk, round the width.
+// The number of the diagonal that has a data disk's cell of this row as an ordinary cell: the row
+// less the disk, round the width.
 pub fn diagonal_of(width: usize, disk: usize, row: usize) -> usize
     requires { ⌜ (width ≤ 31) × (row < width) × (disk ≤ width) ⌝ }
     ensures { λ r. ⌜ r ≡ diagonalOf width disk row ⌝ }
@@ -78,7 +81,8 @@ pub fn on_disk(width: usize, disk: usize, cell: usize) -> bool
     cell - first < width
 }
 
-// How many cells a set has: one of each data disk and a parity cell, and for some diagonals the extra cell.
+// How many cells a set has: one of each data disk and a parity cell, and for some diagonals the
+// extra cell.
 pub fn set_size(width: usize, disks: usize, kind: usize, number: usize) -> usize
     requires { ⌜ InArray width disks × (number < width) ⌝ }
     ensures { λ r. ⌜ r ≡ length (setOf width disks kind number) ⌝ }
@@ -96,7 +100,8 @@ pub fn set_size(width: usize, disks: usize, kind: usize, number: usize) -> usize
     }
 }
 
-// The place of a set's cell, cells counted from 0: data disks upward, the parity cell, the extra cell. `row` is the row of a diagonal's cell on data disk `at`, so no remainder is taken.
+// The place of a set's cell, cells counted from 0: data disks upward, the parity cell, the extra
+// cell. `row` is the row of a diagonal's cell on data disk `at`, so no remainder is taken.
 pub fn cell_in_row(
     width: usize,
     disks: usize,

@@ -6,7 +6,7 @@ ghost use lib.ListN.{length};
 ghost use Rattle.liberation.specs.Sets.{setOf, survivingIn};
 ghost use Rattle.liberation.specs.Plans.{marksFrom};
 ghost use Rattle.liberation.specs.Limits.{InArray};
-ghost use Rattle.parity_sets.specs.marks.Marks.{Marked};
+ghost use Rattle.parity_sets.specs.Marks.{Marked};
 
 // Marks for every cell of the widest array, none marked.
 pub fn no_marks() -> [u8; 1023]

@@ -1,5 +1,5 @@
 pub mod form
-pub mod judged
-pub mod numbers
-pub mod plain
-pub mod reader
+pub mod NumberSays
+pub mod ReaderSays
+pub mod JudgeTextSays
+pub mod PlainTextSays

@@ -1,5 +1,5 @@
 // The judge of a plan that is a text from the host.
-ghost use Rattle.plan_texts.specs.judged.Says.{JudgeTextSays};
+ghost use Rattle.plan_texts.specs.JudgeTextSays.{JudgeTextSays};
 use super::reader;
 use judge::Judged;
 
@@ -7,10 +7,10 @@ use judge::Judged;
 pub fn judge_text(width: usize, disks: usize, lost: usize, text: &[u8]) -> Judged
     ensures { λ r. ⌜ JudgeTextSays width disks lost (now (text .entry)) r ⌝ }
 {
-    let fault = refusals::plan_fault(width, disks, lost);
-    if fault != 0 {
+    let refusal = refusals::plan_refusal(width, disks, lost);
+    if refusal != 0 {
         return Judged {
-            answer: refusals::answered(fault),
+            answer: refusals::answered(refusal),
             reads: 0,
         };
     }

@@ -1,5 +1,7 @@
-// The fields of a line in a text from the host that are no numbers: the letter between its commas and the line end, each at a place of a lent slice.
-// A number has at most three digits and a line at most 11 bytes, so no place that is read lies past 400.
+// The fields of a line in a text from the host that are no numbers: the letter between its commas
+// and the line end, each at a place of a lent slice.
+// A number has at most three digits and a line at most 11 bytes, so no place that is read lies past
+// 400.
 ghost use mathlib.Core.Path.{_≡_};
 ghost use Prim.Native.Nat.{_≤_};
 ghost use lib.ListN.{drop};

@@ -1,9 +1,10 @@
 // The numbers of a line in a text from the host, each at a place of a lent slice.
-// A number has at most three digits and a line at most 11 bytes, so no place that is read lies past 400.
+// A number has at most three digits and a line at most 11 bytes, so no place that is read lies past
+// 400.
 ghost use mathlib.Core.Path.{_≡_};
 ghost use Prim.Native.Nat.{_≤_};
 ghost use Rattle.plan_texts.specs.form.Reading.{isDigit};
-ghost use Rattle.plan_texts.specs.numbers.Says.{MadeNumber, NumberAt};
+ghost use Rattle.plan_texts.specs.NumberSays.{MadeNumber, NumberAt};
 
 // A number in a text: whether there is one, its value, and the place after its digits.
 pub struct Number {

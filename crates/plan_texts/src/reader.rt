@@ -1,11 +1,12 @@
-// A plan as text from the host, read from a lent slice: the names line, then p lines of values, each line ended by LF or CR LF.
+// A plan as text from the host, read from a lent slice: the names line, then p lines of values,
+// each line ended by LF or CR LF.
 ghost use mathlib.Core.Path.{_≡_};
 ghost use mathlib.Core.Bool.{false, _&&_};
 ghost use Prim.Native.Nat.{_≤_};
 ghost use lib.ListN.{take, replicate};
 ghost use Rattle.mathematics.specs.Lists.{same};
 ghost use Rattle.plan_texts.specs.form.Reading.{names};
-ghost use Rattle.plan_texts.specs.reader.Says.{LineAt, LinesSay, ParseSays};
+ghost use Rattle.plan_texts.specs.ReaderSays.{LineAt, LinesSay, ParseSays};
 use super::letters;
 use super::numbers;
 
@@ -18,7 +19,8 @@ pub struct Line {
     pub next: usize,
 }
 
-// What was read of a text: whether it is a plan's, and the plan as three bytes a step, with zeros after them.
+// What was read of a text: whether it is a plan's, and the plan as three bytes a step, with zeros
+// after them.
 pub struct Parsed {
     pub ok: bool,
     pub plan: [u8; 93],

@@ -1,4 +1,5 @@
-// The one plain form of a plan, written into a lent slice: the names line, then a line for each step.
+// The one plain form of a plan, written into a lent slice: the names line, then a line for each
+// step.
 ghost use mathlib.Core.Path.{_≡_};
 ghost use mathlib.Core.Bool.{true};
 ghost use Prim.Native.Nat.{_+_, _*_, _≤_};

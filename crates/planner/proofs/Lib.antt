@@ -1,4 +1,15 @@
 pub mod MarkingLoop
 pub mod PlanAnswers
 pub mod FormLaws
-pub mod MeansLaws
+pub mod PlanMeans
+pub mod ProgressionSteps
+pub mod ReliefStepLaws
+pub mod ReadListMeans
+pub mod ListAnswers
+pub mod StepRecord
+pub mod HeldLaws
+pub mod SquareSteps
+pub mod ReliefLaws
+pub mod BalancedLaws
+pub mod RouteLaws
+pub mod PlannedLaws

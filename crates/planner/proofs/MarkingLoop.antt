@@ -5,14 +5,15 @@ use Prim.Native.Nat.{ℕ, suc, _+_, _*_, _≤_, _<_}
 use native.Mathlib.Numerals.{add-one}
 use native.Mathlib.Omega.{arith}
 use lib.ListN.{length, drop, drop-of-length-le}
-use Rattle.mathematics.specs.Lists.{added}
+use Rattle.mathematics.specs.Lists.{union}
 use Rattle.liberation.specs.Sets.{setOf, survivingIn}
 use Rattle.liberation.specs.Plans.{Step, readFrom, cellsRead, readCount, marksFrom, listOf}
 use Rattle.liberation.proofs.SetLaws.{survivors-below}
-use Rattle.parity_sets.specs.marks.Marks.{Marked}
-use Rattle.parity_sets.proofs.marks.MarkLaws.{marked-read, marked-few}
+use Rattle.parity_sets.specs.Marks.{Marked}
+use Rattle.parity_sets.proofs.MarkLaws.{marked-read, marked-few}
 
--- The loop over the steps: after i of them the marks stand for the cells read so far, and `reads` counts them.
+-- The loop over the steps: after i of them the marks stand for the cells read so far, and `reads`
+-- counts them.
 pub record Reading (p k f : ℕ) (ss : List Step) (m : List ℕ) (reads i : ℕ) : Type 0 where
   pub within : i ≤ length ss
   pub cells : List ℕ
@@ -31,11 +32,11 @@ reading-turn p k f ss m m′ reads i r a split l n u d =
     let q = marked-read (p * (k + 2)) xs (u .cells) m m′ r (survivors-below p k f (a .kind) (a .number) n) (u .marks) d in
     record {
       within = omega arith;
-      cells = added xs (u .cells);
+      cells = union xs (u .cells);
       marks = q .0;
       count = omega (arith, q .1, u .count);
       few = omega (arith, u .few, marked-few p k f (a .kind) (a .number) d);
-      rest = ap (λ (j : ℕ). readFrom p k f (drop j ss) (added xs (u .cells))) (add-one i) ∙ sym (ap (λ (y : List Step). readFrom p k f y (u .cells)) split) ∙ u .rest;
+      rest = ap (λ (j : ℕ). readFrom p k f (drop j ss) (union xs (u .cells))) (add-one i) ∙ sym (ap (λ (y : List Step). readFrom p k f y (u .cells)) split) ∙ u .rest;
     }
 
 pub reading-end : (p k f : ℕ) (ss : List Step) (m : List ℕ) (reads i : ℕ) → length ss ≤ i → Reading p k f ss m reads i → (reads ≡ readCount p k f ss) × (m ≡ listOf p k f ss)

@@ -9,11 +9,11 @@ use Rattle.liberation.specs.Plans.{Step, readCount}
 use Rattle.refusals.specs.Answers.{Answers}
 use Rattle.refusals.proofs.AnswerLaws.{answers-as}
 use Rattle.planner.specs.declared.records.Steps.{Steps}
-use Rattle.planner.specs.records.Records.{Holds, held}
+use Rattle.planner.specs.StepRecords.{Holds, held}
 use Rattle.planner.specs.declared.steps.Planned.{Planned}
-use Rattle.planner.proofs.steps.PlannedLaws.{held-as}
+use Rattle.planner.proofs.PlannedLaws.{held-as}
 use Rattle.planner.specs.declared.Plan.{Plan}
-use Rattle.planner.specs.Says.{Finished, NoPlan, GivesPlan}
+use Rattle.planner.specs.PlanSays.{Finished, NoPlan, GivesPlan}
 
 -- an accepted call
 pub plan-gives : (p k f n : ℕ) (ss : List Step) (w : ℕ) (r : Plan) (q : Planned) → n ≡ 0 → Answers 0 (q .answer) → Holds ss (q .steps) → q .routes ≡ w → held p (q .steps) ≡ ss → Finished p k f q r → GivesPlan p k f n ss w r

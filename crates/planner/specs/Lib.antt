@@ -1,12 +1,12 @@
 -- What the planner promises.
-pub mod Says
-pub mod balanced
-pub mod balanced_record
-pub mod balanced_routes
-pub mod reads
-pub mod records
-pub mod relief
-pub mod relief_record
+pub mod PlanSays
 pub mod relief_routes
-pub mod routes
-pub mod steps
+pub mod ReliefStepsSays
+pub mod ReadListSays
+pub mod StepRecords
+pub mod SquareRoutes
+pub mod BalancedPlanSays
+pub mod ReliefPlanSays
+pub mod BalancedStepsSays
+pub mod RouteRecords
+pub mod PlanStepsSays

@@ -1,7 +1,8 @@
-// The balanced plan for one lost disk, its reads not counted: the steps and the routes, as a rebuild takes them.
+// The balanced plan for one lost disk, its reads not counted: the steps and the routes, as a
+// rebuild takes them.
 ghost use Prim.Native.Nat.{_+_, _≤_};
 ghost use Rattle.liberation.specs.Limits.{InArray};
-ghost use Rattle.planner.specs.balanced_record.Says.{BalancedPlanned};
+ghost use Rattle.planner.specs.BalancedStepsSays.{BalancedPlanned};
 use super::balanced_routes;
 use super::records;
 use super::steps;

@@ -1,16 +1,19 @@
-// The routes of the balanced plan for a lost data disk: the rows that are a square above the start row take a diagonal. The next square is reached by an addition, (n + 1)² = n² + 2n + 1, with the width subtracted where it is reached.
+// The routes of the balanced plan for a lost data disk: the rows that are a square above the start
+// row take a diagonal. The next square is reached by an addition, (n + 1)² = n² + 2n + 1, with the
+// width subtracted where it is reached.
 ghost use mathlib.Core.Path.{_≡_};
 ghost use mathlib.Core.Bool.{true};
 ghost use Prim.Native.Nat.{_-_, _/_, _≤_, _<_};
 ghost use Rattle.liberation.specs.Sets.{isWidth};
 ghost use Rattle.liberation.specs.balanced_plan.Balanced.{minusSquare, balancedStart, balancedRoutes};
-ghost use Rattle.planner.specs.routes.Records.{RoutesAre};
-ghost use Rattle.planner.specs.balanced_routes.SquareRoutes.{squareRoutes};
+ghost use Rattle.planner.specs.RouteRecords.{RoutesAre};
+ghost use Rattle.planner.specs.SquareRoutes.{squareRoutes};
 use super::relief_routes;
 use super::routes;
 use super::routes::Routes;
 
-// 1 if -1 is a square modulo the width, else 0: the first where the width is 1 more than a multiple of 4.
+// 1 if -1 is a square modulo the width, else 0: the first where the width is 1 more than a multiple
+// of 4.
 fn minus_square(width: usize) -> usize
     requires { ⌜ isWidth width ≡ true ⌝ }
     ensures { λ r. ⌜ r ≡ minusSquare width ⌝ }
@@ -30,7 +33,8 @@ fn start_row(width: usize, disk: usize) -> usize
     relief_routes::half_of(width, (disk + width - 1 - turned) % width)
 }
 
-// The routes with a diagonal in the rows that are the square of 1, 2, .. (width - 1) / 2 above the start row.
+// The routes with a diagonal in the rows that are the square of 1, 2, .. (width - 1) / 2 above the
+// start row.
 pub fn square_routes(width: usize, start: usize) -> Routes
     requires { ⌜ (width ≤ 31) × (start < width) ⌝ }
     ensures { λ r. ⌜ RoutesAre width (squareRoutes width ((width - 1) / 2) width start 0) (r .routes) (r .word) ⌝ }

@@ -1,15 +1,16 @@
-// Our recovery plan for one lost disk: its routes, its steps, its read count and its read list; the balanced plan and the relief plan.
-// Our plan for one lost disk with its read count. Nothing here knows of bytes in stripes.
+// Our recovery plan for one lost disk: its routes, its steps, its read count and its read list; the
+// balanced plan and the relief plan.
+// Nothing here knows of bytes in stripes.
 mod balanced;
-pub mod balanced_record;
+mod balanced_record;
 mod balanced_routes;
-pub mod reads;
-pub mod records;
-pub mod relief;
+mod reads;
+mod records;
+mod relief;
 mod relief_record;
 mod relief_routes;
 mod routes;
-pub mod steps;
+mod steps;
 
 pub use balanced::balanced_plan;
 pub use balanced_record::balanced_steps;
@@ -26,8 +27,8 @@ ghost use Prim.Native.Nat.{_+_, _*_, _≤_};
 ghost use Rattle.liberation.specs.Limits.{InArray};
 ghost use Rattle.liberation.specs.Plans.{readCount, listOf, marksFrom};
 ghost use Rattle.liberation.specs.Judging.{accepted};
-ghost use Rattle.planner.specs.records.Records.{held};
-ghost use Rattle.planner.specs.Says.{Finished, NoPlan, PlanSays};
+ghost use Rattle.planner.specs.StepRecords.{held};
+ghost use Rattle.planner.specs.PlanSays.{Finished, NoPlan, PlanSays};
 use refusals::Answer;
 
 // A plan: the answer, the steps, a bit for each row that takes a diagonal, the read count.
@@ -92,9 +93,9 @@ pub fn refused_plan(refusal: u8) -> Plan
 pub fn plan_disk(width: usize, disks: usize, lost: usize) -> Plan
     ensures { λ r. ⌜ PlanSays width disks lost r ⌝ }
 {
-    let fault = refusals::plan_fault(width, disks, lost);
-    if fault != 0 {
-        return refused_plan(fault);
+    let refusal = refusals::plan_refusal(width, disks, lost);
+    if refusal != 0 {
+        return refused_plan(refusal);
     }
     let p = steps::our_plan(width, disks, lost);
     finished(width, disks, lost, p)

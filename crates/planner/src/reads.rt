@@ -1,7 +1,7 @@
 // The read list of our plan for one lost disk. Nothing here knows of bytes in stripes.
 ghost use mathlib.Core.Path.{_≡_};
 ghost use lib.ListN.{length, replicate};
-ghost use Rattle.planner.specs.reads.Says.{ListSays};
+ghost use Rattle.planner.specs.ReadListSays.{ListSays};
 use super::steps;
 use refusals::Answer;
 
@@ -20,9 +20,9 @@ pub fn clear(list: &mut [u8])
 pub fn read_list(width: usize, disks: usize, lost: usize, list: &mut [u8]) -> Answer
     ensures { λ r. ⌜ ListSays width disks lost (now (list .entry)) (now (list .exit)) r ⌝ }
 {
-    let fault = refusals::plan_fault(width, disks, lost);
-    if fault != 0 {
-        return refusals::answered(fault);
+    let refusal = refusals::plan_refusal(width, disks, lost);
+    if refusal != 0 {
+        return refusals::answered(refusal);
     }
     if list.len() != width * (disks + 2) {
         return refusals::answered(5);

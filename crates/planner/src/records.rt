@@ -1,11 +1,13 @@
-// The steps of a plan in a record of three arrays: those of a data disk by its routes, all sets of one kind for a parity disk, or none.
+// The steps of a plan in a record of three arrays: those of a data disk by its routes, all sets of
+// one kind for a parity disk, or none.
 ghost use mathlib.Core.List.{[], _++_};
 ghost use Prim.Native.Nat.{_≤_, _<_};
 ghost use lib.ListN.{take};
 ghost use Rattle.liberation.specs.Plans.{rowSteps, diagonalSteps, allOf};
-ghost use Rattle.planner.specs.records.Records.{Holds, Counts};
+ghost use Rattle.planner.specs.StepRecords.{Holds, Counts};
 
-// The steps of a plan, each with its row, its kind and its set number, in 31 places; zeros after the last.
+// The steps of a plan, each with its row, its kind and its set number, in 31 places; zeros after
+// the last.
 #[repr(C)]
 pub struct Steps {
     pub rows: [u8; 31],

@@ -1,12 +1,14 @@
-// The plan for a lost data disk that relieves a named survivor, its reads not counted: the steps and the routes, as a rebuild takes them.
+// The plan for a lost data disk that relieves a named survivor, its reads not counted: the steps
+// and the routes, as a rebuild takes them.
 ghost use Prim.Native.Nat.{_<_};
 ghost use Rattle.liberation.specs.Limits.{InArray};
-ghost use Rattle.planner.specs.relief_record.Says.{ReliefPlanned};
+ghost use Rattle.planner.specs.ReliefStepsSays.{ReliefPlanned};
 use super::records;
 use super::relief_routes;
 use super::steps::Planned;
 
-// The plan for a lost data disk of an array that is within its limits, relief another of its data disks.
+// The plan for a lost data disk of an array that is within its limits, relief another of its data
+// disks.
 pub fn relief_plan(width: usize, disks: usize, lost: usize, relieved: usize) -> Planned
     requires { ⌜ InArray width disks × (lost < disks) × (relieved < disks) ⌝ }
     ensures { λ r. ⌜ ReliefPlanned width disks lost relieved r ⌝ }

@@ -1,9 +1,10 @@
-// The routes of a progression plan for a lost data disk, and of the one that relieves a named survivor. Row follows row by an addition, with the width subtracted where it is reached.
+// The routes of a progression plan for a lost data disk, and of the one that relieves a named
+// survivor. Row follows row by an addition, with the width subtracted where it is reached.
 ghost use mathlib.Core.Path.{_≡_};
 ghost use Prim.Native.Nat.{_+_, _≤_, _<_, _%_};
 ghost use Rattle.liberation.specs.Plans.{secondRow};
 ghost use Rattle.liberation.specs.relief_plan.Relief.{startRow, progressionRoutes, reliefStep, reliefRoutes};
-ghost use Rattle.planner.specs.routes.Records.{RoutesAre};
+ghost use Rattle.planner.specs.RouteRecords.{RoutesAre};
 use super::routes;
 use super::routes::Routes;
 
@@ -36,7 +37,8 @@ pub fn next_row(width: usize, row: usize, step: usize) -> usize
     next - width
 }
 
-// The routes of the progression plan with this step: half of the other rows take a diagonal, each a step from the one before.
+// The routes of the progression plan with this step: half of the other rows take a diagonal, each a
+// step from the one before.
 pub fn progression_routes(width: usize, disk: usize, step: usize) -> Routes
     requires { ⌜ (width ≤ 31) × (width % 2 ≡ 1) × (disk < width) × (step < width) ⌝ }
     ensures { λ r. ⌜ RoutesAre width (progressionRoutes width disk step) (r .routes) (r .word) ⌝ }
@@ -58,7 +60,8 @@ pub fn progression_routes(width: usize, disk: usize, step: usize) -> Routes
     }
 }
 
-// The routes for a lost data disk that relieve another: the step is twice the way from the lost disk to it.
+// The routes for a lost data disk that relieve another: the step is twice the way from the lost
+// disk to it.
 pub fn relief_routes(width: usize, disk: usize, relieved: usize) -> Routes
     requires { ⌜ (width ≤ 31) × (width % 2 ≡ 1) × (disk < width) × (relieved < width) ⌝ }
     ensures { λ r. ⌜ RoutesAre width (reliefRoutes width disk relieved) (r .routes) (r .word) ⌝ }

@@ -1,12 +1,15 @@
-// The route of each row of a lost data disk, a row set or a diagonal, with the rows that take a diagonal as a word. Routes depend on the width and the disk alone, not on the number of data disks.
+// The route of each row of a lost data disk, a row set or a diagonal, with the rows that take a
+// diagonal as a word. Routes depend on the width and the disk alone, not on the number of data
+// disks.
 ghost use mathlib.Core.Path.{_≡_};
 ghost use Prim.Native.Nat.{_%_, _^_, _≤_, _<_};
 ghost use lib.ListN.{length, getD, take};
 ghost use lib.Bits.{bitOr};
 ghost use Rattle.liberation.specs.Plans.{firstRoutes, decided, turned, routes, wordFrom};
-ghost use Rattle.planner.specs.routes.Records.{RoutesAre};
+ghost use Rattle.planner.specs.RouteRecords.{RoutesAre};
 
-// A route for each row: 0 undecided, 1 its row set, 2 a diagonal; and the rows with a diagonal as a word.
+// A route for each row: 0 undecided, 1 its row set, 2 a diagonal; and the rows with a diagonal as a
+// word.
 pub struct Routes {
     pub routes: [u8; 31],
     pub word: u32,
@@ -42,7 +45,8 @@ fn first_routes(width: usize, disk: usize) -> Routes
     }
 }
 
-// An undecided row takes its row set if its partner is itself or has a diagonal, else a diagonal, and its partner the row set. The new word is returned.
+// An undecided row takes its row set if its partner is itself or has a diagonal, else a diagonal,
+// and its partner the row set. The new word is returned.
 fn decide(width: usize, disk: usize, row: usize, routes: &mut [u8; 31], word: u32) -> u32
     requires { ⌜ (width ≤ 31) × (disk < width) × (row < width) × (length (now routes) ≡ 31) × (word ≡ wordFrom 0 (take width (now routes))) × (getD (now routes) row 0 ≡ 0) ⌝ }
     ensures { λ r. ⌜ RoutesAre width (decided width disk row (take width (now (routes .entry)))) (now (routes .exit)) r ⌝ }

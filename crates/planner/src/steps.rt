@@ -1,9 +1,10 @@
-// Our plan for one lost disk, its reads not counted: the steps and the routes, as a rebuild takes them.
+// Our plan for one lost disk, its reads not counted: the steps and the routes, as a rebuild takes
+// them.
 ghost use mathlib.Core.Path.{_≡_};
 ghost use Prim.Native.Nat.{_+_, _-_, _^_, _≤_, _<_};
 ghost use Rattle.liberation.specs.Limits.{InArray};
 ghost use Rattle.refusals.specs.Answers.{Answers};
-ghost use Rattle.planner.specs.steps.Says.{OurPlan, PlannedSays, Refused};
+ghost use Rattle.planner.specs.PlanStepsSays.{OurPlan, PlannedSays, StepsRefused};
 use super::records;
 use super::records::Steps;
 use super::routes;
@@ -54,7 +55,7 @@ pub fn our_plan(width: usize, disks: usize, lost: usize) -> Planned
 
 // A refusal of the planner: every other field is zero.
 fn refused_plan(refusal: u8) -> Planned
-    ensures { λ r. ⌜ Refused refusal r ⌝ }
+    ensures { λ r. ⌜ StepsRefused refusal r ⌝ }
 {
     let steps = records::no_steps();
     Planned {
@@ -68,9 +69,9 @@ fn refused_plan(refusal: u8) -> Planned
 pub fn plan_steps(width: usize, disks: usize, lost: usize) -> Planned
     ensures { λ r. ⌜ PlannedSays width disks lost r ⌝ }
 {
-    let fault = refusals::plan_fault(width, disks, lost);
-    if fault != 0 {
-        return refused_plan(fault);
+    let refusal = refusals::plan_refusal(width, disks, lost);
+    if refusal != 0 {
+        return refused_plan(refusal);
     }
     our_plan(width, disks, lost)
 }

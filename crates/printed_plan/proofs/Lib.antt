@@ -3,3 +3,5 @@ pub mod TextLaws
 pub mod PrintedLaws
 pub mod LineLaws
 pub mod TextAnswers
+pub mod FormLaws
+pub mod InputLaws

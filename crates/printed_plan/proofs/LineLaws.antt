@@ -1,4 +1,5 @@
--- The loop that prints the steps of our plan: after i of them their lines are written and their cells marked, and with the lines still to come that is the whole text.
+-- The loop that prints the steps of our plan: after i of them their lines are written and their
+-- cells marked, and with the lines still to come that is the whole text.
 use mathlib.Core.Path.{_≡_, refl, sym, ap, _∙_}
 use mathlib.Core.Bool.{true}
 use mathlib.Core.List.{List, [], _++_, append-assoc, append-nil}
@@ -6,14 +7,14 @@ use Prim.Native.Nat.{ℕ, suc, _+_, _-_, _*_, _≤_, _<_}
 use native.Mathlib.Numerals.{add-one}
 use native.Mathlib.Omega.{arith}
 use lib.ListN.{length, getD, drop, length-append, drop-of-length-le}
-use Rattle.mathematics.specs.Lists.{added}
+use Rattle.mathematics.specs.Lists.{union}
 use Rattle.liberation.specs.Sets.{isWidth, setOf, survivingIn}
 use Rattle.liberation.specs.Plans.{Step, planOf, marksFrom}
 use Rattle.liberation.proofs.SetLaws.{survivors-below}
-use Rattle.parity_sets.specs.marks.Marks.{Marked}
-use Rattle.parity_sets.proofs.marks.MarkLaws.{marked-read}
+use Rattle.parity_sets.specs.Marks.{Marked}
+use Rattle.parity_sets.proofs.MarkLaws.{marked-read}
 use Rattle.planner.specs.declared.records.Steps.{Steps}
-use Rattle.planner.specs.records.Records.{Holds}
+use Rattle.planner.specs.StepRecords.{Holds}
 use Rattle.liberation.proofs.RecordLaws.{StepAt, step-at, plan-length, plan-passed, plan-number}
 use Rattle.printed_plan.specs.Text.{lineOf, newFrom, linesFrom}
 use Rattle.text.specs.Writing.{Wrote}
@@ -62,13 +63,13 @@ module _ (p f : ℕ) (ss : List Step) (i : ℕ) (a : StepAt ss i) where
   this = survivingIn p f (setOf p p (a .this .kind) (a .this .number))
 
   -- the next line, and those after it
-  next-line : (ys : List ℕ) (new : ℕ) → new + length ys ≡ length (added this ys) → linesFrom i (drop i ss) (newFrom p f ys (drop i ss)) ≡ lineOf i (a .this) new ++ linesFrom (i + 1) (drop (i + 1) ss) (newFrom p f (added this ys) (drop (i + 1) ss))
+  next-line : (ys : List ℕ) (new : ℕ) → new + length ys ≡ length (union this ys) → linesFrom i (drop i ss) (newFrom p f ys (drop i ss)) ≡ lineOf i (a .this) new ++ linesFrom (i + 1) (drop (i + 1) ss) (newFrom p f (union this ys) (drop (i + 1) ss))
   unfolding linesFrom newFrom
   next-line ys new e =
-      let q : length (added this ys) - length ys ≡ new = omega arith in
+      let q : length (union this ys) - length ys ≡ new = omega arith in
       ap (λ (x : List Step). linesFrom i x (newFrom p f ys x)) (a .split)
-      ∙ ap (λ (n : ℕ). lineOf i (a .this) n ++ linesFrom (suc i) (drop (suc i) ss) (newFrom p f (added this ys) (drop (suc i) ss))) q
-      ∙ ap (λ (j : ℕ). lineOf i (a .this) new ++ linesFrom j (drop j ss) (newFrom p f (added this ys) (drop j ss))) (sym (add-one i))
+      ∙ ap (λ (n : ℕ). lineOf i (a .this) n ++ linesFrom (suc i) (drop (suc i) ss) (newFrom p f (union this ys) (drop (suc i) ss))) q
+      ∙ ap (λ (j : ℕ). lineOf i (a .this) new ++ linesFrom j (drop j ss) (newFrom p f (union this ys) (drop j ss))) (sym (add-one i))
 
   pub printing-turn :
       {o o₁ o₂ m m′ : List ℕ} {at r s new : ℕ}
@@ -80,14 +81,14 @@ module _ (p f : ℕ) (ss : List Step) (i : ℕ) (a : StepAt ss i) where
   printing-turn {m = m} {m′ = m′} {new = new} n k d w =
       record {
         text = k .text ++ lineOf i (a .this) new;
-        cells = added this (k .cells);
+        cells = union this (k .cells);
         wrote = wrote-more (k .wrote) w;
         few = omega (arith, k .few, length-append (k .text) (lineOf i (a .this) new), line-most i (a .this) new);
         marks = read .0;
         rest = append-assoc (k .text) (lineOf i (a .this) new) _ ∙ ap (λ (x : List ℕ). k .text ++ x) (sym (next-line (k .cells) new (read .1))) ∙ k .rest;
       }
     where
-      read : (m′ ≡ marksFrom (p * (p + 2)) 0 (added this (k .cells))) × (new + length (k .cells) ≡ length (added this (k .cells)))
+      read : (m′ ≡ marksFrom (p * (p + 2)) 0 (union this (k .cells))) × (new + length (k .cells) ≡ length (union this (k .cells)))
       read = marked-read (p * (p + 2)) this (k .cells) m m′ new (survivors-below p p f (a .this .kind) (a .this .number) n) (k .marks) d
 
 pub printing-end : {p f : ℕ} {ss : List Step} {o o′ m : List ℕ} {at r i : ℕ} → length ss ≤ i → Printing p f ss o o′ m at r i → Wrote o o′ at r (linesFrom 0 ss (newFrom p f [] ss))

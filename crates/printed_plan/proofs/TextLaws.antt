@@ -1,4 +1,5 @@
--- The pieces that the writers put, joined to the texts of the definitions, and how long a line can be.
+-- The pieces that the writers put, joined to the texts of the definitions, and how long a line can
+-- be.
 use mathlib.Core.Path.{_≡_, sym, ap}
 use mathlib.Core.List.{List, [], _∷_, _++_, append-assoc}
 use Prim.Native.Nat.{ℕ, _≤_}
@@ -6,8 +7,8 @@ use native.Mathlib.Omega.{arith}
 use lib.ListN.{length, length-append}
 use Rattle.liberation.specs.Plans.{Step, step}
 use Rattle.text.specs.Digits.{digitsOf}
-use Rattle.text.specs.steps.Fields.{stepFields}
-use Rattle.text.proofs.steps.FieldLaws.{field-most, step-most}
+use Rattle.text.specs.Fields.{stepFields}
+use Rattle.text.proofs.FieldLaws.{field-most, step-most}
 use Rattle.printed_plan.specs.Text.{lineOf}
 
 -- the fields of a line

@@ -1,4 +1,4 @@
 -- The printed plan.
 pub mod Text
 pub mod Says
-pub mod input
+pub mod Input

@@ -3,7 +3,7 @@ ghost use mathlib.Core.Path.{_≡_};
 ghost use Prim.Native.Nat.{_+_, _≤_, _<_};
 ghost use lib.ListN.{length, drop};
 ghost use Rattle.text.specs.Writing.{Wrote};
-ghost use Rattle.printed_plan.specs.input.Input.{inputOf, valueTo, firstValue, secondValue, isForm};
+ghost use Rattle.printed_plan.specs.Input.{inputOf, valueTo, firstValue, secondValue, isForm};
 
 // Puts the input for two numbers.
 fn put_input(out: &mut [u8], at: usize, first: usize, second: usize) -> usize
@@ -47,7 +47,8 @@ pub fn second_value(text: &[u8]) -> usize
     }
 }
 
-// Is the input of its form? The two numbers are those that stand in it, and the input has to be theirs, byte for byte.
+// Is the input of its form? The two numbers are those that stand in it, and the input has to be
+// theirs, byte for byte.
 pub fn is_form(text: &[u8], first: usize, second: usize) -> bool
     requires { ⌜ (first ≡ firstValue (now text)) × (second ≡ secondValue (now text)) ⌝ }
     ensures { λ r. ⌜ r ≡ isForm (now (text .entry)) ⌝ }

@@ -1,5 +1,5 @@
 // The printed plan as text: the plan's lines or a refusal.
-pub mod input;
+mod input;
 
 ghost use mathlib.Core.Path.{_≡_};
 ghost use mathlib.Core.List.{[]};
@@ -7,14 +7,15 @@ ghost use Prim.Native.Nat.{_+_, _*_, _≤_, _<_};
 ghost use lib.ListN.{length, replicate};
 ghost use Rattle.liberation.specs.Limits.{InArray};
 ghost use Rattle.liberation.specs.Plans.{step, planOf, marksFrom};
-ghost use Rattle.planner.specs.records.Records.{Holds};
+ghost use Rattle.planner.specs.StepRecords.{Holds};
 ghost use Rattle.text.specs.Writing.{Wrote};
 ghost use Rattle.printed_plan.specs.Text.{lineOf, newFrom, linesFrom, planText, refusedLine};
 ghost use Rattle.printed_plan.specs.Says.{TextIs, TextSays};
 use planner::Steps;
 
 // A printed text: its bytes, zeros after them, and how many they are.
-// There is room for a head line of 24 bytes and 31 lines of 14: four numbers of two digits, four commas, a letter and LF. The longest text has 433.
+// There is room for a head line of 24 bytes and 31 lines of 14: four numbers of two digits, four
+// commas, a letter and LF. The longest text has 433.
 #[repr(C)]
 pub struct Text {
     pub bytes: [u8; 458],
@@ -48,7 +49,8 @@ fn put_refusal(out: &mut [u8], at: usize, number: usize) -> usize
     text::put_field(out, next, number, 10)
 }
 
-// Puts the lines of a plan's steps. A cell that a step reads is marked, so that the next steps count it no more.
+// Puts the lines of a plan's steps. A cell that a step reads is marked, so that the next steps
+// count it no more.
 fn put_steps(
     out: &mut [u8],
     at: usize,

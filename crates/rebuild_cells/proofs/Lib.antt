@@ -1,3 +1,8 @@
 -- The refusals, and the promise from what was refused or done.
 pub mod MendRefusals
 pub mod theory
+pub mod NamedLaws
+pub mod NumberedLaws
+pub mod MarkLoops
+pub mod WordLoops
+pub mod RowLoops

@@ -1,12 +1,13 @@
-// Missing cells as the unknowns of equations, one a set: the cells listed, and for each set the word of those that it holds.
+// Missing cells as the unknowns of equations, one a set: the cells listed, and for each set the
+// word of those that it holds.
 ghost use mathlib.Core.Path.{_≡_};
 ghost use Prim.Native.Nat.{ℕ, _+_, _*_, _^_, _<_, _≤_};
 ghost use lib.ListN.{length, getD};
 ghost use Rattle.liberation.specs.Limits.{InArray};
 ghost use Rattle.liberation.specs.Sets.{setOf};
 ghost use Rattle.rebuild_cells.specs.theory.Mending.{missingCells, setNumbered, wordOf, wordsFrom, powersFrom};
-ghost use Rattle.stripe_cells.specs.odd_marks.Toggled.{toggledAll};
-ghost use Rattle.rebuild_cells.specs.equations.Words.{marksWord};
+ghost use Rattle.stripe_cells.specs.Toggled.{toggledAll};
+ghost use Rattle.rebuild_cells.specs.Words.{marksWord};
 
 // How many marks are not 0.
 pub fn count_missing(missing: &[u8]) -> usize
@@ -41,7 +42,8 @@ pub fn list_missing(missing: &[u8], cells: &mut [usize])
     }
 }
 
-// Toggles the marks of the cells of a set. From cell to cell the row of a diagonal goes up by one and round.
+// Toggles the marks of the cells of a set. From cell to cell the row of a diagonal goes up by one
+// and round.
 fn toggle_cells(width: usize, disks: usize, kind: usize, number: usize, marks: &mut [u8])
     requires { ⌜ InArray width disks × (number < width) × (length (now marks) ≡ width * (disks + 2)) ⌝ }
     ensures { λ _. ⌜ now (marks .exit) ≡ toggledAll (setOf width disks kind number) (now (marks .entry)) ⌝ }
@@ -103,7 +105,8 @@ fn bit_of(b: usize) -> u64
     1u64 << b
 }
 
-// The equations of all sets in the cells of the list: for each set its word, and the bit of its number.
+// The equations of all sets in the cells of the list: for each set its word, and the bit of its
+// number.
 pub fn fill_rows(width: usize, disks: usize, cells: &[usize], words: &mut [u64], sums: &mut [u64])
     requires { ⌜ InArray width disks × (length (now cells) ≤ 62) × ((i : ℕ) → i < length (now cells) → getD (now cells) i 0 < width * (disks + 2)) ⌝ }
     requires { ⌜ (length (now words) ≡ 2 * width) × (length (now sums) ≡ 2 * width) ⌝ }

@@ -1,4 +1,5 @@
-// The mend of missing cells within a stripe: each from the sets that its row of the reduced equations names.
+// The mend of missing cells within a stripe: each from the sets that its row of the reduced
+// equations names.
 ghost use mathlib.Core.Path.{_≡_};
 ghost use mathlib.Core.List.{[]};
 ghost use Prim.Native.Nat.{_+_, _*_, _<_, _≤_};
@@ -6,11 +7,11 @@ ghost use lib.ListN.{length, set};
 ghost use Rattle.mathematics.specs.Choice.{pick};
 ghost use Rattle.mathematics.specs.bit_rows.Parity.{bit};
 ghost use Rattle.liberation.specs.Limits.{InArray};
-ghost use Rattle.liberation.specs.stripes.Limits.{Sized};
+ghost use Rattle.liberation.specs.stripes.StripeLimits.{Sized};
 ghost use Rattle.liberation.specs.stripes.Stripes.{solved};
 ghost use Rattle.rebuild_cells.specs.theory.Mending.{setNumbered, namedTo, oddCells, mendedFrom, missingCells, reducedCells, mendable, mendedCells};
-ghost use Rattle.stripe_cells.specs.odd_marks.Toggled.{toggledAll};
-ghost use Rattle.rebuild_cells.specs.mends.Listed.{ListedCells};
+ghost use Rattle.stripe_cells.specs.Toggled.{toggledAll};
+ghost use Rattle.rebuild_cells.specs.Listed.{ListedCells};
 use super::equations;
 use super::reduction;
 
@@ -45,7 +46,8 @@ fn toggle_others(width: usize, disks: usize, word: u64, cell: usize, marks: &mut
     marks[cell] = 0;
 }
 
-// A cell becomes the XOR of the other cells that occur an odd number of times in the sets that the word names.
+// A cell becomes the XOR of the other cells that occur an odd number of times in the sets that the
+// word names.
 fn mend_cell(width: usize, disks: usize, size: usize, cell: usize, word: u64, stripe: &mut [u8])
     requires { ⌜ Sized width disks size (now stripe) × (cell < width * (disks + 2)) ⌝ }
     ensures { λ _. ⌜ now (stripe .exit) ≡ solved size cell (oddCells width disks word) (now (stripe .entry)) ⌝ }
@@ -80,7 +82,8 @@ fn mend_each(
     }
 }
 
-// The sets that give each cell of a list; false if they do not give them all. What the words then hold is left free.
+// The sets that give each cell of a list; false if they do not give them all. What the words then
+// hold is left free.
 fn reduce_cells(
     width: usize,
     disks: usize,
@@ -125,7 +128,8 @@ fn mend_list(width: usize, disks: usize, size: usize, cells: &[usize], stripe: &
     false
 }
 
-// Mends the cells whose marks are not 0, if the others determine them; else the stripe stays as it was.
+// Mends the cells whose marks are not 0, if the others determine them; else the stripe stays as it
+// was.
 pub fn mend(width: usize, disks: usize, size: usize, missing: &[u8], stripe: &mut [u8]) -> bool
     requires { ⌜ Sized width disks size (now stripe) × (length (now missing) ≡ width * (disks + 2)) ⌝ }
     ensures { λ r. ⌜ (r ≡ mendable width disks (missingCells (now (missing .entry)))) × (now (stripe .exit) ≡ pick (mendable width disks (missingCells (now (missing .entry)))) (mendedCells width disks size (missingCells (now (missing .entry))) (now (stripe .entry))) (now (stripe .entry))) ⌝ }

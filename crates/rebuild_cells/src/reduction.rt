@@ -1,11 +1,12 @@
-// Equations over bits, a word a row in two lent slices, reduced one unknown after another. A row is only ever added to another.
+// Equations over bits, a word a row in two lent slices, reduced one unknown after another. A row is
+// only ever added to another.
 ghost use mathlib.Core.Path.{_≡_};
 ghost use Prim.Native.Nat.{_-_, _<_, _≤_};
 ghost use lib.ListN.{length, getD};
 ghost use Rattle.mathematics.specs.Sums.{firstFrom};
 ghost use Rattle.mathematics.specs.bit_rows.Parity.{bit};
 ghost use Rattle.mathematics.specs.bit_rows.Rows.{rows, plus, rowCleared, clearedFrom, pivoted, columnDone};
-ghost use Rattle.rebuild_cells.specs.reduction.Lent.{LentRows, ReducedTo};
+ghost use Rattle.rebuild_cells.specs.Lent.{LentRows, ReducedTo};
 
 // Is this bit of the word set?
 pub fn has_bit(word: u64, b: usize) -> bool

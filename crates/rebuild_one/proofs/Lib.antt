@@ -1,2 +1,6 @@
 -- The promise of the rebuild.
 pub mod OneRefusals
+pub mod InPlaceSteps
+pub mod FollowLaws
+pub mod LostLaws
+pub mod OneStep

@@ -1,4 +1,5 @@
--- The promise of a rebuild: the refusals 1, 13, 2, 3 and 5 in this order, which leave the column as it was, and the accepted call.
+-- The promise of a rebuild: the refusals 1, 13, 2, 3 and 5 in this order, which leave the column as
+-- it was, and the accepted call.
 use mathlib.Core.Path.{_≡_, sym, _∙_}
 use mathlib.Core.Bool.{Bool, true, not}
 use mathlib.Core.List.{List}
@@ -9,21 +10,22 @@ use borrow.Author.Tests.{eqb-true, not-false}
 use Rattle.mathematics.specs.Choice.{firstOf, when}
 use Rattle.mathematics.specs.Xor.{allBytes}
 use Rattle.mathematics.proofs.ChoiceLaws.{first-none, when-none, pick-refused, pick-done}
-use Rattle.liberation.specs.Sets.{numbersFault, longFault}
-use Rattle.liberation.proofs.FaultLaws.{numbers-of, long-of}
+use Rattle.liberation.specs.Sets.{numbersRefusal, longRefusal}
+use Rattle.liberation.proofs.RefusalLaws.{numbers-of, long-of}
 use Rattle.liberation.specs.stripes.Stripes.{stripeLong}
-use Rattle.liberation.specs.stripes.Limits.{Sized}
+use Rattle.liberation.specs.stripes.StripeLimits.{Sized}
 use Rattle.refusals.specs.declared.Answer.{Answer}
 use Rattle.refusals.specs.Answers.{Answers}
 use Rattle.refusals.proofs.AnswerLaws.{answers-as}
-use Rattle.rebuild_one.specs.Says.{lengthsFault, Writes}
+use Rattle.rebuild_one.specs.RebuildOneSays.{lengthsRefusal, Writes}
 
--- none of the refusals: the stripe is within the limits, the disk is one of the array's, and the column, of m bytes, has its length
-pub fault-none : (p k s f m : ℕ) (t : List ℕ) → lengthsFault p k s f (length t) m ≡ 0 → Sized p k s t × (f ≤ k + 1) × (m ≡ p * s)
-fault-none p k s f m t e =
+-- none of the refusals: the stripe is within the limits, the disk is one of the array's, and the
+-- column, of m bytes, has its length
+pub refusal-none : (p k s f m : ℕ) (t : List ℕ) → lengthsRefusal p k s f (length t) m ≡ 0 → Sized p k s t × (f ≤ k + 1) × (m ≡ p * s)
+refusal-none p k s f m t e =
     let b : Bool = eqb m (p * s) in
-    let long : ℕ = longFault (stripeLong p k s) t in
-    let w = first-none (numbersFault p k s f) (firstOf long (when (not b) 5)) e in
+    let long : ℕ = longRefusal (stripeLong p k s) t in
+    let w = first-none (numbersRefusal p k s f) (firstOf long (when (not b) 5)) e in
     let v = first-none long (when (not b) 5) (w .1) in
     let q = numbers-of p k s f (w .0) in
     (record { array = q .0; small = q .2; long = long-of (stripeLong p k s) t (v .0) }, q .3, eqb-true m (p * s) (not-false b (when-none (not b) 4 (v .1))))

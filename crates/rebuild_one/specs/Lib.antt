@@ -1,3 +1,3 @@
 -- What the rebuild of one lost disk promises.
-pub mod Says
-pub mod balanced
+pub mod RebuildOneSays
+pub mod RebuildBalancedSays

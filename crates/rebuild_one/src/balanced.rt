@@ -2,8 +2,8 @@
 ghost use mathlib.Core.Path.{_≡_};
 ghost use Rattle.liberation.specs.balanced_plan.Balanced.{balancedPlan};
 ghost use Rattle.liberation.specs.stripes.Stripes.{rebuiltBy};
-ghost use Rattle.rebuild_one.specs.Says.{oneFault};
-ghost use Rattle.rebuild_one.specs.balanced.Says.{BalancedOneSays};
+ghost use Rattle.rebuild_one.specs.RebuildOneSays.{oneRefusal};
+ghost use Rattle.rebuild_one.specs.RebuildBalancedSays.{BalancedOneSays};
 use super::into_column;
 use refusals::Answer;
 use refusals::Shape;
@@ -17,7 +17,7 @@ fn balanced_column(
     stripe: &[u8],
     column: &mut [u8],
 )
-    requires { ⌜ oneFault width disks size disk (now stripe) (now column) ≡ 0 ⌝ }
+    requires { ⌜ oneRefusal width disks size disk (now stripe) (now column) ≡ 0 ⌝ }
     ensures { λ _. ⌜ now (column .exit) ≡ rebuiltBy width disks size disk (balancedPlan width disks disk) (now (stripe .entry)) ⌝ }
 {
     let plan = planner::balanced_steps(width, disks, disk);
@@ -25,11 +25,12 @@ fn balanced_column(
     into_column::follow(width, disks, size, disk, steps, stripe, column);
 }
 
-// Rebuilds one lost disk into the column by the balanced plan. Refusals: 1, 13, 2, 3, 5; a refused call leaves the column as it was.
+// Rebuilds one lost disk into the column by the balanced plan. Refusals: 1, 13, 2, 3, 5; a refused
+// call leaves the column as it was.
 pub fn rebuild_balanced(shape: Shape, lost: usize, stripe: &[u8], column: &mut [u8]) -> Answer
     ensures { λ r. ⌜ BalancedOneSays (shape .width) (shape .disks) (shape .«cell_size») lost (now (stripe .entry)) (now (column .entry)) (now (column .exit)) r ⌝ }
 {
-    let refusal = super::one_fault(
+    let refusal = super::one_refusal(
         shape.width,
         shape.disks,
         shape.cell_size,

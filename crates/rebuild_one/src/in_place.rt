@@ -1,10 +1,11 @@
-// The rebuild of one lost disk in place, for a stripe within its limits: our plan's steps, one after another, each done within the stripe.
+// The rebuild of one lost disk in place, for a stripe within its limits: our plan's steps, one
+// after another, each done within the stripe.
 ghost use mathlib.Core.Path.{_≡_};
 ghost use Prim.Native.Nat.{_+_, _≤_};
 ghost use Rattle.liberation.specs.Plans.{planOf};
 ghost use Rattle.liberation.specs.stripes.Stripes.{followed};
-ghost use Rattle.planner.specs.records.Records.{Holds};
-ghost use Rattle.liberation.specs.stripes.Limits.{Sized};
+ghost use Rattle.planner.specs.StepRecords.{Holds};
+ghost use Rattle.liberation.specs.stripes.StripeLimits.{Sized};
 use planner::Steps;
 
 // The steps of our plan, in order: each solves the lost disk's ordinary cell of its set.
@@ -26,7 +27,8 @@ fn follow(width: usize, disks: usize, size: usize, disk: usize, steps: Steps, st
     }
 }
 
-// Makes our plan and follows it in the stripe, where neither the stripe nor the disk is refused: for callers that have tested that.
+// Makes our plan and follows it in the stripe, where neither the stripe nor the disk is refused:
+// for callers that have tested that.
 pub fn rebuild_within(width: usize, disks: usize, size: usize, disk: usize, stripe: &mut [u8])
     requires { ⌜ Sized width disks size (now stripe) ⌝ }
     requires { ⌜ disk ≤ disks + 1 ⌝ }

@@ -1,12 +1,13 @@
-// The steps of an accepted plan, one after another, from a lent stripe into a lent column. Each cell goes to its own stretch of the column.
+// The steps of an accepted plan, one after another, from a lent stripe into a lent column. Each
+// cell goes to its own stretch of the column.
 ghost use mathlib.Core.Path.{_≡_};
 ghost use mathlib.Core.Bool.{true};
 ghost use Prim.Native.Nat.{_+_, _*_, _≤_};
 ghost use lib.ListN.{length};
 ghost use Rattle.liberation.specs.Judging.{accepted};
 ghost use Rattle.liberation.specs.stripes.Stripes.{rebuiltBy};
-ghost use Rattle.liberation.specs.stripes.Limits.{Sized};
-ghost use Rattle.planner.specs.records.Records.{held};
+ghost use Rattle.liberation.specs.stripes.StripeLimits.{Sized};
+ghost use Rattle.planner.specs.StepRecords.{held};
 use super::one_cell;
 use planner::Steps;
 

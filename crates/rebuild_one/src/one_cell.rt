@@ -1,4 +1,6 @@
-// One step of the rebuild of a lost disk into a lent column: a cell of the disk is the XOR of the other cells of a set, the surviving ones in the stripe and another lost one, already rebuilt, in the column.
+// One step of the rebuild of a lost disk into a lent column: a cell of the disk is the XOR of the
+// other cells of a set, the surviving ones in the stripe and another lost one, already rebuilt, in
+// the column.
 ghost use mathlib.Core.Path.{_≡_};
 ghost use mathlib.Core.Bool.{true};
 ghost use mathlib.Core.List.{[], _∷_};
@@ -10,9 +12,11 @@ ghost use Rattle.mathematics.specs.Lists.{isIn};
 ghost use Rattle.liberation.specs.Limits.{InArray};
 ghost use Rattle.liberation.specs.Sets.{place, setOf, lostIn};
 ghost use Rattle.liberation.specs.stripes.Stripes.{withColumn, without, solved};
-ghost use Rattle.liberation.specs.stripes.Limits.{Sized};
+ghost use Rattle.liberation.specs.stripes.StripeLimits.{Sized};
 
-// The row of the set's other cell on the lost disk, the width if there is none. Only a diagonal whose extra cell is on that disk has two cells there, the extra one and an ordinary one: a diagonal whose extra cell would be on an absent disk has none, and P and Q have no extra cells.
+// The row of the set's other cell on the lost disk, the width if there is none. Only a diagonal
+// whose extra cell is on that disk has two cells there, the extra one and an ordinary one: a
+// diagonal whose extra cell would be on an absent disk has none, and P and Q have no extra cells.
 fn other_row(
     width: usize,
     disks: usize,
@@ -43,7 +47,9 @@ fn other_row(
     parity_sets::row_on(width, number, disk)
 }
 
-// One step: the lost disk's cell of this row becomes the XOR of the set's other cells. The surviving ones come from the stripe; another lost one, which an earlier step has rebuilt, from the column.
+// One step: the lost disk's cell of this row becomes the XOR of the set's other cells. The
+// surviving ones come from the stripe; another lost one, which an earlier step has rebuilt, from
+// the column.
 pub fn rebuild_cell(
     width: usize,
     disks: usize,

@@ -1,2 +1,2 @@
 -- Whole rebuild runs: what is claimed of steps and skips one after another.
-pub mod Claims
+pub mod EventSeries

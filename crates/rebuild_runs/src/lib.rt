@@ -1,4 +1,8 @@
-// Rebuild runs over many stripes (document 01, "Run and space"): the record by value, its refusals, how it moves on, and a skip (document 02, ask 8). Numbers that another program put into a record are tested like any others. No bytes of a stripe are touched here: `run_starts` opens a run, `run_steps` rebuilds, `run_progress` says how far a run is.
+// Rebuild runs over many stripes (document 01, "Run and space"): the record by value, its refusals,
+// how it moves on, and a skip (document 02, ask 8). Numbers that another program put into a record
+// are tested like any others. No bytes of a stripe are touched here: `starts` opens a run, `steps`
+// rebuilds, `progress` says how far a run is. These two are public, since the exports over a lent
+// record are proved by hand and cite their proofs.
 pub mod progress;
 mod starts;
 pub mod steps;
@@ -12,11 +16,12 @@ pub use starts::resume_disks_run;
 pub use starts::resume_full_run;
 pub use steps::step_run;
 ghost use mathlib.Core.Path.{_≡_};
-ghost use Rattle.rebuild_runs.specs.Runs.{readFault, nextFault, skipFault, CanMove, movedBy, SkipSays};
+ghost use Rattle.rebuild_runs.specs.Runs.{readRefusal, nextRefusal, skipRefusal, CanMove, movedBy, SkipSays};
 use refusals::Answer;
 use refusals::Shape;
 
-// A run: the shape of the array, the lost disk, how many stripes there are, which of them is next, and how many before it were skipped.
+// A run: the shape of the array, the lost disk, how many stripes there are, which of them is next,
+// and how many before it were skipped.
 #[repr(C)]
 pub struct Run {
     pub shape: Shape,
@@ -33,21 +38,22 @@ pub struct RunAnswer {
     pub run: Run,
 }
 
-// The refusal of a record that is read, 0 for none: 1, 13, 2, 3, and 10 for more stripes skipped than are past.
-pub fn read_fault(run: Run) -> u8
-    ensures { λ r. ⌜ r ≡ readFault run ⌝ }
+// The refusal of a record that is read, 0 for none: 1, 13, 2, 3, and 10 for more stripes skipped
+// than are past.
+pub fn read_refusal(run: Run) -> u8
+    ensures { λ r. ⌜ r ≡ readRefusal run ⌝ }
 {
     let s = run.shape;
-    let fault = refusals::numbers_fault(s.width, s.disks, s.cell_size, run.lost);
-    if fault != 0 {
-        return fault;
+    let refusal = refusals::numbers_refusal(s.width, s.disks, s.cell_size, run.lost);
+    if refusal != 0 {
+        return refusal;
     }
     if run.next < run.skipped { 10 } else { 0 }
 }
 
 // 10 for a stripe that is not the next one, 0 for that one.
-pub fn next_fault(run: Run, which: u64) -> u8
-    ensures { λ r. ⌜ r ≡ nextFault run which ⌝ }
+pub fn next_refusal(run: Run, which: u64) -> u8
+    ensures { λ r. ⌜ r ≡ nextRefusal run which ⌝ }
 {
     if run.stripes <= run.next {
         return 10;
@@ -67,24 +73,25 @@ pub fn moved_on(run: Run, skips: u32) -> Run
 }
 
 // The refusal of a skip of stripe `which`, 0 for none.
-fn skip_fault(run: Run, which: u64) -> u8
-    ensures { λ r. ⌜ r ≡ skipFault run which ⌝ }
+fn skip_refusal(run: Run, which: u64) -> u8
+    ensures { λ r. ⌜ r ≡ skipRefusal run which ⌝ }
 {
-    let unread = read_fault(run);
-    if unread != 0 {
-        return unread;
+    let refusal = read_refusal(run);
+    if refusal != 0 {
+        return refusal;
     }
-    next_fault(run, which)
+    next_refusal(run, which)
 }
 
-// A skip by value: gives the record moved on by one stripe that is not rebuilt. Refusals: 1, 13, 2, 3, 10; they leave the record as it was.
+// A skip by value: gives the record moved on by one stripe that is not rebuilt. Refusals: 1, 13, 2,
+// 3, 10; they leave the record as it was.
 pub fn skip_stripe(run: Run, which: u64) -> RunAnswer
     ensures { λ r. ⌜ SkipSays run (r .run) which (r .answer) ⌝ }
 {
-    let denied = skip_fault(run, which);
-    if denied != 0 {
+    let refusal = skip_refusal(run, which);
+    if refusal != 0 {
         return RunAnswer {
-            answer: refusals::answered(denied),
+            answer: refusals::answered(refusal),
             run: run,
         };
     }

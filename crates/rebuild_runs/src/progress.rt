@@ -1,5 +1,6 @@
-// How far a rebuild run is (document 01, "Run and space"): whether it is over, and the cells read so far.
-ghost use Rattle.rebuild_runs.specs.progress.Says.{ProgressSays};
+// How far a rebuild run is (document 01, "Run and space"): whether it is over, and the cells read
+// so far.
+ghost use Rattle.rebuild_runs.specs.ProgressSays.{ProgressSays};
 use super::Run;
 use refusals::Answer;
 
@@ -15,7 +16,7 @@ pub struct Progress {
 pub fn run_progress(run: Run) -> Progress
     ensures { λ r. ⌜ ProgressSays run r ⌝ }
 {
-    let refused = super::read_fault(run);
+    let refused = super::read_refusal(run);
     if refused != 0 {
         return Progress {
             answer: refusals::answered(refused),

@@ -1,6 +1,7 @@
-// The start of a rebuild run (document 01, "Run and space"): its record by value, opened, or made from a record of an earlier version.
+// The start of a rebuild run (document 01, "Run and space"): its record by value, opened, or made
+// from a record of an earlier version.
 ghost use mathlib.Core.Path.{_≡_};
-ghost use Rattle.rebuild_runs.specs.starts.Starts.{OpenSays, resumed, resumedDisks};
+ghost use Rattle.rebuild_runs.specs.Starts.{OpenSays, resumed, resumedDisks};
 use super::Run;
 use super::RunAnswer;
 use refusals::Shape;
@@ -14,7 +15,8 @@ pub struct DisksRun {
     pub next: u32,
 }
 
-// The record of document 01, of a run in an array with as many data disks as its width: the width, the bytes of a cell, the lost disk, stripes and next.
+// The record of document 01, of a run in an array with as many data disks as its width: the width,
+// the bytes of a cell, the lost disk, stripes and next.
 #[repr(C)]
 pub struct FullRun {
     pub width: usize,
@@ -24,11 +26,12 @@ pub struct FullRun {
     pub next: u32,
 }
 
-// Opens a run over `stripes` stripes. Refusals: 1, 13, 2, 3, with a record of zeros, which every call refuses.
+// Opens a run over `stripes` stripes. Refusals: 1, 13, 2, 3, with a record of zeros, which every
+// call refuses.
 pub fn open_run(shape: Shape, lost: usize, stripes: u32) -> RunAnswer
     ensures { λ r. ⌜ OpenSays (shape .width) (shape .disks) (shape .«cell_size») lost stripes r ⌝ }
 {
-    let refusal = refusals::numbers_fault(shape.width, shape.disks, shape.cell_size, lost);
+    let refusal = refusals::numbers_refusal(shape.width, shape.disks, shape.cell_size, lost);
     if refusal != 0 {
         return RunAnswer {
             answer: refusals::answered(refusal),
@@ -57,7 +60,8 @@ pub fn open_run(shape: Shape, lost: usize, stripes: u32) -> RunAnswer
     }
 }
 
-// A run that was open when its record had no number of data disks goes on with as many as its width.
+// A run that was open when its record had no number of data disks goes on with as many as its
+// width.
 pub fn resume_full_run(old: FullRun) -> Run
     ensures { λ r. ⌜ r ≡ resumed old ⌝ }
 {

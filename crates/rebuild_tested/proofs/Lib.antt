@@ -1,2 +1,3 @@
 -- The promise of the rebuild with tested survivors.
 pub mod TestedRefusals
+pub mod TestedRows

@@ -10,15 +10,16 @@ use Rattle.liberation.specs.stripes.Stripes.{rebuilt}
 use Rattle.liberation.specs.scrub.Survivors.{fits}
 use Rattle.refusals.specs.declared.Answer.{Answer}
 use Rattle.refusals.specs.Answers.{Answers}
-use Rattle.rebuild_one.specs.Says.{oneFault}
+use Rattle.rebuild_one.specs.RebuildOneSays.{oneRefusal}
 
--- 19, "survivors of no clean stripe", comes last, after the refusals of the rebuild without a test: t is the stripe, o the column
-abbrev pub testedFault : ℕ → ℕ → ℕ → ℕ → List ℕ → List ℕ → ℕ
-testedFault p k s f t o = firstOf (oneFault p k s f t o) (when (not (fits p k s f t)) 19)
+-- 19, "survivors of no clean stripe", comes last, after the refusals of the rebuild without a test:
+-- t is the stripe, o the column
+abbrev pub testedRefusal : ℕ → ℕ → ℕ → ℕ → List ℕ → List ℕ → ℕ
+testedRefusal p k s f t o = firstOf (oneRefusal p k s f t o) (when (not (fits p k s f t)) 19)
 
 -- the column o becomes o′: the rebuilt disk, or as it was on a refusal
 pub record TestedSays (p k s f : ℕ) (t o o′ : List ℕ) (r : Answer) : Type 0 where
-  pub answer : Answers (testedFault p k s f t o) r
-  pub column : o′ ≡ pick (eqb (testedFault p k s f t o) 0) (rebuilt p k s f t) o
+  pub answer : Answers (testedRefusal p k s f t o) r
+  pub column : o′ ≡ pick (eqb (testedRefusal p k s f t o) 0) (rebuilt p k s f t) o
   -- what was lent are bytes
   pub bytes : allBytes t ≡ true

@@ -1,15 +1,17 @@
-// The column of one lost disk from tested survivors: a data disk or P by the row sets, Q by our plan.
+// The column of one lost disk from tested survivors: a data disk or P by the row sets, Q by our
+// plan.
 ghost use mathlib.Core.Path.{_≡_};
 ghost use mathlib.Core.Bool.{true};
 ghost use Prim.Native.Nat.{_*_, _≤_};
 ghost use lib.ListN.{length};
 ghost use Rattle.liberation.specs.Plans.{allOf};
 ghost use Rattle.liberation.specs.stripes.Stripes.{followed, columnOf, rebuilt};
-ghost use Rattle.liberation.specs.stripes.Limits.{Sized};
+ghost use Rattle.liberation.specs.stripes.StripeLimits.{Sized};
 ghost use Rattle.liberation.specs.scrub.Survivors.{fits};
-ghost use Rattle.rebuild_one.specs.Says.{oneFault};
+ghost use Rattle.rebuild_one.specs.RebuildOneSays.{oneRefusal};
 
-// A data disk or P by the row sets, as one run of bytes: the column becomes the XOR of the other columns but Q's.
+// A data disk or P by the row sets, as one run of bytes: the column becomes the XOR of the other
+// columns but Q's.
 fn column_by_rows(
     width: usize,
     disks: usize,
@@ -27,7 +29,8 @@ fn column_by_rows(
     xor::gather_stretches(column, stripe, &at[..m]);
 }
 
-// A disk whose survivors are those of a clean stripe: every set gives the same bytes then, so the plan with the longest runs is followed, not the one with the fewest reads.
+// A disk whose survivors are those of a clean stripe: every set gives the same bytes then, so the
+// plan with the longest runs is followed, not the one with the fewest reads.
 pub fn tested_column(
     width: usize,
     disks: usize,
@@ -36,7 +39,7 @@ pub fn tested_column(
     stripe: &[u8],
     column: &mut [u8],
 )
-    requires { ⌜ (oneFault width disks size disk (now stripe) (now column) ≡ 0) × (fits width disks size disk (now stripe) ≡ true) ⌝ }
+    requires { ⌜ (oneRefusal width disks size disk (now stripe) (now column) ≡ 0) × (fits width disks size disk (now stripe) ≡ true) ⌝ }
     ensures { λ _. ⌜ now (column .exit) ≡ rebuilt width disks size disk (now (stripe .entry)) ⌝ }
 {
     if disk <= disks {

@@ -1,4 +1,5 @@
-// The rebuild of one lost disk with tested survivors: only where they are those of a clean stripe is the column written.
+// The rebuild of one lost disk with tested survivors: only where they are those of a clean stripe
+// is the column written.
 mod columns;
 
 ghost use mathlib.Core.Path.{_≡_};
@@ -6,13 +7,14 @@ ghost use mathlib.Core.Bool.{not};
 ghost use lib.ListN.{length};
 ghost use Rattle.mathematics.specs.Choice.{firstOf, when};
 ghost use Rattle.liberation.specs.scrub.Survivors.{fits};
-ghost use Rattle.rebuild_one.specs.Says.{lengthsFault};
+ghost use Rattle.rebuild_one.specs.RebuildOneSays.{lengthsRefusal};
 ghost use Rattle.rebuild_tested.specs.Says.{TestedSays};
 use refusals::Answer;
 use refusals::Shape;
 
-// The refusal of a call on a stripe and a column of these many bytes, 0 for none. The survivors are tested last, without a byte of the lost disk.
-fn tested_fault(
+// The refusal of a call on a stripe and a column of these many bytes, 0 for none. The survivors are
+// tested last, without a byte of the lost disk.
+fn tested_refusal(
     width: usize,
     disks: usize,
     size: usize,
@@ -20,11 +22,11 @@ fn tested_fault(
     stripe: &[u8],
     column: usize,
 ) -> u8
-    ensures { λ r. ⌜ r ≡ firstOf (lengthsFault width disks size disk (length (now (stripe .entry))) column) (when (not (fits width disks size disk (now (stripe .entry)))) 19) ⌝ }
+    ensures { λ r. ⌜ r ≡ firstOf (lengthsRefusal width disks size disk (length (now (stripe .entry))) column) (when (not (fits width disks size disk (now (stripe .entry)))) 19) ⌝ }
 {
-    let fault = rebuild_one::one_fault(width, disks, size, disk, stripe.len(), column);
-    if fault != 0 {
-        return fault;
+    let refusal = rebuild_one::one_refusal(width, disks, size, disk, stripe.len(), column);
+    if refusal != 0 {
+        return refusal;
     }
     if scrub::disk_fits(width, disks, size, disk, stripe) {
         return 0;
@@ -32,11 +34,12 @@ fn tested_fault(
     19
 }
 
-// Rebuilds one lost disk into the column, if some clean stripe has all surviving cells. Refusals: 1, 13, 2, 3, 5, 19; a refused call leaves the column as it was.
+// Rebuilds one lost disk into the column, if some clean stripe has all surviving cells. Refusals:
+// 1, 13, 2, 3, 5, 19; a refused call leaves the column as it was.
 pub fn rebuild_tested(shape: Shape, lost: usize, stripe: &[u8], column: &mut [u8]) -> Answer
     ensures { λ r. ⌜ TestedSays (shape .width) (shape .disks) (shape .«cell_size») lost (now (stripe .entry)) (now (column .entry)) (now (column .exit)) r ⌝ }
 {
-    let refusal = tested_fault(
+    let refusal = tested_refusal(
         shape.width,
         shape.disks,
         shape.cell_size,

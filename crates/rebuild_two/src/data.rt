@@ -1,8 +1,9 @@
-// Two lost data disks of a stripe within its limits, rebuilt in place by the walk, in the order in which it goes through: document 01, "Two lost disks".
+// Two lost data disks of a stripe within its limits, rebuilt in place by the walk, in the order in
+// which it goes through: document 01, "Two lost disks".
 ghost use mathlib.Core.Path.{_≡_};
 ghost use Prim.Native.Nat.{_-_, _/_, _≤_, _<_};
 ghost use Rattle.liberation.specs.two_disks.Pairs.{comesToOne, forward, dataSolved};
-ghost use Rattle.liberation.specs.stripes.Limits.{Sized};
+ghost use Rattle.liberation.specs.stripes.StripeLimits.{Sized};
 
 // Is 1 among the first (width - 1) / 2 multiples of `gap`?
 fn comes_to_one(width: usize, gap: usize) -> bool
@@ -32,7 +33,8 @@ fn goes_forward(width: usize, a: usize, b: usize) -> bool
     comes_to_one(width, b - a)
 }
 
-// Two data disks a < b, walked in the order in which the walk goes through: from sums, or to disk 0 from the first cell alone.
+// Two data disks a < b, walked in the order in which the walk goes through: from sums, or to disk 0
+// from the first cell alone.
 pub fn solve_data(width: usize, disks: usize, size: usize, a: usize, b: usize, stripe: &mut [u8])
     requires { ⌜ Sized width disks size (now stripe) ⌝ }
     requires { ⌜ (a < b) × (b < disks) ⌝ }

@@ -1,4 +1,5 @@
-// The rebuild of two lost disks in place: document 01, "Two lost disks". Refusals are tested here; the walk is below.
+// The rebuild of two lost disks in place: document 01, "Two lost disks". Refusals are tested here;
+// the walk is below.
 mod data;
 mod pair;
 mod with_parity;
@@ -8,14 +9,14 @@ ghost use mathlib.Core.Path.{_≡_};
 ghost use mathlib.Core.Bool.{not};
 ghost use lib.Dec.{eqb};
 ghost use Rattle.mathematics.specs.Choice.{when, firstOf};
-ghost use Rattle.liberation.specs.Sets.{numbersFault, diskFault};
+ghost use Rattle.liberation.specs.Sets.{numbersRefusal, diskRefusal};
 ghost use Rattle.liberation.specs.stripes.Stripes.{stripeLong};
 ghost use Rattle.rebuild_two.specs.Says.{TwoSays};
 use refusals::Answer;
 use refusals::Shape;
 
 // The refusal of a call on a stripe of `long` bytes, 0 for none.
-fn two_fault(
+fn two_refusal(
     width: usize,
     disks: usize,
     size: usize,
@@ -23,27 +24,28 @@ fn two_fault(
     second: usize,
     long: usize,
 ) -> u8
-    ensures { λ r. ⌜ r ≡ firstOf (numbersFault width disks size first) (firstOf (diskFault disks second) (firstOf (when (eqb first second) 4) (when (not (eqb long (stripeLong width disks size))) 5))) ⌝ }
+    ensures { λ r. ⌜ r ≡ firstOf (numbersRefusal width disks size first) (firstOf (diskRefusal disks second) (firstOf (when (eqb first second) 4) (when (not (eqb long (stripeLong width disks size))) 5))) ⌝ }
 {
-    let fault = refusals::numbers_fault(width, disks, size, first);
-    if fault != 0 {
-        return fault;
+    let refusal = refusals::numbers_refusal(width, disks, size, first);
+    if refusal != 0 {
+        return refusal;
     }
-    let other = refusals::disk_fault(disks, second);
+    let other = refusals::disk_refusal(disks, second);
     if other != 0 {
         return other;
     }
     if first == second {
         return 4;
     }
-    refusals::length_fault(long, (disks + 2) * (width * size))
+    refusals::length_refusal(long, (disks + 2) * (width * size))
 }
 
-// Rebuilds two lost disks in place. Refusals: 1, 13, 2, 3, 4, 5; a refused call leaves the stripe as it was.
+// Rebuilds two lost disks in place. Refusals: 1, 13, 2, 3, 4, 5; a refused call leaves the stripe
+// as it was.
 pub fn rebuild_two(shape: Shape, first: usize, second: usize, stripe: &mut [u8]) -> Answer
     ensures { λ r. ⌜ TwoSays (shape .width) (shape .disks) (shape .«cell_size») first second (now (stripe .entry)) (now (stripe .exit)) r ⌝ }
 {
-    let refusal = two_fault(
+    let refusal = two_refusal(
         shape.width,
         shape.disks,
         shape.cell_size,

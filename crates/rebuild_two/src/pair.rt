@@ -1,8 +1,9 @@
-// Two lost disks of a stripe within its limits, rebuilt in place: document 01, "Two lost disks". Two data disks, or a parity disk and another, in either order.
+// Two lost disks of a stripe within its limits, rebuilt in place: document 01, "Two lost disks".
+// Two data disks, or a parity disk and another, in either order.
 ghost use mathlib.Core.Path.{_≡_};
 ghost use Prim.Native.Nat.{_+_, _≤_, _<_};
 ghost use Rattle.liberation.specs.two_disks.Pairs.{orderedSolved, pairSolved};
-ghost use Rattle.liberation.specs.stripes.Limits.{Sized};
+ghost use Rattle.liberation.specs.stripes.StripeLimits.{Sized};
 use super::data;
 use super::with_parity;
 

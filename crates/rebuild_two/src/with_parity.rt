@@ -1,9 +1,10 @@
-// A lost parity disk of a stripe within its limits beside another disk, rebuilt in place one after the other: document 01, "Two lost disks".
+// A lost parity disk of a stripe within its limits beside another disk, rebuilt in place one after
+// the other: document 01, "Two lost disks".
 ghost use mathlib.Core.Path.{_≡_};
 ghost use Prim.Native.Nat.{_≤_, _<_};
 ghost use Rattle.liberation.specs.stripes.Stripes.{followed};
 ghost use Rattle.liberation.specs.two_disks.Pairs.{upDiagonals, withRowParity, withDiagonalParity};
-ghost use Rattle.liberation.specs.stripes.Limits.{Sized};
+ghost use Rattle.liberation.specs.stripes.StripeLimits.{Sized};
 
 // All cells of a data disk, rows upward, each by the diagonal set on which it is ordinary.
 fn up_diagonals(width: usize, disks: usize, size: usize, disk: usize, stripe: &mut [u8])

@@ -1,3 +1,3 @@
 -- What an answer says of a refusal.
 pub mod Answers
-pub mod stripe
+pub mod StripeSays

@@ -1,22 +1,25 @@
-// What a call answers when it refuses, the shape of an array, and the tests of the numbers of a call together, in the order of the refusals.
+// What a call answers when it refuses, the shape of an array, and the tests of the numbers of a
+// call together, in the order of the refusals.
 mod numbers;
-pub mod stripe;
+mod stripe;
 
-pub use numbers::disk_fault;
-pub use numbers::length_fault;
-pub use stripe::stripe_fault;
+pub use numbers::disk_refusal;
+pub use numbers::length_refusal;
+pub use stripe::stripe_refusal;
 ghost use mathlib.Core.Path.{_≡_};
-ghost use Rattle.liberation.specs.Sets.{arrayFault, planFault, shapeFault, numbersFault};
+ghost use Rattle.liberation.specs.Sets.{arrayRefusal, planRefusal, shapeRefusal, numbersRefusal};
 ghost use Rattle.refusals.specs.Answers.{Answers};
 
-// The first field of every answer: document 01's refusal number, 0 for an accepted call, and the place.
+// The first field of every answer: document 01's refusal number, 0 for an accepted call, and the
+// place.
 #[repr(C)]
 pub struct Answer {
     pub refusal: u8,
     pub place: u32,
 }
 
-// The shape of an array: the width, which is also the number of rows, the data disks, and the bytes of a cell.
+// The shape of an array: the width, which is also the number of rows, the data disks, and the bytes
+// of a cell.
 #[repr(C)]
 pub struct Shape {
     pub width: usize,
@@ -35,46 +38,46 @@ pub fn answered(refusal: u8) -> Answer
 }
 
 // The refusal of an array's width and data disks by 1 or 13, 0 for none.
-pub fn array_fault(width: usize, disks: usize) -> u8
-    ensures { λ r. ⌜ r ≡ arrayFault width disks ⌝ }
+pub fn array_refusal(width: usize, disks: usize) -> u8
+    ensures { λ r. ⌜ r ≡ arrayRefusal width disks ⌝ }
 {
-    let first = numbers::width_fault(width);
+    let first = numbers::width_refusal(width);
     if first != 0 {
         return first;
     }
-    numbers::disks_fault(width, disks)
+    numbers::disks_refusal(width, disks)
 }
 
 // The refusal of the numbers of a call on plans by 1, 13 or 3, 0 for none.
-pub fn plan_fault(width: usize, disks: usize, disk: usize) -> u8
-    ensures { λ r. ⌜ r ≡ planFault width disks disk ⌝ }
+pub fn plan_refusal(width: usize, disks: usize, disk: usize) -> u8
+    ensures { λ r. ⌜ r ≡ planRefusal width disks disk ⌝ }
 {
-    let fault = array_fault(width, disks);
-    if fault != 0 {
-        return fault;
+    let refusal = array_refusal(width, disks);
+    if refusal != 0 {
+        return refusal;
     }
-    numbers::disk_fault(disks, disk)
+    numbers::disk_refusal(disks, disk)
 }
 
 // The refusal of the numbers of a shape by 1, 13 or 2, 0 for none.
-pub fn shape_fault(width: usize, disks: usize, size: usize) -> u8
-    ensures { λ r. ⌜ r ≡ shapeFault width disks size ⌝ }
+pub fn shape_refusal(width: usize, disks: usize, size: usize) -> u8
+    ensures { λ r. ⌜ r ≡ shapeRefusal width disks size ⌝ }
 {
-    let array = array_fault(width, disks);
+    let array = array_refusal(width, disks);
     if array != 0 {
         return array;
     }
-    numbers::size_fault(size)
+    numbers::size_refusal(size)
 }
 
 // The refusal of the numbers of a call on a disk's bytes by 1, 13, 2 or 3, 0 for none.
-pub fn numbers_fault(width: usize, disks: usize, size: usize, disk: usize) -> u8
-    ensures { λ r. ⌜ r ≡ numbersFault width disks size disk ⌝ }
+pub fn numbers_refusal(width: usize, disks: usize, size: usize, disk: usize) -> u8
+    ensures { λ r. ⌜ r ≡ numbersRefusal width disks size disk ⌝ }
 {
-    let shape = shape_fault(width, disks, size);
+    let shape = shape_refusal(width, disks, size);
     if shape != 0 {
         return shape;
     }
-    let last = numbers::disk_fault(disks, disk);
+    let last = numbers::disk_refusal(disks, disk);
     last
 }

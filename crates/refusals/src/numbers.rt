@@ -1,13 +1,14 @@
-// The tests of single numbers that calls have in common: width, data disks, size of a cell, disk, length of a lent slice.
+// The tests of single numbers that calls have in common: width, data disks, size of a cell, disk,
+// length of a lent slice.
 ghost use mathlib.Core.Path.{_≡_};
 ghost use mathlib.Core.Bool.{not};
 ghost use lib.Dec.{eqb};
 ghost use Rattle.mathematics.specs.Choice.{when};
-ghost use Rattle.liberation.specs.Sets.{widthFault, disksFault, sizeFault, diskFault};
+ghost use Rattle.liberation.specs.Sets.{widthRefusal, disksRefusal, sizeRefusal, diskRefusal};
 
 // The refusal of a width: 0 for one of the ten, 1 for any other number.
-pub fn width_fault(width: usize) -> u8
-    ensures { λ r. ⌜ r ≡ widthFault width ⌝ }
+pub fn width_refusal(width: usize) -> u8
+    ensures { λ r. ⌜ r ≡ widthRefusal width ⌝ }
 {
     match width {
         3 | 5 | 7 | 11 | 13 | 17 | 19 | 23 | 29 | 31 => 0,
@@ -16,8 +17,8 @@ pub fn width_fault(width: usize) -> u8
 }
 
 // The refusal of a number of data disks: 13 for fewer than 2, or more than the width.
-pub fn disks_fault(width: usize, disks: usize) -> u8
-    ensures { λ r. ⌜ r ≡ disksFault width disks ⌝ }
+pub fn disks_refusal(width: usize, disks: usize) -> u8
+    ensures { λ r. ⌜ r ≡ disksRefusal width disks ⌝ }
 {
     if disks < 2 {
         return 13;
@@ -26,8 +27,8 @@ pub fn disks_fault(width: usize, disks: usize) -> u8
 }
 
 // The refusal of a cell's size: 2 for 0 bytes or more than 4,096.
-pub fn size_fault(size: usize) -> u8
-    ensures { λ r. ⌜ r ≡ sizeFault size ⌝ }
+pub fn size_refusal(size: usize) -> u8
+    ensures { λ r. ⌜ r ≡ sizeRefusal size ⌝ }
 {
     if size == 0 {
         return 2;
@@ -36,8 +37,8 @@ pub fn size_fault(size: usize) -> u8
 }
 
 // The refusal of a disk: 3 for a number past Q, which is the second after the data disks.
-pub fn disk_fault(disks: usize, disk: usize) -> u8
-    ensures { λ r. ⌜ r ≡ diskFault disks disk ⌝ }
+pub fn disk_refusal(disks: usize, disk: usize) -> u8
+    ensures { λ r. ⌜ r ≡ diskRefusal disks disk ⌝ }
 {
     if disk <= disks {
         return 0;
@@ -46,7 +47,7 @@ pub fn disk_fault(disks: usize, disk: usize) -> u8
 }
 
 // The refusal of a lent slice: 5 for another length than required.
-pub fn length_fault(long: usize, required: usize) -> u8
+pub fn length_refusal(long: usize, required: usize) -> u8
     ensures { λ r. ⌜ r ≡ when (not (eqb long required)) 5 ⌝ }
 {
     if long == required { 0 } else { 5 }

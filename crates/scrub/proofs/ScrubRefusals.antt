@@ -13,11 +13,11 @@ use Rattle.liberation.specs.stripes.Stripes.{clean}
 use Rattle.liberation.specs.scrub.Survivors.{suspect, verdict}
 use Rattle.refusals.specs.Answers.{Answers}
 use Rattle.refusals.proofs.AnswerLaws.{answers-as}
-use Rattle.refusals.specs.stripe.Says.{stripeFault}
+use Rattle.refusals.specs.StripeSays.{stripeRefusal}
 use Rattle.scrub.specs.declared.Scrubbed.{Scrubbed}
-use Rattle.scrub.specs.Says.{ScrubSays}
+use Rattle.scrub.specs.ScrubSays.{ScrubSays}
 
--- the two results that go with a fault n, a verdict v and a suspect x
+-- the two results that go with a refusal n, a verdict v and a suspect x
 abbrev verdictFor : ℕ → ℕ → ℕ
 verdictFor n v = pick (eqb n 0) v 0
 
@@ -25,20 +25,20 @@ abbrev diskFor : ℕ → ℕ → ℕ → ℕ
 diskFor n v x = pick (eqb n 0 && eqb v 1) x 0
 
 module _ (p k s : ℕ) (t : List ℕ) (r : Scrubbed) (bytes : allBytes t ≡ true) where
-  pub scrub-refused : (n : ℕ) → n ≡ stripeFault p k s t → (n ≡ 0 → ⊥) → Answers n (r .answer) × (r .verdict ≡ 0) × (r .disk ≡ 0) → ScrubSays p k s t r
+  pub scrub-refused : (n : ℕ) → n ≡ stripeRefusal p k s t → (n ≡ 0 → ⊥) → Answers n (r .answer) × (r .verdict ≡ 0) × (r .disk ≡ 0) → ScrubSays p k s t r
   scrub-refused n e z u =
       record {
-        answer = answers-as n (stripeFault p k s t) (r .answer) e (u .0);
-        verdict = u .1 ∙ pick-refused n (stripeFault p k s t) (verdict p k s t) 0 e z;
-        disk = u .2 ∙ ap (λ (b : Bool). pick b (suspect p k s t) 0) (and-refused n (stripeFault p k s t) (eqb (verdict p k s t) 1) e z);
+        answer = answers-as n (stripeRefusal p k s t) (r .answer) e (u .0);
+        verdict = u .1 ∙ pick-refused n (stripeRefusal p k s t) (verdict p k s t) 0 e z;
+        disk = u .2 ∙ ap (λ (b : Bool). pick b (suspect p k s t) 0) (and-refused n (stripeRefusal p k s t) (eqb (verdict p k s t) 1) e z);
         bytes = bytes;
       }
 
   -- an accepted call with verdict v
-  done : (v d : ℕ) → stripeFault p k s t ≡ 0 → verdict p k s t ≡ v → d ≡ pick (eqb v 1) (suspect p k s t) 0 → Answers 0 (r .answer) × (r .verdict ≡ v) × (r .disk ≡ d) → ScrubSays p k s t r
+  done : (v d : ℕ) → stripeRefusal p k s t ≡ 0 → verdict p k s t ≡ v → d ≡ pick (eqb v 1) (suspect p k s t) 0 → Answers 0 (r .answer) × (r .verdict ≡ v) × (r .disk ≡ d) → ScrubSays p k s t r
   done v d z e q u =
       record {
-        answer = answers-as 0 (stripeFault p k s t) (r .answer) (sym z) (u .0);
+        answer = answers-as 0 (stripeRefusal p k s t) (r .answer) (sym z) (u .0);
         verdict = u .1 ∙ sym e ∙ sym (ap (λ (n : ℕ). verdictFor n (verdict p k s t)) z);
         disk = u .2 ∙ q ∙ ap (λ (w : ℕ). diskFor 0 w (suspect p k s t)) (sym e) ∙ sym (ap (λ (n : ℕ). diskFor n (verdict p k s t) (suspect p k s t)) z);
         bytes = bytes;
@@ -48,7 +48,7 @@ module _ (p k s : ℕ) (t : List ℕ) (r : Scrubbed) (bytes : allBytes t ≡ tru
   unfolding verdict
   verdict-by c b e q = ap₂ (λ (x y : Bool). pick x 0 (pick y 1 2)) e q
 
-  module _ (c : Bool) (z : stripeFault p k s t ≡ 0) (e : c ≡ (eqb (stripeFault p k s t) 0 && clean p k s t)) where
+  module _ (c : Bool) (z : stripeRefusal p k s t ≡ 0) (e : c ≡ (eqb (stripeRefusal p k s t) 0 && clean p k s t)) where
     clean-is : c ≡ clean p k s t
     clean-is = e ∙ ap (λ (n : ℕ). eqb n 0 && clean p k s t) z
 

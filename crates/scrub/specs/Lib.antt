@@ -1,3 +1,3 @@
 -- What the scrub of a stripe promises.
-pub mod Says
-pub mod clean
+pub mod ScrubSays
+pub mod CheckSays

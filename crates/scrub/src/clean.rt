@@ -4,8 +4,8 @@ ghost use Prim.Native.Nat.{_<_};
 ghost use lib.ListN.{length};
 ghost use Rattle.mathematics.specs.Sums.{allTo};
 ghost use Rattle.liberation.specs.stripes.Stripes.{setClean, clean};
-ghost use Rattle.liberation.specs.stripes.Limits.{Sized};
-ghost use Rattle.scrub.specs.clean.Says.{CheckSays};
+ghost use Rattle.liberation.specs.stripes.StripeLimits.{Sized};
+ghost use Rattle.scrub.specs.CheckSays.{CheckSays};
 use refusals::Answer;
 use refusals::Shape;
 
@@ -16,7 +16,8 @@ pub struct Checked {
     pub clean: bool,
 }
 
-// Do the cells of every row set XOR to zero? One run of bytes over the columns of the data disks and P.
+// Do the cells of every row set XOR to zero? One run of bytes over the columns of the data disks
+// and P.
 fn rows_are_clean(width: usize, disks: usize, size: usize, stripe: &[u8]) -> bool
     requires { ⌜ Sized width disks size (now stripe) ⌝ }
     ensures { λ r. ⌜ r ≡ allTo width (λ i. setClean width disks size (now (stripe .entry)) 0 i) ⌝ }
@@ -74,7 +75,7 @@ fn is_clean(width: usize, disks: usize, size: usize, stripe: &[u8]) -> bool
 pub fn check_stripe(shape: Shape, stripe: &[u8]) -> Checked
     ensures { λ r. ⌜ CheckSays (shape .width) (shape .disks) (shape .«cell_size») (now (stripe .entry)) r ⌝ }
 {
-    let refusal = refusals::stripe_fault(shape.width, shape.disks, shape.cell_size, stripe.len());
+    let refusal = refusals::stripe_refusal(shape.width, shape.disks, shape.cell_size, stripe.len());
     if refusal != 0 {
         return Checked {
             answer: refusals::answered(refusal),

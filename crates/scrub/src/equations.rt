@@ -5,7 +5,7 @@ ghost use lib.ListN.{length};
 ghost use Rattle.liberation.specs.Limits.{InArray};
 ghost use Rattle.liberation.specs.Sets.{setOf, diagonalSet, lostIn, survivingIn};
 ghost use Rattle.liberation.specs.scrub.Survivors.{rowSets, equation};
-ghost use Rattle.stripe_cells.specs.offsets.Offsets.{scaled, Pushed};
+ghost use Rattle.stripe_cells.specs.Offsets.{scaled, Pushed};
 
 // A list with room for the cells of any three sets.
 pub fn no_offsets() -> [usize; 99]
@@ -14,7 +14,8 @@ pub fn no_offsets() -> [usize; 99]
     [0; 99]
 }
 
-// The offsets of a set's cells but those on one disk, after the first `count` numbers; the new count.
+// The offsets of a set's cells but those on one disk, after the first `count` numbers; the new
+// count.
 fn push_set(
     width: usize,
     disks: usize,
@@ -42,7 +43,8 @@ fn push_set(
     count + n
 }
 
-// The same of the row sets of the rows that diagonal `number` has on a data disk: one, and a second one where the diagonal's extra cell is on that disk.
+// The same of the row sets of the rows that diagonal `number` has on a data disk: one, and a second
+// one where the diagonal's extra cell is on that disk.
 fn push_rows(
     width: usize,
     disks: usize,
@@ -66,7 +68,8 @@ fn push_rows(
     push_set(width, disks, size, disk, 0, width - 1 - number, at, n)
 }
 
-// The offsets of an equation's survivors in a lent list; their count. A row set for Q; a diagonal set for P; for a data disk a diagonal set and the row sets of its rows there.
+// The offsets of an equation's survivors in a lent list; their count. A row set for Q; a diagonal
+// set for P; for a data disk a diagonal set and the row sets of its rows there.
 pub fn push_equation(
     width: usize,
     disks: usize,

@@ -1,4 +1,6 @@
-// The test of one disk by the cells of the others: each of its equations holds, which is that the equation's survivors XOR to zero. The offsets of an equation's survivors, at most three sets, go into one list, so no bytes are kept.
+// The test of one disk by the cells of the others: each of its equations holds, which is that the
+// equation's survivors XOR to zero. The offsets of an equation's survivors, at most three sets, go
+// into one list, so no bytes are kept.
 ghost use mathlib.Core.Path.{_≡_};
 ghost use Prim.Native.Nat.{_+_, _≤_, _<_};
 ghost use lib.Dec.{eqb};
@@ -7,10 +9,12 @@ ghost use Rattle.mathematics.specs.Lists.{same};
 ghost use Rattle.xor.specs.Parts.{xorOffsets};
 ghost use Rattle.xor.specs.Reach.{Reached};
 ghost use Rattle.liberation.specs.scrub.Survivors.{equationHolds, fits};
-ghost use Rattle.liberation.specs.stripes.Limits.{Sized};
+ghost use Rattle.liberation.specs.stripes.StripeLimits.{Sized};
 use super::equations;
 
-// Is the XOR of the parts of n bytes zero? What is shorter than a stretch goes block by block at once, and so do the few parts of an equation of a narrow array: a second pass over a stretch takes longer.
+// Is the XOR of the parts of n bytes zero? What is shorter than a stretch goes block by block at
+// once, and so do the few parts of an equation of a narrow array: a second pass over a stretch
+// takes longer.
 fn is_zero(stripe: &[u8], n: usize, at: &[usize]) -> bool
     requires { ⌜ (n ≤ length (now stripe)) × Reached n (length (now stripe)) (now at) ⌝ }
     ensures { λ r. ⌜ r ≡ same (xorOffsets n (now (stripe .entry)) (now (at .entry))) (replicate n 0) ⌝ }
@@ -38,7 +42,9 @@ fn equation_holds(
     is_zero(stripe, size, &at[..n])
 }
 
-// How many equations of a disk hold, from number `from` on and round, before one does not: the width exactly if some clean stripe is alike this one off the disk. The first of them decides most often, and no other answer depends on `from`.
+// How many equations of a disk hold, from number `from` on and round, before one does not: the
+// width exactly if some clean stripe is alike this one off the disk. The first of them decides most
+// often, and no other answer depends on `from`.
 pub fn equations_passed(
     width: usize,
     disks: usize,

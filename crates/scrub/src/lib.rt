@@ -1,4 +1,5 @@
-// The scrub of a stripe: is it clean, is one disk inconsistent with the others, or more than one? The stripe is only read.
+// The scrub of a stripe: is it clean, is one disk inconsistent with the others, or more than one?
+// The stripe is only read.
 mod clean;
 mod equations;
 mod fit;
@@ -9,11 +10,12 @@ pub use clean::check_stripe;
 pub use fit::disk_fits;
 ghost use mathlib.Core.Path.{_≡_};
 ghost use Rattle.refusals.specs.Answers.{Answers};
-ghost use Rattle.scrub.specs.Says.{ScrubSays};
+ghost use Rattle.scrub.specs.ScrubSays.{ScrubSays};
 use refusals::Answer;
 use refusals::Shape;
 
-// The answer, the verdict, 0 for a clean stripe, 1 for one inconsistent disk and 2 for more than one, and that disk's number where the verdict is 1, else 0.
+// The answer, the verdict, 0 for a clean stripe, 1 for one inconsistent disk and 2 for more than
+// one, and that disk's number where the verdict is 1, else 0.
 #[repr(C)]
 pub struct Scrubbed {
     pub answer: Answer,
@@ -32,7 +34,8 @@ fn found(refusal: u8, verdict: u8, disk: usize) -> Scrubbed
     }
 }
 
-// Is a stripe clean, and if not, is there a disk whose cells alone can make it so? Refusals: 1, 13, 2, 5.
+// Is a stripe clean, and if not, is there a disk whose cells alone can make it so? Refusals: 1, 13,
+// 2, 5.
 pub fn scrub_stripe(shape: Shape, stripe: &[u8]) -> Scrubbed
     ensures { λ r. ⌜ ScrubSays (shape .width) (shape .disks) (shape .«cell_size») (now (stripe .entry)) r ⌝ }
 {

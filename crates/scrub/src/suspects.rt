@@ -1,13 +1,15 @@
-// The search for the disk whose cells alone can make a dirty stripe clean: disk by disk, until one fits. The stripe is only read.
+// The search for the disk whose cells alone can make a dirty stripe clean: disk by disk, until one
+// fits. The stripe is only read.
 ghost use mathlib.Core.Path.{_≡_};
 ghost use Prim.Native.Nat.{_+_, _*_, _≤_, _<_};
 ghost use lib.ListN.{length};
 ghost use Rattle.liberation.specs.scrub.Survivors.{suspect};
-ghost use Rattle.liberation.specs.stripes.Limits.{Sized};
+ghost use Rattle.liberation.specs.stripes.StripeLimits.{Sized};
 use super::equations;
 use super::fit;
 
-// A set of a dirty stripe that is not clean: the number of a row set, or the width and the number of a diagonal set. No answer depends on it, so its bound is all that is promised.
+// A set of a dirty stripe that is not clean: the number of a row set, or the width and the number
+// of a diagonal set. No answer depends on it, so its bound is all that is promised.
 fn dirty_set(width: usize, disks: usize, size: usize, stripe: &[u8], at: &mut [usize]) -> usize
     requires { ⌜ Sized width disks size (now stripe) × (length (now at) ≡ 99) ⌝ }
     ensures { λ r. ⌜ r < 2 * width ⌝ }
@@ -37,7 +39,9 @@ fn start(width: usize, disks: usize, disk: usize, dirty: usize) -> usize
     parity_sets::diagonal_of(width, disk, dirty)
 }
 
-// The number of the diagonal whose extra cell is on a data disk. Where every cell of one disk has changed by the same bytes, the two sets of most equations cancel, but the three of this one do not. No answer depends on it either.
+// The number of the diagonal whose extra cell is on a data disk. Where every cell of one disk has
+// changed by the same bytes, the two sets of most equations cancel, but the three of this one do
+// not. No answer depends on it either.
 fn extra_diagonal(width: usize, disk: usize) -> usize
     requires { ⌜ (0 < width) × (width ≤ 31) × (disk ≤ width + 1) ⌝ }
     ensures { λ r. ⌜ r < width ⌝ }
@@ -52,7 +56,8 @@ fn extra_diagonal(width: usize, disk: usize) -> usize
     (width - disk) >> 1
 }
 
-// The number of the equation of a disk that is tested first: that of the extra cell, or the one that has a set that is not clean.
+// The number of the equation of a disk that is tested first: that of the extra cell, or the one
+// that has a set that is not clean.
 fn first_number(width: usize, disks: usize, disk: usize, dirty: usize, extra: bool) -> usize
     requires { ⌜ (0 < width) × (width ≤ 31) × (disks ≤ width) × (disk ≤ width + 1) × (dirty < 2 * width) ⌝ }
     ensures { λ r. ⌜ r < width ⌝ }
@@ -63,7 +68,8 @@ fn first_number(width: usize, disks: usize, disk: usize, dirty: usize, extra: bo
     start(width, disks, disk, dirty)
 }
 
-// The first disk that fits, two more than the data disks if none does. Where the first equation of a disk did not refuse it, that of the next one is chosen the other way.
+// The first disk that fits, two more than the data disks if none does. Where the first equation of
+// a disk did not refuse it, that of the next one is chosen the other way.
 fn first_fit(
     width: usize,
     disks: usize,

@@ -1,4 +1,7 @@
--- Each file's quotient rounded up is the least number of stripes that holds it, since the remainder is below the divisor. Added, they are at least the stripes of the whole length and hold at most one stripe less a byte more than it for each file that is not empty. Loops over the lengths go by what is left of the list.
+-- Each file's quotient rounded up is the least number of stripes that holds it, since the remainder
+-- is below the divisor. Added, they are at least the stripes of the whole length and hold at most
+-- one stripe less a byte more than it for each file that is not empty. Loops over the lengths go by
+-- what is left of the list.
 use mathlib.Core.Path.{_≡_, refl, sym, ap, _∙_}
 use mathlib.Core.List.{List, [], _∷_}
 use mathlib.Core.Logic.{⊎-elim}
@@ -10,7 +13,7 @@ use lib.ListN.{length, getD, drop}
 use lib.Seq.{drop-cons, drop-length, ext-getD}
 use Rattle.mathematics.specs.Sums.{total}
 use Rattle.mathematics.proofs.OrderLaws.{lt-or-le}
-use Rattle.space.specs.Says.{upBy, upEach, nonempty, Few, Placed, Each}
+use Rattle.space.specs.Says.{upBy, upEach, nonempty, FewFiles, Placed, Each}
 
 -- q times d are less than d above a, so one time fewer is below a
 one-fewer : (q a d : ℕ) → 0 < d → 0 < a → q * d ≤ a + (d - 1) → (q - 1) * d < a
@@ -63,7 +66,8 @@ module _ (d : ℕ) (h : 0 < d) (ls : List ℕ) where
   each-once ns e =
       ext-getD 0 (upEach d ls) ns (each-long d ls ∙ sym (e .files)) (λ i l. let m : i < length ls = rw (each-long d ls) at l in each-at d ls i m ∙ placed-is d h (getD ls i 0) (getD ns i 0) (e .placed i m))
 
--- all stripes together: at least those of the whole length, and for each file that is not empty less than one stripe more
+-- all stripes together: at least those of the whole length, and for each file that is not empty
+-- less than one stripe more
 module _ (d : ℕ) (h : 0 < d) where
   whole : (ls : List ℕ) → total ls ≤ total (upEach d ls) * d
   unfolding total upEach
@@ -86,7 +90,7 @@ nonempty-few (zero ∷ ls) = omega (arith, nonempty-few ls)
 nonempty-few (suc l ∷ ls) = omega (arith, nonempty-few ls)
 
 -- few files: their stripes hold less than 2^49 bytes
-pub files-small : (d : ℕ) (ls : List ℕ) → Few d ls → total (upEach d ls) * d < 2 ^ 49
+pub files-small : (d : ℕ) (ls : List ℕ) → FewFiles d ls → total (upEach d ls) * d < 2 ^ 49
 files-small d ls f =
     let n : nonempty ls ≤ 4096 = omega (arith, nonempty-few ls, f .files) in
     let e : d - 1 ≤ 3936255 = omega (arith, f .holds) in
@@ -94,7 +98,7 @@ files-small d ls f =
     omega (arith, f .bytes, files-most d (f .pos) ls)
 
 -- so they are fewer than 2^49 too
-pub stripes-small : (d : ℕ) (ls : List ℕ) → Few d ls → total (upEach d ls) < 2 ^ 49
+pub stripes-small : (d : ℕ) (ls : List ℕ) → FewFiles d ls → total (upEach d ls) < 2 ^ 49
 stripes-small d ls f = omega (arith, files-small d ls f, mul-le-mul-left (total (upEach d ls)) (f .pos))
 
 -- a loop over the lengths: at the end none is left that takes a stripe

@@ -1,2 +1,4 @@
 pub mod FilesLaws
 pub mod SpaceLaws
+pub mod LeftLaws
+pub mod SpaceRefusals

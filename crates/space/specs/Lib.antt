@@ -1,3 +1,3 @@
 -- What the space call promises.
 pub mod Says
-pub mod limits
+pub mod Refusals

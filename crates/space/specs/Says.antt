@@ -1,4 +1,5 @@
--- The space that a package of files takes (document 01, "Run and space"; document 02, asks 1 and 3), and the promise of the space call, for accepted and refused calls alike.
+-- The space that a package of files takes (document 01, "Run and space"; document 02, asks 1 and
+-- 3), and the promise of the space call, for accepted and refused calls alike.
 -- p is the width, k the number of data disks, s the bytes of a cell, ls the lengths of the files.
 use mathlib.Core.Path.{_≡_}
 use mathlib.Core.Bool.{Bool, true, false, _&&_}
@@ -10,7 +11,7 @@ use lib.ListN.{length, getD}
 use Rattle.mathematics.specs.Choice.{pick}
 use Rattle.mathematics.specs.Sums.{total}
 use Rattle.refusals.specs.Answers.{Answers}
-use Rattle.space.specs.limits.Faults.{spaceFault}
+use Rattle.space.specs.Refusals.{spaceRefusal}
 use Rattle.space.specs.declared.Space.{Space}
 
 -- the quotient of a by d, "rounded up"
@@ -44,26 +45,27 @@ fitsIn p k s ls free = leb (needOf p k s ls) free
 
 -- the promise of `package_space`: free are "the free bytes of one disk"
 pub record SpaceSays (p k s : ℕ) (ls : List ℕ) (free : ℕ) (r : Space) : Type 0 where
-  pub answer : Answers (spaceFault p k s ls) (r .answer)
-  pub stripes : r .stripes ≡ pick (eqb (spaceFault p k s ls) 0) (stripesOf p k s ls) 0
-  pub bytes : r .bytes ≡ pick (eqb (spaceFault p k s ls) 0) (needOf p k s ls) 0
-  pub fits : r .fits ≡ (eqb (spaceFault p k s ls) 0 && fitsIn p k s ls free)
+  pub answer : Answers (spaceRefusal p k s ls) (r .answer)
+  pub stripes : r .stripes ≡ pick (eqb (spaceRefusal p k s ls) 0) (stripesOf p k s ls) 0
+  pub bytes : r .bytes ≡ pick (eqb (spaceRefusal p k s ls) 0) (needOf p k s ls) 0
+  pub fits : r .fits ≡ (eqb (spaceRefusal p k s ls) 0 && fitsIn p k s ls free)
 
 -- a refusal by number n
-pub record Refused (n : ℕ) (r : Space) : Type 0 where
+pub record SpaceRefused (n : ℕ) (r : Space) : Type 0 where
   pub answer : Answers n (r .answer)
   pub stripes : r .stripes ≡ 0
   pub bytes : r .bytes ≡ 0
   pub fits : r .fits ≡ false
 
 -- files few and short enough for the sum of their stripes, which hold d bytes each
-pub record Few (d : ℕ) (ls : List ℕ) : Type 0 where
+pub record FewFiles (d : ℕ) (ls : List ℕ) : Type 0 where
   pub pos : 0 < d
   pub holds : d ≤ 3936256
   pub files : length ls ≤ 4096
   pub bytes : total ls ≤ 2 ^ 48
 
--- a file of l bytes on n stripes, which hold d bytes each: they hold it, one fewer does not, and an empty file has none
+-- a file of l bytes on n stripes, which hold d bytes each: they hold it, one fewer does not, and an
+-- empty file has none
 pub record Placed (d l n : ℕ) : Type 0 where
   pub enough : l ≤ n * d
   pub fewest : 0 < l → (n - 1) * d < l

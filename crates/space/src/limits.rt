@@ -1,11 +1,13 @@
-// The refusals of the space call by 1, 13, 2, 14 and 11: the numbers of the array, the number of files and the sum of their lengths.
+// The refusals of the space call by 1, 13, 2, 14 and 11: the numbers of the array, the number of
+// files and the sum of their lengths.
 ghost use mathlib.Core.Path.{_≡_};
 ghost use Prim.Native.Nat.{_^_};
 ghost use lib.Dec.{ltb};
 ghost use Rattle.mathematics.specs.Sums.{total};
-ghost use Rattle.space.specs.limits.Faults.{spaceFault};
+ghost use Rattle.space.specs.Refusals.{spaceRefusal};
 
-// Do the lengths add up to more than 2^48? Each is compared with what is left of that, so no sum wraps.
+// Do the lengths add up to more than 2^48? Each is compared with what is left of that, so no sum
+// wraps.
 fn too_long(lengths: &[u64]) -> bool
     ensures { λ r. ⌜ r ≡ ltb (2 ^ 48) (total (now (lengths .entry))) ⌝ }
 {
@@ -22,13 +24,14 @@ fn too_long(lengths: &[u64]) -> bool
     false
 }
 
-// The refusal of a package of files, 0 for none: 1, 13, 2, then 14 for more than 4,096 files, then 11 for more than 2^48 bytes.
-pub fn space_fault(width: usize, disks: usize, size: usize, lengths: &[u64]) -> u8
-    ensures { λ r. ⌜ r ≡ spaceFault width disks size (now (lengths .entry)) ⌝ }
+// The refusal of a package of files, 0 for none: 1, 13, 2, then 14 for more than 4,096 files, then
+// 11 for more than 2^48 bytes.
+pub fn space_refusal(width: usize, disks: usize, size: usize, lengths: &[u64]) -> u8
+    ensures { λ r. ⌜ r ≡ spaceRefusal width disks size (now (lengths .entry)) ⌝ }
 {
-    let fault = refusals::shape_fault(width, disks, size);
-    if fault != 0 {
-        return fault;
+    let refusal = refusals::shape_refusal(width, disks, size);
+    if refusal != 0 {
+        return refusal;
     }
     if 4096 < lengths.len() {
         return 14;

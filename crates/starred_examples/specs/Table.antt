@@ -1,4 +1,5 @@
--- The starred examples of document 01 ("Checked examples"), a row each: what the definitions compute, and what document 01 states.
+-- The starred examples of document 01 ("Checked examples"), a row each: what the definitions
+-- compute, and what document 01 states.
 use mathlib.Core.Bool.{Bool, true, _&&_}
 use mathlib.Core.List.{List, [], _∷_, _++_}
 use Prim.Native.Nat.{ℕ}
@@ -9,15 +10,15 @@ use Rattle.mathematics.specs.Lists.{same}
 use Rattle.liberation.specs.Plans.{Step, step, routes, planOf, readCount}
 use Rattle.liberation.specs.Judging.{judge}
 use Rattle.liberation.specs.stripes.Stripes.{encoded, rebuilt, clean}
-use Rattle.space.specs.limits.Faults.{spaceFault}
+use Rattle.space.specs.Refusals.{spaceRefusal}
 use Rattle.space.specs.Says.{stripesOf, needOf}
 
-pub record Row : Type 0 where
+pub record Example : Type 0 where
   pub computed : List ℕ
   pub stated : List ℕ
 
 infixl 20 _is_
-abbrev pub _is_ : List ℕ → List ℕ → Row
+abbrev pub _is_ : List ℕ → List ℕ → Example
 c is s = record { computed = c; stated = s }
 
 -- a route, row 0 first: 1 where the row takes a diagonal
@@ -36,7 +37,7 @@ judgement p f ss = judge p p f ss .number ∷ (judge p p f ss .place ∷ (readCo
 
 -- what a package of files of these lengths takes with p data disks: number, stripes
 abbrev pub takes : ℕ → ℕ → List ℕ → List ℕ
-takes p s ls = spaceFault p p s ls ∷ (stripesOf p p s ls ∷ [])
+takes p s ls = spaceRefusal p p s ls ∷ (stripesOf p p s ls ∷ [])
 
 -- the plans of the examples
 abbrev pub allRows : List Step
@@ -48,7 +49,8 @@ mixed = step 0 0 0 ∷ (step 3 0 3 ∷ (step 4 0 4 ∷ (step 1 1 0 ∷ (step 2 1
 abbrev pub evenRows : List Step
 evenRows = step 0 0 0 ∷ (step 2 0 2 ∷ (step 4 0 4 ∷ (step 1 1 1 ∷ (step 3 1 3 ∷ []))))
 
--- the stripe of the example: p = 3, s = 1, rows 01 02 04 / 08 10 20 / 40 80 00, disk by disk, and its parity
+-- the stripe of the example: p = 3, s = 1, rows 01 02 04 / 08 10 20 / 40 80 00, disk by disk, and
+-- its parity
 abbrev pub film : List ℕ
 film = 0x01 ∷ (0x08 ∷ (0x40 ∷ (0x02 ∷ (0x10 ∷ (0x80 ∷ (0x04 ∷ (0x20 ∷ (0x00 ∷ []))))))))
 
@@ -59,8 +61,8 @@ filmLost = 0x01 ∷ (0x08 ∷ (0x40 ∷ (0x5A ∷ (0xA5 ∷ (0xFF ∷ (0x04 ∷ 
 abbrev pub filmParity : List ℕ
 filmParity = 0x07 ∷ (0x38 ∷ (0xC0 ∷ (0x11 ∷ (0x9C ∷ (0x66 ∷ [])))))
 
-unfoldable pub table : List Row
-table =
+unfoldable pub starredTable : List Example
+starredTable =
     -- P is 07 38 C0, Q is 11 9C 66, whatever stood there before; the stripe is then clean
     (encoded 3 3 1 (film ++ replicate 6 9) is (film ++ filmParity))
     ∷ (((when (clean 3 3 1 (film ++ filmParity)) 1 ∷ []) is (1 ∷ []))
@@ -82,13 +84,14 @@ table =
     ∷ ((judgement 5 1 mixed is (0 ∷ (0 ∷ (20 ∷ []))))
     -- p = 5, lost 0: R0, R2, R4, D1, D3, 21
     ∷ ((judgement 5 0 evenRows is (0 ∷ (0 ∷ (21 ∷ []))))
-    -- p = 5, s = 4,096: 102,400 bytes take 1 stripe, 20,480 bytes a disk; 102,401 take 2; "packages of one file" (document 02, ask 3)
+    -- p = 5, s = 4,096: 102,400 bytes take 1 stripe, 20,480 bytes a disk; 102,401 take 2; "packages
+    -- of one file" (document 02, ask 3)
     ∷ ((takes 5 4096 (102400 ∷ []) is (0 ∷ (1 ∷ [])))
     ∷ (((needOf 5 5 4096 (102400 ∷ []) ∷ []) is (20480 ∷ []))
     ∷ ((takes 5 4096 (102401 ∷ []) is (0 ∷ (2 ∷ [])))
     ∷ [])))))))))))))))))
 
 -- every row agrees
-unfoldable pub agree : List Row → Bool
+unfoldable pub agree : List Example → Bool
 agree [] = true
 agree (r ∷ rs) = same (r .computed) (r .stated) && agree rs

@@ -1,4 +1,6 @@
--- All rows as one run: the offsets of row 0's cells are those of the columns, and the XOR of the other columns, put in place of a disk's column, does the steps of all row sets for that disk, since no step reads what another one writes.
+-- All rows as one run: the offsets of row 0's cells are those of the columns, and the XOR of the
+-- other columns, put in place of a disk's column, does the steps of all row sets for that disk,
+-- since no step reads what another one writes.
 use mathlib.Core.Path.{_≡_, sym, subst, ap, ap₂, _∙_}
 use mathlib.Core.Bool.{true, _&&_, not}
 use mathlib.Core.Logic.{_⊎_, ⊎-elim}
@@ -17,19 +19,19 @@ use Rattle.liberation.specs.Sets.{place, diskAt, rowAt, rowFrom, rowSet, surviv
 use Rattle.liberation.specs.Plans.{allOf}
 use Rattle.liberation.proofs.SetLaws.{place-of, in-row, in-surviving}
 use Rattle.liberation.specs.stripes.Stripes.{cellAt, withCell, xorOver, without, followed, columnOf, withColumn, stripeLong}
-use Rattle.liberation.proofs.stripes.CellLaws.{cell-fits, cells-apart, cell-long, cells-equal, cell-with, cell-other, length-with, column-same, cell-off, column-put}
+use Rattle.liberation.proofs.stripes.StripeCellLaws.{cell-fits, cells-apart, cell-long, cells-equal, cell-with, cell-other, length-with, column-same, cell-off, column-put}
 use Rattle.liberation.proofs.stripes.OverLaws.{over-ext}
 use Rattle.xor.specs.Parts.{withPart, xorOffsets}
 use Rattle.xor.specs.Reach.{Reached}
 use Rattle.xor.proofs.BlockLaws.{offsets-long}
 use Rattle.xor.proofs.StoreLaws.{part-long}
 use Rattle.xor_in_place.specs.Beside.{Apart}
-use Rattle.stripe_cells.specs.offsets.Offsets.{scaled, Pushed}
-use Rattle.stripe_cells.proofs.offsets.OffsetLaws.{over-offsets, each-offset}
-use Rattle.stripe_cells.proofs.offsets.KeptLaws.{cell-walk, surviving-but}
-use Rattle.stripe_cells.proofs.offsets.RunLaws.{run-cell}
-use Rattle.stripe_cells.proofs.ordinary.OrdinaryLists.{both-pushed}
-use Rattle.stripe_cells.proofs.in_set.SetLists.{survivors-one}
+use Rattle.stripe_cells.specs.Offsets.{scaled, Pushed}
+use Rattle.stripe_cells.proofs.OffsetLaws.{over-offsets, each-offset}
+use Rattle.stripe_cells.proofs.KeptLaws.{cell-walk, surviving-but}
+use Rattle.stripe_cells.proofs.RunLaws.{run-cell}
+use Rattle.stripe_cells.proofs.OrdinaryLists.{both-pushed}
+use Rattle.stripe_cells.proofs.SetLists.{survivors-one}
 use Rattle.stripe_cells.proofs.OrdinaryLaws.{others-are, row-own}
 
 -- the cells of row i but that on disk d, as they are pushed

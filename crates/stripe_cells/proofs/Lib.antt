@@ -2,3 +2,12 @@
 pub mod OrdinaryLaws
 pub mod ColumnLaws
 pub mod LoopLaws
+pub mod ListedLaws
+pub mod OddLaws
+pub mod OrdinaryLists
+pub mod OffsetLaws
+pub mod PushLaws
+pub mod KeptLaws
+pub mod RunLaws
+pub mod GatherLaws
+pub mod SetLists

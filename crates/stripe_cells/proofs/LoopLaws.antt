@@ -1,4 +1,5 @@
--- The loop over the sets of one kind: the steps that are left, done to the stripe as it stands, give what all steps give.
+-- The loop over the sets of one kind: the steps that are left, done to the stripe as it stands,
+-- give what all steps give.
 use mathlib.Core.Path.{_≡_, sym, ap, ap₂, _∙_}
 use mathlib.Core.List.{List}
 use Prim.Native.Nat.{ℕ, suc, _+_, _-_, _≤_, _<_}

@@ -1,4 +1,6 @@
--- The set without one of its ordinary cells: a set has one ordinary cell on a disk, and the extra cell is none of them, so it is the set without that disk, but for the extra cell. The XOR of those cells, put at the ordinary one, is the set's step.
+-- The set without one of its ordinary cells: a set has one ordinary cell on a disk, and the extra
+-- cell is none of them, so it is the set without that disk, but for the extra cell. The XOR of
+-- those cells, put at the ordinary one, is the set's step.
 use mathlib.Core.Path.{_≡_, refl, sym, subst, ap, ap₂, _∙_}
 use mathlib.Core.Bool.{Bool, true, false, _&&_}
 use mathlib.Core.Logic.{_⊎_, inl, inr, ⊎-elim}
@@ -21,17 +23,17 @@ use Rattle.liberation.proofs.SetLaws.{disk-place, place-of, in-row, in-ordinary
 use Rattle.liberation.proofs.DistinctLaws.{extra-apart}
 use Rattle.liberation.proofs.PlaceLaws.{disk-below}
 use Rattle.liberation.specs.stripes.Stripes.{without, solved, stripeLong}
-use Rattle.liberation.proofs.stripes.CellLaws.{cell-fits, cells-apart}
+use Rattle.liberation.proofs.stripes.StripeCellLaws.{cell-fits, cells-apart}
 use Rattle.liberation.proofs.stripes.OverLaws.{without-keeps, without-none}
 use Rattle.xor.specs.Parts.{withPart, xorOffsets}
 use Rattle.xor.specs.Reach.{Reached}
 use Rattle.xor_in_place.specs.Beside.{Beside, Apart}
-use Rattle.stripe_cells.specs.offsets.Offsets.{scaled, Pushed}
-use Rattle.stripe_cells.proofs.offsets.OffsetLaws.{length-scaled, over-offsets, each-offset, cells-reached}
-use Rattle.stripe_cells.proofs.offsets.KeptLaws.{surviving-keeps}
-use Rattle.stripe_cells.specs.ordinary.Cells.{survivors, ordinaryOf}
-use Rattle.stripe_cells.specs.in_set.Cells.{extraIn}
-use Rattle.stripe_cells.proofs.in_set.SetLists.{survivors-one, set-split, extra-kept, own-row, reached}
+use Rattle.stripe_cells.specs.Offsets.{scaled, Pushed}
+use Rattle.stripe_cells.proofs.OffsetLaws.{length-scaled, over-offsets, each-offset, cells-reached}
+use Rattle.stripe_cells.proofs.KeptLaws.{surviving-keeps}
+use Rattle.stripe_cells.specs.OrdinaryCells.{survivors, ordinaryOf}
+use Rattle.stripe_cells.specs.SetCells.{extraIn}
+use Rattle.stripe_cells.proofs.SetLists.{survivors-one, set-split, extra-kept, own-row, reached}
 use Rattle.stripe_cells.specs.Cells.{Ordinary}
 
 -- the set without its ordinary cell on disk c

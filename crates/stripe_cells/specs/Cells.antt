@@ -4,7 +4,7 @@ use mathlib.Core.Bool.{true}
 use Prim.Native.Nat.{ℕ, _<_}
 use Rattle.mathematics.specs.Lists.{isIn}
 use Rattle.liberation.specs.Sets.{place}
-use Rattle.stripe_cells.specs.ordinary.Cells.{ordinaryOf}
+use Rattle.stripe_cells.specs.OrdinaryCells.{ordinaryOf}
 
 -- row r of disk c holds an ordinary cell of set i
 pub record Ordinary (p k kind i c r : ℕ) : Type 0 where

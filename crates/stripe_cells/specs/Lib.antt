@@ -1,7 +1,8 @@
 -- What the steps over a stripe ask.
 pub mod Cells
-pub mod in_set
-pub mod odd_cells
-pub mod odd_marks
-pub mod offsets
-pub mod ordinary
+pub mod Toggled
+pub mod Listed
+pub mod OrdinaryCells
+pub mod Offsets
+pub mod Gathered
+pub mod SetCells

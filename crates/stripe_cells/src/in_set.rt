@@ -4,12 +4,13 @@ ghost use Prim.Native.Nat.{_≤_, _<_};
 ghost use lib.ListN.{length};
 ghost use Rattle.liberation.specs.Sets.{setOf};
 ghost use Rattle.liberation.specs.Limits.{InArray};
-ghost use Rattle.stripe_cells.specs.offsets.Offsets.{scaled, Pushed};
-ghost use Rattle.stripe_cells.specs.ordinary.Cells.{survivors, ordinaryOf, Listing};
-ghost use Rattle.stripe_cells.specs.in_set.Cells.{extraIn};
+ghost use Rattle.stripe_cells.specs.Offsets.{scaled, Pushed};
+ghost use Rattle.stripe_cells.specs.OrdinaryCells.{survivors, ordinaryOf, Listing};
+ghost use Rattle.stripe_cells.specs.SetCells.{extraIn};
 use super::ordinary;
 
-// The offset of a set's extra cell, after the first `count` numbers, unless there is none or it is on disk x or y; the new count.
+// The offset of a set's extra cell, after the first `count` numbers, unless there is none or it is
+// on disk x or y; the new count.
 fn push_extra(
     width: usize,
     disks: usize,
@@ -37,7 +38,8 @@ fn push_extra(
     ordinary::push_cell(width, size, width - 1 - number, disk, x, y, at, count)
 }
 
-// The offsets of the cells of a set that are on neither of two lost disks, x ≤ y, in a lent list; their count. For one lost disk both are that disk.
+// The offsets of the cells of a set that are on neither of two lost disks, x ≤ y, in a lent list;
+// their count. For one lost disk both are that disk.
 pub fn surviving(
     width: usize,
     disks: usize,
@@ -55,7 +57,8 @@ pub fn surviving(
     push_extra(width, disks, size, kind, number, x, y, at, n)
 }
 
-// The offsets of the cells of a set but its ordinary cell on a disk, in a lent list; their count. The extra cell is on a data disk, so never on P.
+// The offsets of the cells of a set but its ordinary cell on a disk, in a lent list; their count.
+// The extra cell is on a data disk, so never on P.
 pub fn others(
     width: usize,
     disks: usize,

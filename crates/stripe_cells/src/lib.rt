@@ -1,10 +1,10 @@
-// The cells of a lent stripe: the byte offsets of a parity set's cells, and one cell solved by its set.
-// Steps over a stripe: one cell by its set, all cells of a disk by their sets.
-pub mod in_set;
+// The cells of a lent stripe: the byte offsets of a parity set's cells, and one cell solved by its
+// set.
+mod in_set;
 mod odd_cells;
-pub mod odd_marks;
-pub mod offsets;
-pub mod ordinary;
+mod odd_marks;
+mod offsets;
+mod ordinary;
 
 pub use in_set::surviving;
 pub use odd_cells::gather_odd;
@@ -20,10 +20,11 @@ ghost use lib.ListN.{length};
 ghost use Rattle.liberation.specs.Sets.{place, setOf};
 ghost use Rattle.liberation.specs.Plans.{allOf};
 ghost use Rattle.liberation.specs.stripes.Stripes.{solved, followed};
-ghost use Rattle.liberation.specs.stripes.Limits.{Sized};
+ghost use Rattle.liberation.specs.stripes.StripeLimits.{Sized};
 ghost use Rattle.stripe_cells.specs.Cells.{Ordinary};
 
-// A set's ordinary cell, of this disk and row, becomes the XOR of the other cells of the set, by a lent list.
+// A set's ordinary cell, of this disk and row, becomes the XOR of the other cells of the set, by a
+// lent list.
 pub fn solve_by(
     width: usize,
     disks: usize,
@@ -62,7 +63,8 @@ pub fn solve(
     solve_by(width, disks, size, kind, number, disk, row, stripe, &mut at);
 }
 
-// All cells of a data disk or of P by the row sets, as one run of bytes: the column becomes the XOR of the other columns.
+// All cells of a data disk or of P by the row sets, as one run of bytes: the column becomes the XOR
+// of the other columns.
 pub fn solve_rows(width: usize, disks: usize, size: usize, disk: usize, stripe: &mut [u8])
     requires { ⌜ Sized width disks size (now stripe) × (disk ≤ disks) ⌝ }
     ensures { λ _. ⌜ now (stripe .exit) ≡ followed width disks size disk (allOf width 0 0) (now (stripe .entry)) ⌝ }

@@ -1,16 +1,18 @@
-// The XOR of a list of cells in which cells occur more than once: only those that occur an odd number of times need to be read. Their marks are odd, and they are gathered, a list at a time.
+// The XOR of a list of cells in which cells occur more than once: only those that occur an odd
+// number of times need to be read. Their marks are odd, and they are gathered, a list at a time.
 ghost use mathlib.Core.Path.{_≡_};
 ghost use Prim.Native.Nat.{_≤_, _*_};
 ghost use lib.ListN.{length};
 ghost use Rattle.mathematics.specs.Xor.{xorL};
-ghost use Rattle.stripe_cells.specs.offsets.Offsets.{scaled};
+ghost use Rattle.stripe_cells.specs.Offsets.{scaled};
 ghost use Rattle.xor.specs.Parts.{part, withPart, xorOffsets};
-ghost use Rattle.stripe_cells.specs.odd_marks.Toggled.{oddFrom};
-ghost use Rattle.stripe_cells.specs.odd_marks.Listed.{oddOffsets};
-ghost use Rattle.stripe_cells.specs.odd_cells.Gathered.{MarkedStripe, Start, OddAdded};
+ghost use Rattle.stripe_cells.specs.Toggled.{oddFrom};
+ghost use Rattle.stripe_cells.specs.Listed.{oddOffsets};
+ghost use Rattle.stripe_cells.specs.Gathered.{MarkedStripe, Start, OddAdded};
 use super::odd_marks;
 
-// The cell `to` becomes the XOR of the cells in the list and of the odd cells from `from` on, as far as the list has room; the first place that was not looked at.
+// The cell `to` becomes the XOR of the cells in the list and of the odd cells from `from` on, as
+// far as the list has room; the first place that was not looked at.
 fn gather_list(
     stripe: &mut [u8],
     size: usize,
@@ -29,7 +31,8 @@ fn gather_list(
     listed.next
 }
 
-// The cell `to` ^= the odd cells from `from` on, list by list; the cell itself is in front of each list.
+// The cell `to` ^= the odd cells from `from` on, list by list; the cell itself is in front of each
+// list.
 fn add_odd(stripe: &mut [u8], size: usize, to: usize, marks: &[u8], from: usize, at: &mut [usize])
     requires { ⌜ MarkedStripe size to (now marks) (now stripe) × (from ≤ length (now marks)) × (2 ≤ length (now at)) × (length (now at) ≤ 100) ⌝ }
     ensures { λ _. ⌜ now (stripe .exit) ≡ withPart size (to * size) (xorL (part size (to * size) (now (stripe .entry))) (xorOffsets size (now (stripe .entry)) (oddOffsets size (now (marks .entry)) from))) (now (stripe .entry)) ⌝ }
@@ -42,7 +45,8 @@ fn add_odd(stripe: &mut [u8], size: usize, to: usize, marks: &[u8], from: usize,
     }
 }
 
-// The cell `to` becomes the XOR of the odd cells, by lists in a lent slice. What that slice then holds is left free.
+// The cell `to` becomes the XOR of the odd cells, by lists in a lent slice. What that slice then
+// holds is left free.
 pub fn gather_odd(stripe: &mut [u8], size: usize, to: usize, marks: &[u8], at: &mut [usize])
     requires { ⌜ MarkedStripe size to (now marks) (now stripe) × (2 ≤ length (now at)) × (length (now at) ≤ 100) ⌝ }
     ensures { λ _. ⌜ now (stripe .exit) ≡ withPart size (to * size) (xorOffsets size (now (stripe .entry)) (scaled size (oddFrom 0 (now (marks .entry))))) (now (stripe .entry)) ⌝ }

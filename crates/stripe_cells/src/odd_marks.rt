@@ -1,9 +1,10 @@
-// Marks, a byte a cell, that are toggled along a list of cells, so that those of the cells that occur an odd number of times are odd; and the offsets of the odd cells, pushed to a list.
+// Marks, a byte a cell, that are toggled along a list of cells, so that those of the cells that
+// occur an odd number of times are odd; and the offsets of the odd cells, pushed to a list.
 ghost use mathlib.Core.Path.{_≡_};
 ghost use Prim.Native.Nat.{ℕ, _<_, _≤_};
 ghost use lib.ListN.{length, getD};
-ghost use Rattle.stripe_cells.specs.odd_marks.Toggled.{toggledAll};
-ghost use Rattle.stripe_cells.specs.odd_marks.Listed.{OddPushed};
+ghost use Rattle.stripe_cells.specs.Toggled.{toggledAll};
+ghost use Rattle.stripe_cells.specs.Listed.{OddPushed};
 
 // Toggles the marks of the places of a list.
 pub fn toggle_all(marks: &mut [u8], places: &[usize])
@@ -25,7 +26,8 @@ pub struct Listed {
     pub next: usize,
 }
 
-// The offsets of the odd places from `from` on, after the first `count` numbers, as far as the list has room.
+// The offsets of the odd places from `from` on, after the first `count` numbers, as far as the list
+// has room.
 pub fn push_odd(marks: &[u8], size: usize, from: usize, at: &mut [usize], count: usize) -> Listed
     requires { ⌜ (size ≤ 4096) × (length (now marks) ≤ 1023) × (from ≤ length (now marks)) × (count ≤ length (now at)) × (length (now at) ≤ 100) ⌝ }
     ensures { λ r. ⌜ OddPushed size (now (marks .entry)) (now (at .entry)) (now (at .exit)) from count r ⌝ }

@@ -3,7 +3,7 @@ ghost use mathlib.Core.Path.{_≡_};
 ghost use Prim.Native.Nat.{_-_, _≤_};
 ghost use lib.ListN.{length};
 ghost use Rattle.liberation.specs.Sets.{rowFrom, diagonalFrom};
-ghost use Rattle.stripe_cells.specs.offsets.Offsets.{scaled, cellsFrom, Room, Pushed};
+ghost use Rattle.stripe_cells.specs.Offsets.{scaled, cellsFrom, Room, Pushed};
 
 // A list with room for the cells of any set.
 pub fn no_offsets() -> [usize; 33]
@@ -12,7 +12,8 @@ pub fn no_offsets() -> [usize; 33]
     [0; 33]
 }
 
-// The offsets of the cells of row `number` on disks lo to hi - 1, after the first `count` numbers; the new count. From disk to disk the offset goes up by a column.
+// The offsets of the cells of row `number` on disks lo to hi - 1, after the first `count` numbers;
+// the new count. From disk to disk the offset goes up by a column.
 pub fn push_row(
     width: usize,
     size: usize,

@@ -1,11 +1,12 @@
-// The offsets of the ordinary cells of a set but those on lost disks, pushed into a lent list: those on data disks, then that of the parity cell.
+// The offsets of the ordinary cells of a set but those on lost disks, pushed into a lent list:
+// those on data disks, then that of the parity cell.
 ghost use mathlib.Core.Path.{_≡_};
 ghost use mathlib.Core.List.{[], _∷_};
 ghost use Prim.Native.Nat.{_-_, _≤_, _<_};
 ghost use lib.ListN.{length};
 ghost use Rattle.liberation.specs.Sets.{place};
-ghost use Rattle.stripe_cells.specs.offsets.Offsets.{scaled, cellsFrom, Pushed};
-ghost use Rattle.stripe_cells.specs.ordinary.Cells.{survivors, ordinaryOf, parityDisk, Listing};
+ghost use Rattle.stripe_cells.specs.Offsets.{scaled, cellsFrom, Pushed};
+ghost use Rattle.stripe_cells.specs.OrdinaryCells.{survivors, ordinaryOf, parityDisk, Listing};
 use super::offsets;
 
 // The smaller one of two numbers.
@@ -23,7 +24,8 @@ fn parity_disk(disks: usize, kind: usize) -> usize
     if kind == 0 { disks } else { disks + 1 }
 }
 
-// The offset of a cell, after the first `count` numbers, unless the cell is on disk x or y; the new count.
+// The offset of a cell, after the first `count` numbers, unless the cell is on disk x or y; the new
+// count.
 pub fn push_cell(
     width: usize,
     size: usize,
@@ -47,7 +49,8 @@ pub fn push_cell(
     count + 1
 }
 
-// The offsets of a set's cells on data disks but x and y: those before x, between x and y, and after y, so no test for each cell is needed.
+// The offsets of a set's cells on data disks but x and y: those before x, between x and y, and
+// after y, so no test for each cell is needed.
 fn push_data(
     width: usize,
     disks: usize,

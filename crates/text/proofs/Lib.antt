@@ -1,3 +1,4 @@
 -- Laws of written text.
 pub mod WriteLaws
 pub mod DigitLaws
+pub mod FieldLaws

@@ -1,4 +1,5 @@
--- Pieces written one after the other are one piece: the second writer finds the first piece in front of its place and the old bytes behind it.
+-- Pieces written one after the other are one piece: the second writer finds the first piece in
+-- front of its place and the old bytes behind it.
 use mathlib.Core.Path.{_≡_, refl, sym, ap, ap₂, _∙_}
 use mathlib.Core.List.{List, [], _∷_, _++_, append-assoc, append-nil}
 use Prim.Native.Nat.{ℕ, suc, _+_, _-_, _≤_, _<_}

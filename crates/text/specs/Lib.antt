@@ -1,4 +1,4 @@
 -- Text in a lent slice.
 pub mod Writing
 pub mod Digits
-pub mod steps
+pub mod Fields

@@ -1,4 +1,5 @@
--- Text written into a buffer piece by piece: a writer puts its piece t from place `at` on, changes nothing else, and says where the piece ends.
+-- Text written into a buffer piece by piece: a writer puts its piece t from place `at` on, changes
+-- nothing else, and says where the piece ends.
 use mathlib.Core.Path.{_≡_}
 use mathlib.Core.List.{List, _++_}
 use Prim.Native.Nat.{ℕ, _+_, _≤_}

@@ -1,6 +1,7 @@
-// Text in a lent slice. The writers put a piece at a place, a fixed word or a number in decimal, leave all other bytes as they are, and say where the piece ends.
+// Text in a lent slice. The writers put a piece at a place, a fixed word or a number in decimal,
+// leave all other bytes as they are, and say where the piece ends.
 // The readers look at one byte.
-pub mod steps;
+mod steps;
 
 pub use steps::put_field;
 pub use steps::put_step;

@@ -1,10 +1,11 @@
-// The fields of a plan's step written as text: a number, the letter of a set's kind, and the three fields of a step, each with the byte that ends it.
+// The fields of a plan's step written as text: a number, the letter of a set's kind, and the three
+// fields of a step, each with the byte that ends it.
 ghost use mathlib.Core.List.{[], _∷_, _++_};
 ghost use Prim.Native.Nat.{_+_, _≤_, _<_};
 ghost use lib.ListN.{length};
 ghost use Rattle.text.specs.Writing.{Wrote};
 ghost use Rattle.text.specs.Digits.{digitsOf};
-ghost use Rattle.text.specs.steps.Fields.{letterOf, stepFields};
+ghost use Rattle.text.specs.Fields.{letterOf, stepFields};
 
 // Puts a number below 100 and the byte that ends its field.
 pub fn put_field(out: &mut [u8], at: usize, n: usize, stop: u8) -> usize

@@ -1,2 +1,2 @@
-pub mod first_cell
-pub mod set_sums
+pub mod SumDisks
+pub mod WalkDisks

@@ -1,11 +1,13 @@
-// The start of the walk from sums, over two lost data disks of which y is not disk 0: the surviving cells of the start's sets are summed into the lost cells that these sets give, and the first cell is the XOR of those.
+// The start of the walk from sums, over two lost data disks of which y is not disk 0: the surviving
+// cells of the start's sets are summed into the lost cells that these sets give, and the first cell
+// is the XOR of those.
 ghost use mathlib.Core.Path.{_≡_};
 ghost use Prim.Native.Nat.{_≤_, _<_};
 ghost use lib.ListN.{length};
 ghost use Rattle.liberation.specs.two_disks_by_sums.Sums.{startSteps, cellsOf, sumStarted};
-ghost use Rattle.two_disk_walk.specs.first_cell.Disks.{Walked};
-ghost use Rattle.stripe_cells.specs.offsets.Offsets.{scaled, Pushed};
-ghost use Rattle.two_disk_walk.specs.set_sums.Disks.{Lost};
+ghost use Rattle.two_disk_walk.specs.WalkDisks.{Walked};
+ghost use Rattle.stripe_cells.specs.Offsets.{scaled, Pushed};
+ghost use Rattle.two_disk_walk.specs.SumDisks.{Lost};
 use super::numbers;
 use super::set_sums;
 
@@ -36,7 +38,8 @@ fn push_sums(
     n
 }
 
-// The start: the sets of half of the rows, from that of the extra cell on y on, summed into the cells that they give. The first cell, the last of these, becomes the XOR of them all.
+// The start: the sets of half of the rows, from that of the extra cell on y on, summed into the
+// cells that they give. The first cell, the last of these, becomes the XOR of them all.
 pub fn start_sums(
     width: usize,
     disks: usize,

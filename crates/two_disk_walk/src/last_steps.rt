@@ -1,4 +1,5 @@
-// The last steps of the walk from sums, over two lost data disks: a lost cell that holds the XOR of its set's surviving cells gets the set's other lost cells added.
+// The last steps of the walk from sums, over two lost data disks: a lost cell that holds the XOR of
+// its set's surviving cells gets the set's other lost cells added.
 ghost use mathlib.Core.Path.{_≡_};
 ghost use mathlib.Core.List.{_∷_};
 ghost use Prim.Native.Nat.{_<_};
@@ -6,10 +7,11 @@ ghost use Rattle.liberation.specs.Sets.{place};
 ghost use Rattle.liberation.specs.stripes.Steps.{cellStep};
 ghost use Rattle.liberation.specs.two_disks.PairSteps.{walkSteps};
 ghost use Rattle.liberation.specs.two_disks_by_sums.Sums.{addedAll};
-ghost use Rattle.two_disk_walk.specs.set_sums.Disks.{Lost};
+ghost use Rattle.two_disk_walk.specs.SumDisks.{Lost};
 use super::lost_cells;
 
-// The diagonal set and the row set of each of `count` rows after this row, added into the cells that they give.
+// The diagonal set and the row set of each of `count` rows after this row, added into the cells
+// that they give.
 fn add_sets(
     count: usize,
     width: usize,

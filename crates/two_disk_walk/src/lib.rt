@@ -1,4 +1,5 @@
-// The walk over two lost data disks: its first cell, its diagonal and row steps, and the walk from sums.
+// The walk over two lost data disks: its first cell, its diagonal and row steps, and the walk from
+// sums.
 mod first_cell;
 mod first_cell_by_sums;
 mod last_steps;
@@ -6,7 +7,7 @@ mod lost_cells;
 mod numbers;
 mod set_sums;
 mod steps;
-pub mod walk;
+mod walk;
 
 pub use first_cell::start;
 pub use walk::walk_sums;

@@ -4,9 +4,9 @@ ghost use Prim.Native.Nat.{_≤_, _<_};
 ghost use lib.ListN.{length};
 ghost use Rattle.liberation.specs.Sets.{place, setOf, lostIn};
 ghost use Rattle.liberation.specs.stripes.Steps.{cellStep};
-ghost use Rattle.liberation.specs.two_disks_by_sums.Sums.{placed, added};
-ghost use Rattle.stripe_cells.specs.offsets.Offsets.{scaled, Pushed};
-ghost use Rattle.two_disk_walk.specs.set_sums.Disks.{Lost};
+ghost use Rattle.liberation.specs.two_disks_by_sums.Sums.{placed, sumAdded};
+ghost use Rattle.stripe_cells.specs.Offsets.{scaled, Pushed};
+ghost use Rattle.two_disk_walk.specs.SumDisks.{Lost};
 
 // The offsets of a set's cells on a lost disk, after the first `count` numbers; the new count.
 fn push_lost(
@@ -51,7 +51,7 @@ pub fn add_set(
     at: &mut [usize],
 )
     requires { ⌜ Lost width disks size x y (now stripe) (now at) × (number < width) × (row < width) × (disk < disks) ⌝ }
-    ensures { λ _. ⌜ now (stripe .exit) ≡ added width disks size x y (cellStep (place width row disk) kind number) (now (stripe .entry)) ⌝ }
+    ensures { λ _. ⌜ now (stripe .exit) ≡ sumAdded width disks size x y (cellStep (place width row disk) kind number) (now (stripe .entry)) ⌝ }
 {
     let n = push_lost(width, disks, size, kind, number, x, at, 0);
     let m = push_lost(width, disks, size, kind, number, y, at, n);

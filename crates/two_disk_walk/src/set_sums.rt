@@ -1,11 +1,12 @@
-// Two lost data disks: the surviving cells of a set, summed into a lost cell. The same of the row set and the diagonal set of each of several rows.
+// Two lost data disks: the surviving cells of a set, summed into a lost cell. The same of the row
+// set and the diagonal set of each of several rows.
 ghost use mathlib.Core.Path.{_≡_};
 ghost use mathlib.Core.Logic.{_⊎_};
 ghost use Prim.Native.Nat.{_<_};
 ghost use Rattle.liberation.specs.Sets.{place};
 ghost use Rattle.liberation.specs.stripes.Steps.{cellStep};
 ghost use Rattle.liberation.specs.two_disks_by_sums.Sums.{summed, summedAll, startSteps};
-ghost use Rattle.two_disk_walk.specs.set_sums.Disks.{Lost};
+ghost use Rattle.two_disk_walk.specs.SumDisks.{Lost};
 
 // A lost cell becomes the XOR of the surviving cells of a set.
 fn sum_set(
@@ -30,7 +31,8 @@ fn sum_set(
     xor_in_place::gather_lists(stripe, to, size, &mut at[..n]);
 }
 
-// The row set and the diagonal set of each of `count` rows, from this row on, summed into the cells that they give.
+// The row set and the diagonal set of each of `count` rows, from this row on, summed into the cells
+// that they give.
 pub fn sum_sets(
     count: usize,
     width: usize,

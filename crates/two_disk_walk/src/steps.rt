@@ -1,11 +1,13 @@
-// The steps of the walk over two lost data disks: document 01, "Two lost disks". Two functions that call each other, a diagonal step and a row step.
+// The steps of the walk over two lost data disks: document 01, "Two lost disks". Two functions that
+// call each other, a diagonal step and a row step.
 ghost use mathlib.Core.Path.{_≡_};
 ghost use Prim.Native.Nat.{_<_};
 ghost use lib.ListN.{length};
 ghost use Rattle.liberation.specs.two_disks.Pairs.{diagonalWalk, rowWalk};
-ghost use Rattle.liberation.specs.stripes.Limits.{Sized};
+ghost use Rattle.liberation.specs.stripes.StripeLimits.{Sized};
 
-// While cells are missing: the diagonal set through disk x's cell of this row gives a cell of disk y, whose row comes next.
+// While cells are missing: the diagonal set through disk x's cell of this row gives a cell of disk
+// y, whose row comes next.
 pub fn diagonal_step(
     left: usize,
     width: usize,

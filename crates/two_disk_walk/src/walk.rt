@@ -1,4 +1,5 @@
-// The walk over two lost data disks: document 01, "Two lost disks". From sums, or to disk 0 on the stripe with the first cell; its steps are below.
+// The walk over two lost data disks: document 01, "Two lost disks". From sums, or to disk 0 on the
+// stripe with the first cell; its steps are below.
 ghost use mathlib.Core.Path.{_≡_};
 ghost use Prim.Native.Nat.{_-_, _*_, _≤_};
 ghost use Rattle.liberation.specs.Sets.{place, rowSet};
@@ -6,14 +7,15 @@ ghost use Rattle.liberation.specs.Plans.{extraRowOn};
 ghost use Rattle.liberation.specs.stripes.Stripes.{solved};
 ghost use Rattle.liberation.specs.two_disks.Pairs.{diagonalWalk};
 ghost use Rattle.liberation.specs.two_disks_by_sums.Sums.{sumWalked};
-ghost use Rattle.liberation.specs.stripes.Limits.{Sized};
-ghost use Rattle.two_disk_walk.specs.first_cell.Disks.{Walked};
+ghost use Rattle.liberation.specs.stripes.StripeLimits.{Sized};
+ghost use Rattle.two_disk_walk.specs.WalkDisks.{Walked};
 use super::first_cell_by_sums;
 use super::last_steps;
 use super::numbers;
 use super::steps;
 
-// Data disks x and 0 after the first cell: its row's other cell, then the walk over the other rows in two halves, so that it takes half of the stack. The second half begins at row x - 1.
+// Data disks x and 0 after the first cell: its row's other cell, then the walk over the other rows
+// in two halves, so that it takes half of the stack. The second half begins at row x - 1.
 pub fn walk_to_zero(width: usize, disks: usize, size: usize, x: usize, stripe: &mut [u8])
     requires { ⌜ Sized width disks size (now stripe) ⌝ }
     requires { ⌜ Walked width disks x 0 ⌝ }
@@ -27,7 +29,9 @@ pub fn walk_to_zero(width: usize, disks: usize, size: usize, x: usize, stripe: &
     steps::diagonal_step(2 * half, width, disks, size, x, 0, x - 1, stripe, &mut at);
 }
 
-// Two data disks, y not disk 0: the walk from sums. Its start leaves in half of the rows the sums of their sets' surviving cells, so the walk ends with the first of these rows and the last steps add.
+// Two data disks, y not disk 0: the walk from sums. Its start leaves in half of the rows the sums
+// of their sets' surviving cells, so the walk ends with the first of these rows and the last steps
+// add.
 pub fn walk_sums(width: usize, disks: usize, size: usize, x: usize, y: usize, stripe: &mut [u8])
     requires { ⌜ Sized width disks size (now stripe) ⌝ }
     requires { ⌜ Walked width disks x y × (1 ≤ y) ⌝ }

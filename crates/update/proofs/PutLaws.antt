@@ -1,4 +1,5 @@
--- With the change in the data cell, handed on to its parity cells, and the new bytes put in last, the stripe is updated in place.
+-- With the change in the data cell, handed on to its parity cells, and the new bytes put in last,
+-- the stripe is updated in place.
 use mathlib.Core.Path.{_≡_, ap, _∙_}
 use mathlib.Core.Bool.{true}
 use mathlib.Core.List.{List}
@@ -9,13 +10,13 @@ use lib.Seq.{take-all}
 use Rattle.mathematics.specs.Xor.{xorL, allBytes}
 use Rattle.liberation.specs.Sets.{place}
 use Rattle.liberation.specs.stripes.Stripes.{cellAt, withCell}
-use Rattle.liberation.proofs.stripes.CellLaws.{cell-long}
+use Rattle.liberation.proofs.stripes.StripeCellLaws.{cell-long}
 use Rattle.liberation.proofs.stripes.Solving.{stripe-of}
 use Rattle.liberation.specs.update.Updates.{parityOf, addedFrom, change, updated, updatedInPlace}
 use Rattle.liberation.proofs.update.InPlace.{in-place}
 use Rattle.xor.specs.Parts.{part}
-use Rattle.update.specs.parity.Cells.{DataCell}
-use Rattle.update.proofs.parity.CellPlaces.{own-fits}
+use Rattle.update.specs.Cells.{DataCell}
+use Rattle.update.proofs.CellPlaces.{own-fits}
 
 -- a data cell of a stripe, and new bytes for it
 module _ (p k s r c : ℕ) (new t : List ℕ) (d : DataCell p k s r c t) (nl : length new ≡ s) where

@@ -1,3 +1,3 @@
 -- What the update of a cell promises.
 pub mod Says
-pub mod parity
+pub mod Cells

@@ -1,15 +1,17 @@
-// Updating one data cell of a stripe, with its row parity and its diagonal parity. The cell itself holds the change while that is added to the parity cells, so no other memory is needed.
-pub mod parity;
+// Updating one data cell of a stripe, with its row parity and its diagonal parity. The cell itself
+// holds the change while that is added to the parity cells, so no other memory is needed.
+mod parity;
 
 ghost use mathlib.Core.Path.{_≡_};
 ghost use lib.ListN.{length};
 ghost use Rattle.liberation.specs.update.Updates.{updated};
-ghost use Rattle.update.specs.parity.Cells.{DataCell};
-ghost use Rattle.update.specs.Says.{updateLengthsFault, UpdateSays};
+ghost use Rattle.update.specs.Cells.{DataCell};
+ghost use Rattle.update.specs.Says.{updateLengthsRefusal, UpdateSays};
 use refusals::Answer;
 use refusals::Shape;
 
-// The new bytes of a data cell, with its parity cells: the cell takes the change, hands it on, then takes the new bytes.
+// The new bytes of a data cell, with its parity cells: the cell takes the change, hands it on, then
+// takes the new bytes.
 fn put_cell(
     width: usize,
     disks: usize,
@@ -29,8 +31,9 @@ fn put_cell(
     xor::copy(&mut stripe[start..end], cell);
 }
 
-// The refusal of a call on a stripe and a cell of these many bytes, 0 for none. P and Q hold no data.
-fn update_fault(
+// The refusal of a call on a stripe and a cell of these many bytes, 0 for none. P and Q hold no
+// data.
+fn update_refusal(
     width: usize,
     disks: usize,
     size: usize,
@@ -39,36 +42,37 @@ fn update_fault(
     stripe: usize,
     cell: usize,
 ) -> u8
-    ensures { λ r. ⌜ r ≡ updateLengthsFault width disks size row disk stripe cell ⌝ }
+    ensures { λ r. ⌜ r ≡ updateLengthsRefusal width disks size row disk stripe cell ⌝ }
 {
-    let shape = refusals::shape_fault(width, disks, size);
+    let shape = refusals::shape_refusal(width, disks, size);
     if shape != 0 {
         return shape;
     }
     if disks <= disk {
         return 3;
     }
-    let first = refusals::length_fault(stripe, (disks + 2) * (width * size));
+    let first = refusals::length_refusal(stripe, (disks + 2) * (width * size));
     if first != 0 {
         return first;
     }
-    let second = refusals::length_fault(cell, size);
+    let second = refusals::length_refusal(cell, size);
     if second != 0 {
         return second;
     }
     if row < width { 0 } else { 15 }
 }
 
-// Puts new bytes into a data cell and keeps the XOR of every set. Refusals: 1, 13, 2, 3, 5, 15; a refused call leaves the stripe as it was.
+// Puts new bytes into a data cell and keeps the XOR of every set. Refusals: 1, 13, 2, 3, 5, 15; a
+// refused call leaves the stripe as it was.
 pub fn update_cell(shape: Shape, row: usize, disk: usize, stripe: &mut [u8], cell: &[u8]) -> Answer
     ensures { λ r. ⌜ UpdateSays (shape .width) (shape .disks) (shape .«cell_size») row disk (now (stripe .entry)) (now (cell .entry)) (now (stripe .exit)) r ⌝ }
 {
     let width = shape.width;
     let disks = shape.disks;
     let size = shape.cell_size;
-    let fault = update_fault(width, disks, size, row, disk, stripe.len(), cell.len());
-    if fault != 0 {
-        return refusals::answered(fault);
+    let refusal = update_refusal(width, disks, size, row, disk, stripe.len(), cell.len());
+    if refusal != 0 {
+        return refusals::answered(refusal);
     }
     put_cell(width, disks, size, row, disk, stripe, cell);
     refusals::answered(0)

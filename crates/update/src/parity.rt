@@ -1,4 +1,5 @@
-// A data cell of a stripe added to its parity cells: the P cell of its row, the Q cell of its diagonal and, where it is an extra cell, of the next one.
+// A data cell of a stripe added to its parity cells: the P cell of its row, the Q cell of its
+// diagonal and, where it is an extra cell, of the next one.
 ghost use mathlib.Core.Path.{_≡_};
 ghost use Prim.Native.Nat.{_+_, _*_, _≤_, _<_};
 ghost use lib.ListN.{length};
@@ -7,9 +8,10 @@ ghost use Rattle.liberation.specs.Sets.{place};
 ghost use Rattle.liberation.specs.Plans.{diagonalOf};
 ghost use Rattle.liberation.specs.stripes.Stripes.{cellAt, withCell};
 ghost use Rattle.liberation.specs.update.Updates.{parityOf, addedFrom};
-ghost use Rattle.update.specs.parity.Cells.{DataCell};
+ghost use Rattle.update.specs.Cells.{DataCell};
 
-// The diagonal of which a data cell is an ordinary cell: (row - disk) mod width, without a remainder.
+// The diagonal of which a data cell is an ordinary cell: (row - disk) mod width, without a
+// remainder.
 fn diagonal_of(width: usize, row: usize, disk: usize) -> usize
     requires { ⌜ (width ≤ 31) × (row < width) × (disk < width) ⌝ }
     ensures { λ r. ⌜ r ≡ diagonalOf width disk row ⌝ }
@@ -31,7 +33,8 @@ fn add_cell(size: usize, from: usize, to: usize, stripe: &mut [u8])
     xor_in_place::gather_within(stripe, offset, size, &at[..2]);
 }
 
-// Each parity cell of a data cell ^= the data cell: the P cell of its row, the Q cell of its diagonal and, where it is the extra cell of the next one, that one's too.
+// Each parity cell of a data cell ^= the data cell: the P cell of its row, the Q cell of its
+// diagonal and, where it is the extra cell of the next one, that one's too.
 pub fn add_to_parity(
     width: usize,
     disks: usize,

@@ -1,4 +1,5 @@
-// A block of a slice, of 64 bytes, of 128 or what is left, becomes that of the XOR of parts of another slice; the block stays in registers.
+// A block of a slice, of 64 bytes, of 128 or what is left, becomes that of the XOR of parts of
+// another slice; the block stays in registers.
 ghost use mathlib.Core.Path.{_≡_};
 ghost use Prim.Native.Nat.{_+_, _-_, _≤_};
 ghost use lib.ListN.{length, drop};
@@ -6,7 +7,8 @@ ghost use Rattle.xor.specs.Parts.{withPart, xorOffsets};
 ghost use Rattle.xor.specs.Reach.{Reached};
 use super::slices;
 
-// The 64 bytes of dst from b on = those of the XOR of the parts. The 64 is a literal at the call, so that the compiler keeps the block in registers.
+// The 64 bytes of dst from b on = those of the XOR of the parts. The 64 is a literal at the call,
+// so that the compiler keeps the block in registers.
 pub fn put_block(dst: &mut [u8], t: &[u8], at: &[usize], b: usize)
     requires { ⌜ (b + 64 ≤ length (now dst)) × (b ≤ length (now t)) × Reached (length (now dst)) (length (now t)) (now at) ⌝ }
     ensures { λ _. ⌜ now (dst .exit) ≡ withPart 64 b (xorOffsets 64 (drop b (now (t .entry))) (now (at .entry))) (now (dst .entry)) ⌝ }

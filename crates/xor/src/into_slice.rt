@@ -1,4 +1,5 @@
-// A slice becomes the XOR of parts of another slice, block by block of 128 and 64 bytes, which stay in registers.
+// A slice becomes the XOR of parts of another slice, block by block of 128 and 64 bytes, which stay
+// in registers.
 ghost use mathlib.Core.Path.{_≡_};
 ghost use Prim.Native.Nat.{_≤_};
 ghost use lib.ListN.{length};
@@ -37,7 +38,8 @@ fn gather_blocks(dst: &mut [u8], t: &[u8], at: &[usize])
     gather_small(&mut dst[b..], &t[b..], at);
 }
 
-// dst = the XOR of the parts of t at the offsets: the first list block by block, the others four a pass.
+// dst = the XOR of the parts of t at the offsets: the first list block by block, the others four a
+// pass.
 pub fn gather(dst: &mut [u8], t: &[u8], at: &[usize])
     requires { ⌜ (length (now dst) ≤ length (now t)) × Reached (length (now dst)) (length (now t)) (now at) ⌝ }
     ensures { λ _. ⌜ now (dst .exit) ≡ xorOffsets (length (now (dst .entry))) (now (t .entry)) (now (at .entry)) ⌝ }

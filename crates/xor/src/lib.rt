@@ -1,8 +1,9 @@
-// Sums of bytes: parts of a slice are added to another slice, or make blocks of 128 and 64 bytes that stay in registers.
+// Sums of bytes: parts of a slice are added to another slice, or make blocks of 128 and 64 bytes
+// that stay in registers.
 mod blocks;
 mod into_slice;
 mod lists;
-pub mod slices;
+mod slices;
 mod stretches;
 
 pub use into_slice::gather;

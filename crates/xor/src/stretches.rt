@@ -1,4 +1,5 @@
-// A slice becomes the XOR of parts of another slice in stretches of 4,096 bytes, so that a stretch stays in the first cache while list after list is added.
+// A slice becomes the XOR of parts of another slice in stretches of 4,096 bytes, so that a stretch
+// stays in the first cache while list after list is added.
 ghost use mathlib.Core.Path.{_≡_};
 ghost use Prim.Native.Nat.{_+_, _≤_};
 ghost use lib.ListN.{length, drop};
@@ -15,7 +16,8 @@ fn put_stretch(dst: &mut [u8], t: &[u8], at: &[usize], b: usize)
     into_slice::gather(&mut dst[b..e], &t[b..], at);
 }
 
-// dst = the XOR of the parts of t at the offsets, stretch by stretch, so that a stretch stays in the first cache while list after list is added.
+// dst = the XOR of the parts of t at the offsets, stretch by stretch, so that a stretch stays in
+// the first cache while list after list is added.
 pub fn gather_stretches(dst: &mut [u8], t: &[u8], at: &[usize])
     requires { ⌜ (length (now dst) ≤ length (now t)) × Reached (length (now dst)) (length (now t)) (now at) ⌝ }
     ensures { λ _. ⌜ now (dst .exit) ≡ xorOffsets (length (now (dst .entry))) (now (t .entry)) (now (at .entry)) ⌝ }

@@ -1,4 +1,5 @@
--- A list whose first b bytes from d on are new: every source has the bytes that are still to be read as they were, and the next block makes b + m bytes new.
+-- A list whose first b bytes from d on are new: every source has the bytes that are still to be
+-- read as they were, and the next block makes b + m bytes new.
 use mathlib.Core.Path.{_≡_, refl, sym, ap, ap₂, _∙_}
 use mathlib.Core.Logic.{_⊎_, inl, inr, ⊎-elim}
 use mathlib.Core.List.{List, [], _∷_, _++_, append-assoc, append-nil}

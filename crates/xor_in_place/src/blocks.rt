@@ -1,4 +1,5 @@
-// One block of the gather within one slice: the XOR of the same bytes of parts of the slice, put at its place. A block is read before it is written.
+// One block of the gather within one slice: the XOR of the same bytes of parts of the slice, put at
+// its place. A block is read before it is written.
 ghost use mathlib.Core.Path.{_≡_};
 ghost use Prim.Native.Nat.{_+_, _≤_};
 ghost use lib.ListN.{length, drop};

@@ -1,4 +1,5 @@
-// The gather within one slice: a part becomes the XOR of parts of the same slice. A block is read before it is written, so the part itself may be among them.
+// The gather within one slice: a part becomes the XOR of parts of the same slice. A block is read
+// before it is written, so the part itself may be among them.
 mod blocks;
 mod lists;
 

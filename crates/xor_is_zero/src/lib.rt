@@ -1,4 +1,5 @@
-// Is the XOR of parts of a slice zero? Block by block, or stretch by stretch where many long parts are summed.
+// Is the XOR of parts of a slice zero? Block by block, or stretch by stretch where many long parts
+// are summed.
 mod blocks;
 mod one_stretch;
 
@@ -17,7 +18,8 @@ fn no_stretch() -> [u8; 2048]
     [0; 2048]
 }
 
-// Is the XOR of the parts of n bytes zero, n a number of stretches? One buffer serves for all of them.
+// Is the XOR of the parts of n bytes zero, n a number of stretches? One buffer serves for all of
+// them.
 fn stretches_are_zero(t: &[u8], n: usize, at: &[usize]) -> bool
     requires { ⌜ (n % 2048 ≡ 0) × (n ≤ length (now t)) × Reached n (length (now t)) (now at) ⌝ }
     ensures { λ r. ⌜ r ≡ same (xorOffsets n (now (t .entry)) (now (at .entry))) (replicate n 0) ⌝ }
@@ -52,7 +54,8 @@ pub fn long_is_zero(t: &[u8], n: usize, at: &[usize]) -> bool
     blocks::blocks_are_zero(&t[b..], n - b, at)
 }
 
-// Is the XOR of the parts of n bytes zero? What is shorter than a stretch goes block by block, and so do few parts, which are faster so; of more the cache may keep too few lines, as for a gather.
+// Is the XOR of the parts of n bytes zero? What is shorter than a stretch goes block by block, and
+// so do few parts, which are faster so; of more the cache may keep too few lines, as for a gather.
 pub fn is_zero(t: &[u8], n: usize, at: &[usize]) -> bool
     requires { ⌜ (n ≤ length (now t)) × Reached n (length (now t)) (now at) ⌝ }
     ensures { λ r. ⌜ r ≡ same (xorOffsets n (now (t .entry)) (now (at .entry))) (replicate n 0) ⌝ }

@@ -32,14 +32,17 @@ fn sum_is_zero(stretch: &[u8], t: &[u8], at: &[usize]) -> bool
     true
 }
 
-// How many of the parts are gathered: all but eight. The cache keeps the lines of eight, and the compiler, which sees the number, unrolls their sum. No answer depends on it.
+// How many of the parts are gathered: all but eight. The cache keeps the lines of eight, and the
+// compiler, which sees the number, unrolls their sum. No answer depends on it.
 fn gathered(parts: usize) -> usize
     ensures { λ r. ⌜ r ≤ parts ⌝ }
 {
     if parts < 8 { 0 } else { parts - 8 }
 }
 
-// Is the XOR of the parts of 2,048 bytes zero? The first ones are gathered in the stretch; the others are not written there, but tested with it block by block. What the lent stretch then holds is left free.
+// Is the XOR of the parts of 2,048 bytes zero? The first ones are gathered in the stretch; the
+// others are not written there, but tested with it block by block. What the lent stretch then holds
+// is left free.
 pub fn stretch_is_zero(stretch: &mut [u8], t: &[u8], at: &[usize]) -> bool
     requires { ⌜ (length (now stretch) ≡ 2048) × (2048 ≤ length (now t)) × Reached 2048 (length (now t)) (now at) ⌝ }
     ensures { λ r. ⌜ r ≡ same (xorOffsets 2048 (now (t .entry)) (now (at .entry))) (replicate 2048 0) ⌝ }

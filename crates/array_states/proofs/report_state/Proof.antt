@@ -4,24 +4,24 @@ use Prim.Native.Nat.{ℕ}
 use native.Mathlib.Omega.{arith}
 use Rattle.mathematics.proofs.ChoiceLaws.{pick-refused, pick-done}
 use Rattle.refusals.proofs.AnswerLaws.{answers-as}
-use Rattle.array_states.specs.States.{changed, stateReportFault}
+use Rattle.array_states.specs.States.{changed, stateReportRefusal}
 use Rattle.array_states.proofs.StateLaws.{reportable}
 use borrow.Author.Needs.{needs}
 use Rattle.array_states.proofs.report_state.Statement.{statement}
 use Rattle.array_states.proofs.report_state.Tie as tie
 
 -- past the refusals
-none : (c : tie.Else1) → let a = c .before .before .args in stateReportFault (a .state) (a .disk) (a .back) ≡ 0
-none c = sym (c .before .state-report-fault .ensures) ∙ c .if1 .left
+none : (c : tie.Else1) → let a = c .before .before .args in stateReportRefusal (a .state) (a .disk) (a .back) ≡ 0
+none c = sym (c .before .state-report-refusal .ensures) ∙ c .if1 .left
 
 returns : tie.Need-returns
 returns c =
     let q = c .before .before in
     let a = q .before .args in
-    let e = q .state-report-fault .ensures in
+    let e = q .state-report-refusal .ensures in
     record {
       answer = answers-as _ _ (c .answered .result) e (c .answered .ensures);
-      state = pick-refused (q .state-report-fault .result) (stateReportFault (a .state) (a .disk) (a .back)) (changed (a .state) (a .disk) (a .back)) (a .state) e (c .before .if1 .taken);
+      state = pick-refused (q .state-report-refusal .result) (stateReportRefusal (a .state) (a .disk) (a .back)) (changed (a .state) (a .disk) (a .back)) (a .state) e (c .before .if1 .taken);
     }
 
 lost-after-requires : tie.Need-lost-after-requires
@@ -33,7 +33,7 @@ returns-2 c =
     let a = q .before .before .before .args in
     record {
       answer = answers-as 0 _ (q .answered2 .result) (sym (none (q .before))) (q .answered2 .ensures);
-      state = ap (λ (w : ℕ). record { width = a .state .width; disks = a .state .disks; lost = w }) (c .lost-after .ensures) ∙ pick-done (stateReportFault (a .state) (a .disk) (a .back)) (changed (a .state) (a .disk) (a .back)) (a .state) (none (q .before));
+      state = ap (λ (w : ℕ). record { width = a .state .width; disks = a .state .disks; lost = w }) (c .lost-after .ensures) ∙ pick-done (stateReportRefusal (a .state) (a .disk) (a .back)) (changed (a .state) (a .disk) (a .back)) (a .state) (none (q .before));
     }
 
 pub report-state-spec : {M : Type 1} → statement M

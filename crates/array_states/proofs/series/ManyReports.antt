@@ -1,4 +1,5 @@
--- Reports one after another, by induction over them: an accepted one changes the list and is counted, a refused one does neither.
+-- Reports one after another, by induction over them: an accepted one changes the list and is
+-- counted, a refused one does neither.
 use mathlib.Core.Path.{_≡_, refl, sym, ap, ap₂, _∙_}
 use mathlib.Core.Bool.{Bool, false, _||_}
 use mathlib.Core.List.{List, [], _∷_}
@@ -13,13 +14,13 @@ use Rattle.mathematics.proofs.Flags.{or-false-l, or-false-r, flag}
 use Rattle.array_states.specs.declared.ArrayState.{ArrayState}
 use Rattle.array_states.specs.declared.totals.Totals.{Totals}
 use Rattle.array_states.specs.States.{changed}
-use Rattle.array_states.specs.totals.Scanning.{noArray}
-use Rattle.array_states.specs.board.Reports.{listFault, listAfter, totalsOf, ReportSays}
-use Rattle.array_states.specs.series.Claims.{arrayAt, lostAt, Report, Made, report-made, lastList, acceptedIn, totalsIn, freshTotals, lastTotals, lostSince, isNamed, Reports-right}
+use Rattle.array_states.specs.Scanning.{noArray}
+use Rattle.array_states.specs.Reports.{listRefusal, listAfter, totalsOf, ReportSays}
+use Rattle.array_states.specs.series.ReportSeries.{arrayAt, lostAt, Report, ReportSeries, report-made, lastList, acceptedIn, totalsIn, freshTotals, lastTotals, lostSince, isNamed, Reports-right}
 use Rattle.array_states.proofs.series.OneReport.{Taken, Accepted, accepted, stood, after-none, after-lost}
 
 -- the first report and the rest
-first-made : (xs : List ArrayState) (r : Report) (rs : List Report) → Made xs (r ∷ rs) → ReportSays xs (r .which) (r .disk) (r .back) (r .left) (r .board) × Made (r .left) rs
+first-made : (xs : List ArrayState) (r : Report) (rs : List Report) → ReportSeries xs (r ∷ rs) → ReportSays xs (r .which) (r .disk) (r .back) (r .left) (r .board) × ReportSeries (r .left) rs
 first-made xs r rs (report-made _ _ _ k m) = (k, m)
 
 -- the first report was accepted, or it was refused
@@ -35,7 +36,7 @@ by-answer xs r rs k took left =
     ⊎-elim (λ t. took (accepted xs (r .which) (r .disk) (r .back) (r .left) (r .board) k (eqb-true n 0 t)) (ap kept t)) (λ f. left (stood xs (r .which) (r .disk) (r .back) (r .left) (r .board) k f) (ap kept f)) (flag (eqb n 0))
 
 -- ---- the totals
-made-totals : (xs : List ArrayState) (rs : List Report) → Made xs rs → totalsIn (acceptedIn rs) ≡ freshTotals (acceptedIn rs)
+made-totals : (xs : List ArrayState) (rs : List Report) → ReportSeries xs rs → totalsIn (acceptedIn rs) ≡ freshTotals (acceptedIn rs)
 unfolding acceptedIn totalsIn freshTotals
 made-totals xs [] m = refl
 made-totals xs (r ∷ rs) m =
@@ -45,7 +46,7 @@ made-totals xs (r ∷ rs) m =
     (λ a e. ap totalsIn e ∙ ap₂ (λ (t : Totals) (ts : List Totals). t ∷ ts) (a .totals) rest ∙ sym (ap freshTotals e))
     (λ a e. ap totalsIn e ∙ rest ∙ sym (ap freshTotals e))
 
-made-last : (xs : List ArrayState) (rs : List Report) → Made xs rs → lastTotals (totalsOf xs) (acceptedIn rs) ≡ totalsOf (lastList xs rs)
+made-last : (xs : List ArrayState) (rs : List Report) → ReportSeries xs rs → lastTotals (totalsOf xs) (acceptedIn rs) ≡ totalsOf (lastList xs rs)
 unfolding acceptedIn lastTotals lastList
 made-last xs [] m = refl
 made-last xs (r ∷ rs) m =
@@ -57,7 +58,7 @@ made-last xs (r ∷ rs) m =
     (λ a e. ap (lastTotals (totalsOf xs)) e ∙ ap (λ (ys : List ArrayState). from (totalsOf ys)) (sym a) ∙ rest)
 
 -- ---- the lost disks
-made-lost : (xs : List ArrayState) (rs : List Report) → Made xs rs → (i d : ℕ) → lostAt (lastList xs rs) i d ≡ lostSince i d (lostAt xs i d) (acceptedIn rs)
+made-lost : (xs : List ArrayState) (rs : List Report) → ReportSeries xs rs → (i d : ℕ) → lostAt (lastList xs rs) i d ≡ lostSince i d (lostAt xs i d) (acceptedIn rs)
 unfolding acceptedIn lastList lostSince
 made-lost xs [] m i d = refl
 made-lost xs (r ∷ rs) m i d =
@@ -78,7 +79,7 @@ after-kept f xs i d back k e j =
     (λ n. ap f (getD-set-other xs i j m noArray (eqb-false j i n)))
     (flag (eqb j i))
 
-made-kept : {A : Type 0} (f : ArrayState → A) → ((c : ArrayState) (d : ℕ) (back : Bool) → f (changed c d back) ≡ f c) → (xs : List ArrayState) (rs : List Report) → Made xs rs → (i : ℕ) → f (arrayAt (lastList xs rs) i) ≡ f (arrayAt xs i)
+made-kept : {A : Type 0} (f : ArrayState → A) → ((c : ArrayState) (d : ℕ) (back : Bool) → f (changed c d back) ≡ f c) → (xs : List ArrayState) (rs : List Report) → ReportSeries xs rs → (i : ℕ) → f (arrayAt (lastList xs rs) i) ≡ f (arrayAt xs i)
 unfolding lastList
 made-kept f keeps xs [] m i = refl
 made-kept f keeps xs (r ∷ rs) m i =
@@ -89,7 +90,7 @@ made-kept f keeps xs (r ∷ rs) m i =
     (λ a e. rest ∙ ap at (a .list) ∙ after-kept f xs (r .which) (r .disk) (r .back) (a .taken) (keeps (getD xs (r .which) noArray) (r .disk) (r .back)) i)
     (λ a e. rest ∙ ap at a)
 
-made-others : (xs : List ArrayState) (rs : List Report) → Made xs rs → (i : ℕ) → isNamed i (acceptedIn rs) ≡ false → arrayAt (lastList xs rs) i ≡ arrayAt xs i
+made-others : (xs : List ArrayState) (rs : List Report) → ReportSeries xs rs → (i : ℕ) → isNamed i (acceptedIn rs) ≡ false → arrayAt (lastList xs rs) i ≡ arrayAt xs i
 unfolding acceptedIn lastList isNamed
 made-others xs [] m i n = refl
 made-others xs (r ∷ rs) m i n =
@@ -103,7 +104,7 @@ made-others xs (r ∷ rs) m i n =
     rest (or-false-r here later f) ∙ ap at (a .list) ∙ getD-set-other xs (r .which) i (changed (getD xs (r .which) noArray) (r .disk) (r .back)) noArray (eqb-false i (r .which) (or-false-l here later f)))
     (λ a e. rest (ap (isNamed i) (sym e) ∙ n) ∙ ap at a)
 
-made-long : (xs : List ArrayState) (rs : List Report) → Made xs rs → length (lastList xs rs) ≡ length xs
+made-long : (xs : List ArrayState) (rs : List Report) → ReportSeries xs rs → length (lastList xs rs) ≡ length xs
 unfolding lastList
 made-long xs [] m = refl
 made-long xs (r ∷ rs) m =
@@ -114,15 +115,15 @@ made-long xs (r ∷ rs) m =
     (λ a e. rest ∙ ap long (a .list) ∙ length-set xs (r .which) (changed (getD xs (r .which) noArray) (r .disk) (r .back)))
     (λ a e. rest ∙ ap long a)
 
-made-fine : (xs : List ArrayState) (rs : List Report) → Made xs rs → listFault xs ≡ 0 → listFault (lastList xs rs) ≡ 0
+made-fine : (xs : List ArrayState) (rs : List Report) → ReportSeries xs rs → listRefusal xs ≡ 0 → listRefusal (lastList xs rs) ≡ 0
 unfolding lastList
 made-fine xs [] m z = z
 made-fine xs (r ∷ rs) m z =
     let q = first-made xs r rs m in
     let rest = made-fine (r .left) rs (q .1) in
     by-answer xs r rs (q .0)
-    (λ a e. rest (ap listFault (a .list) ∙ after-none xs (r .which) (r .disk) (r .back) (a .taken)))
-    (λ a e. rest (ap listFault a ∙ z))
+    (λ a e. rest (ap listRefusal (a .list) ∙ after-none xs (r .which) (r .disk) (r .back) (a .taken)))
+    (λ a e. rest (ap listRefusal a ∙ z))
 
 pub reports-right : Reports-right
 reports-right xs rs m =

@@ -1,4 +1,5 @@
--- One report on a list: an accepted one changes one bit of one record, which stays in its limits; a refused one leaves the list; one within the limits is accepted.
+-- One report on a list: an accepted one changes one bit of one record, which stays in its limits; a
+-- refused one leaves the list; one within the limits is accepted.
 use mathlib.Core.Path.{_≡_, refl, sym, ap, ap₂, _∙_}
 use mathlib.Core.Bool.{Bool, true, false, _&&_, _||_, not}
 use mathlib.Core.List.{List, [], _∷_}
@@ -14,49 +15,49 @@ use borrow.Author.Tests.{leb-false, ltb-false, lt-leb, le-ltb, eqb-true, eqb-fal
 use Rattle.mathematics.specs.Choice.{pick, when, firstOf}
 use Rattle.mathematics.proofs.Flags.{or-false-l, or-false-r, flag}
 use Rattle.mathematics.proofs.ChoiceLaws.{first-none, when-none, pick-done}
-use Rattle.liberation.proofs.FaultLaws.{disk-accepted}
+use Rattle.liberation.proofs.RefusalLaws.{disk-accepted}
 use Rattle.refusals.proofs.AnswerLaws.{answers-none}
 use Rattle.array_states.specs.declared.ArrayState.{ArrayState}
 use Rattle.array_states.specs.declared.totals.Totals.{Totals}
 use Rattle.array_states.specs.declared.board.Board.{Board}
-use Rattle.array_states.specs.bits.Lost.{isLost, lostAfter}
-use Rattle.array_states.specs.States.{changed, stateFault, againFault, diskReportFault}
-use Rattle.array_states.specs.totals.Scanning.{noArray, noTotals}
-use Rattle.array_states.specs.board.Reports.{listFault, numberFault, reportFault, listAfter, totalsOf, ReportSays}
-use Rattle.array_states.proofs.bits.LostLaws.{lost-accepted, own-after, other-after, lost-after, after-lt, loss-one-more, return-one-fewer}
+use Rattle.array_states.specs.Lost.{hasBit, lostAfter}
+use Rattle.array_states.specs.States.{changed, stateRefusal, againRefusal, diskReportRefusal}
+use Rattle.array_states.specs.Scanning.{noArray, noTotals}
+use Rattle.array_states.specs.Reports.{listRefusal, numberRefusal, reportRefusal, listAfter, totalsOf, ReportSays}
+use Rattle.array_states.proofs.LostLaws.{lost-accepted, own-after, other-after, lost-after, after-lt, loss-one-more, return-one-fewer}
 use Rattle.array_states.proofs.StateLaws.{Reportable, reportable}
-use Rattle.array_states.proofs.board.TotalLaws.{totals-all}
-use Rattle.array_states.specs.series.Claims.{arrayAt, lostAt, Report-means, Report-goes}
+use Rattle.array_states.proofs.TotalLaws.{totals-all}
+use Rattle.array_states.specs.series.ReportSeries.{arrayAt, lostAt, Report-means, Report-goes}
 
 -- ---- records in their limits
-listed-none : (xs : List ArrayState) (i : ℕ) → listFault xs ≡ 0 → i < length xs → stateFault (getD xs i noArray) ≡ 0
-unfolding listFault
+listed-none : (xs : List ArrayState) (i : ℕ) → listRefusal xs ≡ 0 → i < length xs → stateRefusal (getD xs i noArray) ≡ 0
+unfolding listRefusal
 listed-none [] i z h = absurd (not-suc-le-zero h)
-listed-none (c ∷ cs) zero z h = first-none (stateFault c) (listFault cs) z .0
-listed-none (c ∷ cs) (suc i) z h = listed-none cs i (first-none (stateFault c) (listFault cs) z .1) (le-of-suc-le-suc h)
+listed-none (c ∷ cs) zero z h = first-none (stateRefusal c) (listRefusal cs) z .0
+listed-none (c ∷ cs) (suc i) z h = listed-none cs i (first-none (stateRefusal c) (listRefusal cs) z .1) (le-of-suc-le-suc h)
 
 -- another record in its limits may take the place of one
-set-none : (xs : List ArrayState) (i : ℕ) (m : ArrayState) → listFault xs ≡ 0 → stateFault m ≡ 0 → listFault (set xs i m) ≡ 0
-unfolding listFault
+set-none : (xs : List ArrayState) (i : ℕ) (m : ArrayState) → listRefusal xs ≡ 0 → stateRefusal m ≡ 0 → listRefusal (set xs i m) ≡ 0
+unfolding listRefusal
 set-none [] i m z e = refl
-set-none (c ∷ cs) zero m z e = ap₂ firstOf e (first-none (stateFault c) (listFault cs) z .1)
-set-none (c ∷ cs) (suc i) m z e = let q = first-none (stateFault c) (listFault cs) z in ap₂ firstOf (q .0) (set-none cs i m (q .1) e)
+set-none (c ∷ cs) zero m z e = ap₂ firstOf e (first-none (stateRefusal c) (listRefusal cs) z .1)
+set-none (c ∷ cs) (suc i) m z e = let q = first-none (stateRefusal c) (listRefusal cs) z in ap₂ firstOf (q .0) (set-none cs i m (q .1) e)
 
 -- ---- an accepted report
 pub record Taken (xs : List ArrayState) (i d : ℕ) (back : Bool) : Type 0 where
   pub index : i < length xs
   pub most : length xs ≤ 64
-  pub fine : listFault xs ≡ 0
+  pub fine : listRefusal xs ≡ 0
   pub report : Reportable (getD xs i noArray) d back
 
-taken : (xs : List ArrayState) (i d : ℕ) (back : Bool) → reportFault xs i d back ≡ 0 → Taken xs i d back
+taken : (xs : List ArrayState) (i d : ℕ) (back : Bool) → reportRefusal xs i d back ≡ 0 → Taken xs i d back
 taken xs i d back z =
     let c = getD xs i noArray in
     let n = leb (length xs) i in
     let m = ltb 64 (length xs) in
-    let q = first-none (numberFault (length xs) i) (firstOf (listFault xs) (diskReportFault c d back)) z in
+    let q = first-none (numberRefusal (length xs) i) (firstOf (listRefusal xs) (diskReportRefusal c d back)) z in
     let t = when-none (n || m) 19 (q .0) in
-    let r = first-none (listFault xs) (diskReportFault c d back) (q .1) in
+    let r = first-none (listRefusal xs) (diskReportRefusal c d back) (q .1) in
     let l : i < length xs = leb-false (length xs) i (or-false-l n m t) in
     record {
       index = l;
@@ -66,10 +67,10 @@ taken xs i d back z =
     }
 
 -- the array after it is in its limits
-changed-none : (c : ArrayState) (d : ℕ) (back : Bool) → Reportable c d back → stateFault (changed c d back) ≡ 0
+changed-none : (c : ArrayState) (d : ℕ) (back : Bool) → Reportable c d back → stateRefusal (changed c d back) ≡ 0
 changed-none c d back k = ap₂ firstOf (k .array) (sym (lost-accepted (c .disks) (lostAfter (c .lost) d back) (2 ^ (c .disks + 2)) refl (after-lt (c .disks + 2) (c .lost) d back (k .word) (omega (arith, k .disk)))))
 
-pub after-none : (xs : List ArrayState) (i d : ℕ) (back : Bool) → Taken xs i d back → listFault (listAfter xs i d back) ≡ 0
+pub after-none : (xs : List ArrayState) (i d : ℕ) (back : Bool) → Taken xs i d back → listRefusal (listAfter xs i d back) ≡ 0
 after-none xs i d back k = set-none xs i (changed (getD xs i noArray) d back) (k .fine) (changed-none (getD xs i noArray) d back (k .report))
 
 -- disk e of array j after it
@@ -80,9 +81,9 @@ after-lost xs i d back l j e =
     let end : Bool → Bool = λ b. pick (b && eqb e d) (not back) (lostAt xs j e) in
     ⊎-elim
     (λ t. let s = eqb-true j i t in
-    ap (λ (x : ℕ). lostAt (set xs i m) x e) s ∙ ap (λ (y : ArrayState). isLost (y .lost) e) (getD-set-same xs i m noArray l) ∙ lost-after (c .lost) d e back
+    ap (λ (x : ℕ). lostAt (set xs i m) x e) s ∙ ap (λ (y : ArrayState). hasBit (y .lost) e) (getD-set-same xs i m noArray l) ∙ lost-after (c .lost) d e back
     ∙ ap (λ (x : ℕ). pick (eqb e d) (not back) (lostAt xs x e)) (sym s) ∙ sym (ap end t))
-    (λ f. ap (λ (y : ArrayState). isLost (y .lost) e) (getD-set-other xs i j m noArray (eqb-false j i f)) ∙ sym (ap end f))
+    (λ f. ap (λ (y : ArrayState). hasBit (y .lost) e) (getD-set-other xs i j m noArray (eqb-false j i f)) ∙ sym (ap end f))
     (flag (eqb j i))
 
 -- ---- what the call answered
@@ -94,11 +95,11 @@ pub record Accepted (xs : List ArrayState) (i d : ℕ) (back : Bool) (ys : List 
 
 pub accepted : (xs : List ArrayState) (i d : ℕ) (back : Bool) (ys : List ArrayState) (r : Board) → ReportSays xs i d back ys r → r .answer .refusal ≡ 0 → Accepted xs i d back ys r
 accepted xs i d back ys r k z =
-    let e : reportFault xs i d back ≡ 0 = answers-none (reportFault xs i d back) (r .answer) (k .answer) z in
+    let e : reportRefusal xs i d back ≡ 0 = answers-none (reportRefusal xs i d back) (r .answer) (k .answer) z in
     record {
       taken = taken xs i d back e;
-      list = k .list ∙ sym (pick-done (reportFault xs i d back) (listAfter xs i d back) xs e);
-      totals = k .totals ∙ sym (pick-done (reportFault xs i d back) (totalsOf ys) noTotals e);
+      list = k .list ∙ sym (pick-done (reportRefusal xs i d back) (listAfter xs i d back) xs e);
+      totals = k .totals ∙ sym (pick-done (reportRefusal xs i d back) (totalsOf ys) noTotals e);
     }
 
 -- another number: the list stands
@@ -120,24 +121,24 @@ report-means xs i d back ys r k z =
       index = q .index;
       most = q .most;
       fine = q .fine;
-      fineAfter = ap listFault (a .list) ∙ after-none xs i d back q;
+      fineAfter = ap listRefusal (a .list) ∙ after-none xs i d back q;
       was = q .report .bit;
-      is = ap (λ (w : ℕ). isLost w d) word ∙ own-after (c .lost) d back;
+      is = ap (λ (w : ℕ). hasBit w d) word ∙ own-after (c .lost) d back;
       more = λ b. ap ones word ∙ ap (λ (t : Bool). ones (lostAfter (c .lost) d t)) b ∙ loss-one-more n (c .lost) d (q .report .word) few (q .report .bit ∙ b);
       fewer = λ b. return-one-fewer n (c .lost) d (q .report .word) few (q .report .bit ∙ b) ∙ sym (ap (λ (x : ℕ). 1 + x) (ap ones word ∙ ap (λ (t : Bool). ones (lostAfter (c .lost) d t)) b));
-      disks = λ e n. ap (λ (w : ℕ). isLost w e) word ∙ other-after (c .lost) d e back n;
+      disks = λ e n. ap (λ (w : ℕ). hasBit w e) word ∙ other-after (c .lost) d e back n;
       others = λ j n. ap (λ (zs : List ArrayState). arrayAt zs j) (a .list) ∙ getD-set-other xs i j m noArray n;
       long = long;
       totals = a .totals;
       all = ap (λ (t : Totals). t .optimal + t .degraded + t .critical + t .failed) (a .totals) ∙ totals-all ys ∙ long;
     }
 
-again-right : (w d : ℕ) (back : Bool) → isLost w d ≡ back → againFault w d back ≡ 0
+again-right : (w d : ℕ) (back : Bool) → hasBit w d ≡ back → againRefusal w d back ≡ 0
 again-right w d true e = ap (λ (t : Bool). when (not t) 21) e
 again-right w d false e = ap (λ (t : Bool). when t 21) e
 
 pub report-goes : Report-goes
 report-goes xs i d back ys r k most fine index disk was =
     let c = getD xs i noArray in
-    let number : numberFault (length xs) i ≡ 0 = ap₂ (λ (a b : Bool). when (a || b) 20) (lt-leb (length xs) i index) (le-ltb 64 (length xs) most) in
+    let number : numberRefusal (length xs) i ≡ 0 = ap₂ (λ (a b : Bool). when (a || b) 20) (lt-leb (length xs) i index) (le-ltb 64 (length xs) most) in
     k .answer .refusal ∙ ap₂ firstOf number (ap₂ firstOf fine (ap₂ firstOf (disk-accepted (c .disks) d disk) (again-right (c .lost) d back was)))

@@ -1,29 +1,30 @@
--- `bill_bytes`: a refusal, else the bands by the smaller of the bytes and each bound, and the charge, which does not wrap, to the nearest cent.
+-- `bill_bytes`: a refusal, else the bands by the smaller of the bytes and each bound, and the
+-- charge, which does not wrap, to the nearest cent.
 use mathlib.Core.Path.{_≡_, sym, _∙_}
 use native.Mathlib.Omega.{arith}
 use borrow.Author.Needs.{needs}
-use Rattle.billing.specs.numbers.Cents.{billFault}
-use Rattle.billing.proofs.BillLaws.{Fair, fault-none, bill-refused, bill-done}
+use Rattle.billing.specs.Cents.{billRefusal}
+use Rattle.billing.proofs.BillLaws.{Fair, refusal-none, bill-refused, bill-done}
 use Rattle.billing.proofs.bill_bytes.Statement.{statement}
 use Rattle.billing.proofs.bill_bytes.Tie as tie
 
 returns : tie.Need-returns
 returns c =
     let i = c .before in
-    let f = i .before .bill-fault in
+    let f = i .before .bill-refusal in
     let a = i .before .before .args in
-    bill-refused (billFault (a .bytes) (a .first) (a .second) (a .third)) (a .bytes) (a .first) (a .second) (a .third) (f .result) (c .refused-bill .result) (f .ensures) (i .if1 .taken) (c .refused-bill .ensures)
+    bill-refused (billRefusal (a .bytes) (a .first) (a .second) (a .third)) (a .bytes) (a .first) (a .second) (a .third) (f .result) (c .refused-bill .result) (f .ensures) (i .if1 .taken) (c .refused-bill .ensures)
 
 -- past the refusals
-passed : (c : tie.Else1) → let a = c .before .before .args in billFault (a .bytes) (a .first) (a .second) (a .third) ≡ 0
-passed c = sym (c .before .bill-fault .ensures) ∙ c .if1 .left
+passed : (c : tie.Else1) → let a = c .before .before .args in billRefusal (a .bytes) (a .first) (a .second) (a .third) ≡ 0
+passed c = sym (c .before .bill-refusal .ensures) ∙ c .if1 .left
 
 -- the two bounds found, all numbers are small
 small : (c : tie.After-least-of2) → let a = c .before .before .before .before .args in Fair (a .bytes) (a .first) (a .second) (a .third) (c .before .least-of .result) (c .least-of2 .result)
 small c =
     let i = c .before .before in
     let a = i .before .before .args in
-    fault-none (a .bytes) (a .first) (a .second) (a .third) (c .before .least-of .result) (c .least-of2 .result) (passed i) (c .before .least-of .ensures) (c .least-of2 .ensures)
+    refusal-none (a .bytes) (a .first) (a .second) (a .third) (c .before .least-of .result) (c .least-of2 .result) (passed i) (c .before .least-of .ensures) (c .least-of2 .ensures)
 
 sub-middle : tie.Need-sub-middle
 sub-middle c = omega (arith, small c)

@@ -1,4 +1,5 @@
--- `bill_run`: the record is read; a refusal of it is the bill's, else its bytes, which do not wrap, are billed.
+-- `bill_run`: the record is read; a refusal of it is the bill's, else its bytes, which do not wrap,
+-- are billed.
 use native.Mathlib.Omega.{arith}
 use borrow.Author.Needs.{needs}
 use Rattle.billing.proofs.RunLaws.{bytes-fit, run-refused, run-billed}

@@ -1,4 +1,5 @@
--- `cuzhaveli_run_progress` meets its contract: a walk of its MIR, by hand. The shared borrow is looked into, the record is copied, the borrow is shut, and `run_progress` is called on the copy.
+-- `cuzhaveli_run_progress` meets its contract: a walk of its MIR, by hand. The shared borrow is
+-- looked into, the record is copied, the borrow is shut, and `run_progress` is called on the copy.
 use mathlib.Core.Path.{refl}
 use Prim.Native.Nat.{ℕ}
 use mathlib.Core.List.{[], _∷_, List}
@@ -32,7 +33,7 @@ use denote.Triple.Table.{entered, cited}
 use denote.Triple.Walked.{says, Stays, stay-none-ref, walkOf, AllGo, goes-none-ref, Walks, ends-at, walked, walk-meets}
 use denote.Exit.{yes}
 use denote.Signature.{plain}
-use Rattle.rebuild_runs.specs.progress.Says.{ProgressSays}
+use Rattle.rebuild_runs.specs.ProgressSays.{ProgressSays}
 use Rattle.rebuild_runs.specs.declared.Run.{Run}
 use Rattle.rebuild_runs.specs.declared.progress.Progress.{Progress}
 use Rattle.rebuild_runs.proofs.Run as T
@@ -91,7 +92,8 @@ module _ {M : Type 1} (𝓤 : URA M) (H : Heap 𝓤) (A : Atoms 𝓤) (W : Given
         alloc1 ! (λ l₀. alloc1 ! (λ l₁. alloc1 ! (λ l₂. alloc0 ! $ params1 ! $ pass1 ! (init ! 2 refl (tt, tt)) $ pass0 ! $
         move ! (7 ∷ []) $ fsplit ! $ fsplit3 ! $ drop ! $ move ! (9 ∷ []) $ split ! $ move ! (3 ∷ 0 ∷ []) $ looks ! tt T.the-row (Is T.the-row) (shows 𝓤 H A T.the-row) (LL.vals T.the-type T′.the-laws) (LL.tells T.the-type T′.the-laws) ((LL.copy T.the-type T′.the-copy) 𝓤 H A W) h b o (λ q′ vs.
         spelt ! T.the-row (Is T.the-row) (shows 𝓤 H A T.the-row) (LL.vals T.the-type T′.the-laws) (LL.tells T.the-type T′.the-laws) q′ h vs b o $ move ! (1 ∷ []) $ peeks ! T.the-row (Is T.the-row) (shows 𝓤 H A T.the-row) h (mach ∷ []) (λ g. move ! (1 ∷ 0 ∷ []) $
-        -- [a share of the record's cell; what it owns; what shuts it; the fractured borrow; true; res; true; _2; …; _1; …; room for _0; …]
+        -- [a share of the record's cell; what it owns; what shuts it; the fractured borrow; true;
+        -- res; true; _2; …; _1; …; room for _0; …]
         assigns ! (of-opd ! (load ! (from ! (hop ! (look ! 9 refl) (stop !))) (look-raw ! 0 refl))) (from ! (stop !)) (init ! 7 refl (LL.lawful T.the-type T′.the-laws 𝓤 H A W .typed h _ g .0)) $
         shuts ! tt T.the-row q′ h (mach ∷ []) b o $
         -- [the token; the borrow; true; res; true; _2; …]

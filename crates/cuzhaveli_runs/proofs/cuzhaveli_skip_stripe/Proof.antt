@@ -1,4 +1,7 @@
--- `cuzhaveli_skip_stripe` meets its contract: a walk of its MIR, by hand. The borrow of the record is opened, the record is copied, `skip_stripe` is called on the copy. After a refusal nothing is stored, and the borrow is closed at the record as it was; else the record that `skip_stripe` returned is stored, and the borrow is closed at it.
+-- `cuzhaveli_skip_stripe` meets its contract: a walk of its MIR, by hand. The borrow of the record
+-- is opened, the record is copied, `skip_stripe` is called on the copy. After a refusal nothing is
+-- stored, and the borrow is closed at the record as it was; else the record that `skip_stripe`
+-- returned is stored, and the borrow is closed at it.
 -- All that the proof knows of `skip_stripe` is that it meets its contract.
 use mathlib.Core.Path.{_≡_, refl, sym, ap, _∙_}
 use Prim.Native.Nat.{ℕ, _<_, _^_}
@@ -115,15 +118,18 @@ module _ {M : Type 1} (𝓤 : URA M) (H : Heap 𝓤) (A : Atoms 𝓤) (W : Given
         move ! (13 ∷ []) $ fsplit ! $ fsplit3 ! $ drop ! $ move ! (15 ∷ []) $ split ! $ move ! (2 ∷ 3 ∷ 0 ∷ []) $
         opens ! tt T.the-row {h = h} b o (λ vs. spelt ! T.the-row (Is T.the-row) (shows 𝓤 H A T.the-row) (LL.vals T.the-type T′.the-laws) (LL.tells T.the-type T′.the-laws) fullShare h vs b o $
         move ! (1 ∷ []) $ peeks ! T.the-row (Is T.the-row) (shows 𝓤 H A T.the-row) h (T′.lowered h ∷ []) (λ was. move ! (1 ∷ 0 ∷ []) $
-        -- [the record's cell; what it owns; the open borrow; obs; auth; true; what the other owns; _4; …; _3; …; _2; …; _1; …; room for _0; …]
+        -- [the record's cell; what it owns; the open borrow; obs; auth; true; what the other owns;
+        -- _4; …; _3; …; _2; …; _1; …; room for _0; …]
         assigns ! (of-opd ! (load ! (from ! (hop ! (look ! 15 refl) (stop !))) (look-raw ! 0 refl))) (from ! (stop !)) (init ! 9 refl (LL.lawful T.the-type T′.the-laws 𝓤 H A W .typed h _ was .0)) $
         move ! (5 ∷ []) $ use1 W (raw (Skipped 𝓤 H A at-mem run .pre to)) (goes was) $
-        -- [asked; the record's cell; what it owns; the open borrow; obs; auth; what the other owns; _4; …]
+        -- [asked; the record's cell; what it owns; the open borrow; obs; auth; what the other owns;
+        -- _4; …]
         calls-at ! fm (Skipped 𝓤 H A at-mem run) known to (and-then ! (load ! (from ! (stop !)) (look ! 9 refl)) (and-then ! (load ! (from ! (stop !)) (look ! 13 refl)) (no-more !))) (λ w.
         use1 W (later (some (λ (r : RunAnswer). (‵ ftrue ⊛ ‵ (S.the-row .own r (w ∷ []))) ⊛ raw (ensured 𝓤 H A skipped.ended (skipped.clauses 𝓤 H A at-mem run) tt (h, (n, tt)) tt r)))) (id⊢ 𝓤 _) $ await ! tt $ pick ! (λ r.
         split ! $ move ! (1 ∷ []) $ use1 W (raw (fact 𝓤 (SkipSays h (r .run) n (r .answer)))) (said r) $ heard ! (SkipSays h (r .run) n (r .answer)) (λ e. split ! $ drop ! $
         peeks ! S.the-row (Is S.the-row) (shows 𝓤 H A S.the-row) r (w ∷ []) (λ is.
-        -- [the result; the record's cell; what it owned; the open borrow; obs; auth; what the other owns; _4; …; room for _3; …; _2; …; _1; …; room for _0; …]
+        -- [the result; the record's cell; what it owned; the open borrow; obs; auth; what the other
+        -- owns; _4; …; room for _3; …; _2; …; _1; …; room for _0; …]
         land ! (from ! (stop !)) (init ! 11 refl (LL.lawful S.the-type S′.the-laws 𝓤 H A W .typed r _ is .0)) $ rewrite ! 11 (λ (u : Val). ‵ (fat fullShare S′.mir l₃ 0 u)) (ap only (LL.tells S.the-type S′.the-laws r _ is)) refl $
         -- the test of the refusal
         assigns ! (bin ! (load ! (from ! (fld ! refl (fld ! refl (stop !)))) (look-in ! 11 (sub ! 0 refl (sub ! 0 refl (whole !))))) (lit ! tt) tt) (from ! (stop !)) (init ! 7 refl (tt, tt)) $

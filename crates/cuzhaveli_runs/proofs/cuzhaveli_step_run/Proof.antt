@@ -1,5 +1,10 @@
--- `cuzhaveli_step_run` meets its contract: a walk of its MIR, by hand. The borrow of the record is opened, the record is copied, `step_run` is called on it with the slices. After a refusal nothing is stored, and the borrow is closed at the record as it was; else the record that `step_run` returned is stored, and the borrow is closed at it.
--- The column's borrow is given up to `step_run` at its own lifetime, share and name; what `step_run` says of the last list is what `step_run` says. The stripe's is Copy: one copy goes to the callee, one is kept for the exit.
+-- `cuzhaveli_step_run` meets its contract: a walk of its MIR, by hand. The borrow of the record is
+-- opened, the record is copied, `step_run` is called on it with the slices. After a refusal nothing
+-- is stored, and the borrow is closed at the record as it was; else the record that `step_run`
+-- returned is stored, and the borrow is closed at it.
+-- The column's borrow is given up to `step_run` at its own lifetime, share and name; what
+-- `step_run` says of the last list is what `step_run` says. The stripe's is Copy: one copy goes to
+-- the callee, one is kept for the exit.
 -- All that the proof knows of `step_run` is that it meets its contract.
 use mathlib.Core.Path.{_≡_, refl, sym, ap, _∙_}
 use Prim.Native.Nat.{ℕ, _<_, _^_}
@@ -44,7 +49,7 @@ use denote.Triple.Walked.{says, Stays, stay-ref, stay-none, stay-none-slice, gav
 use denote.Exit.{yes}
 use denote.Signature.{plain}
 use Rattle.mathematics.specs.Choice.{pick as choose}
-use Rattle.rebuild_runs.specs.steps.Says.{StepSays}
+use Rattle.rebuild_runs.specs.StepSays.{StepSays}
 use Rattle.rebuild_runs.specs.Runs.{movedBy}
 use Rattle.refusals.specs.declared.Answer.{Answer}
 use Rattle.rebuild_runs.specs.declared.Run.{Run}
@@ -131,21 +136,25 @@ module _ {M : Type 1} (𝓤 : URA M) (H : Heap 𝓤) (A : Atoms 𝓤) (W : Given
         move ! (21 ∷ []) $ fsplit ! $ fsplit3 ! $ drop ! $ move ! (23 ∷ []) $ split ! $ move ! (2 ∷ 3 ∷ 0 ∷ []) $
         opens ! tt T.the-row {h = h} b o (λ vs. spelt ! T.the-row (Is T.the-row) (shows 𝓤 H A T.the-row) (LL.vals T.the-type T′.the-laws) (LL.tells T.the-type T′.the-laws) fullShare h vs b o $
         move ! (1 ∷ []) $ peeks ! T.the-row (Is T.the-row) (shows 𝓤 H A T.the-row) h (T′.lowered h ∷ []) (λ was. move ! (1 ∷ 0 ∷ []) $
-        -- [the record's cell; what it owns; the open borrow; obs; auth; the other tokens; what the others own; _8; …; _7; …; _6; …; _5; …; _4; …; _3; …; _2; …; _1; …; room for _0; …]
+        -- [the record's cell; what it owns; the open borrow; obs; auth; the other tokens; what the
+        -- others own; _8; …; _7; …; _6; …; _5; …; _4; …; _3; …; _2; …; _1; …; room for _0; …]
         assigns ! (of-opd ! (load ! (from ! (hop ! (look ! 23 refl) (stop !))) (look-raw ! 0 refl))) (from ! (stop !)) (init ! 13 refl (LL.lawful T.the-type T′.the-laws 𝓤 H A W .typed h _ was .0)) $
         assigns ! (addr ! (from ! (fld ! refl (hop ! (look-in ! 17 (sub ! 0 refl (whole !))) (stop !))))) (from ! (stop !)) (init ! 11 refl (tt, tt)) $
         assigns ! (agg ! (and-then ! (load ! (from ! (stop !)) (look ! 11 refl)) (and-then ! (load ! (from ! (fld ! refl (stop !))) (look-in ! 17 (sub ! 1 refl (whole !)))) (no-more !)))) (from ! (stop !)) (init ! 9 refl (tt, (tt, (record { fits = rc .0 }, tt)))) $
         -- what the callee asks: the tokens, a copy of the stripe's, the column's
         move ! (6 ∷ []) $ fsplit ! $ drop ! $ fsplit ! $ use1 W (‵ (ShrSlice (named 1) κ₁ u8 .own s (sv ∷ [])) ⊛ ‵ (ShrSlice (named 1) κ₁ u8 .own s (sv ∷ []))) (shr-slice-copy 𝓤 H A W (named 1) κ₁ u8 .twice s (sv ∷ [])) $ split ! $
         move ! (2 ∷ []) $ fsplit ! $ move ! (9 ∷ 2 ∷ 0 ∷ []) $ use3 W (raw (Stepped 𝓤 H A at-mem run .pre to)) (goes was) $
-        -- [asked; true; the stripe's; the record's cell; what it owns; the open borrow; obs; auth; _8; …]
+        -- [asked; true; the stripe's; the record's cell; what it owns; the open borrow; obs; auth;
+        -- _8; …]
         calls-at ! fm (Stepped 𝓤 H A at-mem run) known to (and-then ! (load ! (from ! (stop !)) (look ! 14 refl)) (and-then ! (load ! (from ! (stop !)) (look ! 22 refl)) (and-then ! (load ! (from ! (stop !)) (look ! 20 refl)) (and-then ! (load ! (from ! (stop !)) (look ! 10 refl)) (no-more !))))) (λ w.
         use1 W (later (some (λ (r : RunAnswer). ((‵ (flft κ₁ q₁) ⊛ ‵ (flft κ₂ q₂) ⊛ ‵ ftrue) ⊛ ‵ (S.the-row .own r (w ∷ []))) ⊛ raw (ensured 𝓤 H A stepped.ended (stepped.clauses 𝓤 H A at-mem run) (κ₁, (κ₂, tt)) (h, (n, (s, (c, tt)))) tt r)))) (id⊢ 𝓤 _) $ await ! tt $ pick ! (λ r.
         -- what `step_run` ensures, at some last list
         split ! $ move ! (1 ∷ []) $ use1 W (some (λ (ws : Unit {0} × (Unit {0} × (Unit {0} × (List ℕ × Unit {0})))). ‵ (lasts stepped.ended (κ₁, (κ₂, tt)) (h, (n, (s, (c, tt)))) ws) ⊛ raw (fact 𝓤 (StepSays h (r .run) n (s .now) (c .now) (ws .1 .1 .1 .0) (r .answer))))) (id⊢ 𝓤 _) $ pick ! (λ ws.
         split ! $ move ! (1 ∷ []) $ heard ! (StepSays h (r .run) n (s .now) (c .now) (ws .1 .1 .1 .0) (r .answer)) (λ e. fsplit ! $ drop ! $ fsplit ! $ drop ! $ fsplit ! $ drop ! $ fsplit ! $ fsplit ! $ move ! (1 ∷ []) $ feqL ! (λ l.
         move ! (2 ∷ []) $ split ! $ move ! (1 ∷ []) $ peeks ! S.the-row (Is S.the-row) (shows 𝓤 H A S.the-row) r (w ∷ []) (λ is.
-        -- [the result; the tokens; the last list; true; true; the stripe's; the record's cell; what it owned; the open borrow; obs; auth; _8; …; _7; …; _6; …; room for _5; …; _4; …; _3; …; _2; …; _1; …; room for _0; …]
+        -- [the result; the tokens; the last list; true; true; the stripe's; the record's cell; what
+        -- it owned; the open borrow; obs; auth; _8; …; _7; …; _6; …; room for _5; …; _4; …; _3; …;
+        -- _2; …; _1; …; room for _0; …]
         land ! (from ! (stop !)) (init ! 19 refl (LL.lawful S.the-type S′.the-laws 𝓤 H A W .typed r _ is .0)) $ rewrite ! 19 (λ (u : Val). ‵ (fat fullShare S′.mir l₅ 0 u)) (ap only (LL.tells S.the-type S′.the-laws r _ is)) refl $
         -- the test of the refusal
         assigns ! (bin ! (load ! (from ! (fld ! refl (fld ! refl (stop !)))) (look-in ! 19 (sub ! 0 refl (sub ! 0 refl (whole !))))) (lit ! tt) tt) (from ! (stop !)) (init ! 11 refl (tt, tt)) $

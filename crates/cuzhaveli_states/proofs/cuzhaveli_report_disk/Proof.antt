@@ -1,15 +1,24 @@
 -- `cuzhaveli_report_disk` meets its contract: a walk of its MIR, by hand.
--- The slice is opened once, before the first statement, and closed once, before the return. In between the list is one entry of the context: a record is taken out of it, read or written, and put back.
---     calls-plain      a call of a function over plain data, in one step
---     to-f, goes-f, f-said     for each callee f: what it is handed, that this and its `requires` can be had, and what its `ensures` says
---     exits            from what is had at exit to the `post` of `walkOf`. It does not mention `Wp`
---     Layout           the order of the context, one for all of the pieces below, so that positions are counted once
---     ends             the code after the branch, once for both arms
---     rest             the code after the loop: the answer, the branch, and the store in one of its arms
---     turns            a turn of the loop, and the turn that leaves it.        begins   the code up to the loop
---     walk             the entry: locals, parameters, the slice opened
--- The loop's invariant: `s` is the scan of the first `i` records, and `i` is at most the number of records to be scanned; what is left falls.
--- The walk computes no definition of `state_lists`, `state_scans` and `state_reports`: what it knows of them are the laws of `ScanLaws`. It names fields twice, `refusal` of the answer of `Board` (field 0 of field 0) and `found` of `Scan` (field 3), and the 24 bytes of a record in `scaled` and `place-is`.
+-- The slice is opened once, before the first statement, and closed once, before the return. In
+-- between the list is one entry of the context: a record is taken out of it, read or written, and
+-- put back.
+--     calls-plain  a call of a function over plain data, in one step
+--     to-f, goes-f, f-said   for each callee f: what it is handed, that this and its `requires` can
+--                  be had, and what its `ensures` says
+--     exits        from what is had at exit to the `post` of `walkOf`. It does not mention `Wp`
+--     Layout       the order of the context, one for all of the pieces below, so that positions are
+--                  counted once
+--     ends         the code after the branch, once for both arms
+--     rest         the code after the loop: the answer, the branch, and the store in one of its arms
+--     turns        a turn of the loop, and the turn that leaves it
+--     begins       the code up to the loop
+--     walk         the entry: locals, parameters, the slice opened
+-- The loop's invariant: `s` is the scan of the first `i` records, and `i` is at most the number of
+-- records to be scanned; what is left falls.
+-- The walk computes no definition of `array_states`: what it
+-- knows of them are the laws of `ScanLaws`. It names fields twice, `refusal` of the answer of
+-- `Board` (field 0 of field 0) and `found` of `Scan` (field 3), and the 24 bytes of a record in
+-- `scaled` and `place-is`.
 -- All that the proof knows of the callees is that they meet their contracts.
 use mathlib.Core.Path.{_≡_, refl, sym, ap, subst}
 use mathlib.Core.Bool.{Bool}
@@ -59,13 +68,13 @@ use denote.Triple.Call.{calls-at}
 use denote.Triple.Clauses.{ensured, lasts}
 use denote.Triple.Table.{entered, cited}
 use denote.Triple.Walked.{says, Stays, stay-slice, stay-none, walkOf, AllGo, Walks, ends-at, walked, goes-slice, goes-none, walk-meets}
-use Rattle.array_states.specs.board.Reports.{ReportSays, scanAnswer}
-use Rattle.array_states.specs.totals.Scanning.{noArray, scanLength, scanStart}
-use Rattle.array_states.specs.scan.Records.{MayScan, scanRecord}
+use Rattle.array_states.specs.Reports.{ReportSays, scanAnswer}
+use Rattle.array_states.specs.Scanning.{noArray, scanLength, scanStart}
+use Rattle.array_states.specs.Records.{MayScan, scanRecord}
 use Rattle.array_states.specs.declared.ArrayState.{ArrayState}
 use Rattle.array_states.specs.declared.board.Board.{Board}
 use Rattle.array_states.specs.declared.totals.Scan.{Scan}
-use Rattle.array_states.proofs.board.ScanLaws.{upTo, scan-most, scan-none, scan-next, may-scan, names-one, says-done, says-refused}
+use Rattle.array_states.proofs.ScanLaws.{upTo, scan-most, scan-none, scan-next, may-scan, names-one, says-done, says-refused}
 use Rattle.array_states.proofs.ArrayState as T
 use Rattle.array_states.proofs.ArrayState.Laws as T′
 use Rattle.array_states.proofs.totals.Scan as S
@@ -122,7 +131,8 @@ after return = skipᴹ
 after (call g xs d) = skipᴹ
 
 -- ---- a call of a function over plain data, whose `ensures` says that the result is y
--- What the callee is handed is had for nothing (`goes`). Of its `post`, which computes to what `opens` says, the relation of y and the machine value is kept.
+-- What the callee is handed is had for nothing (`goes`). Of its `post`, which computes to what
+-- `opens` says, the relation of y and the machine value is kept.
 module _ {M : Type 1} {𝓤 : URA M} {H : Heap 𝓤} {A : Atoms 𝓤} {K : Type 0} {W : Given 𝓤 H A} {Γ : List (Item 𝓤)} {E : Env 𝓤 H} {C : Calls 𝓤 H} {Λ : Loops 𝓤 H} {q : Post 𝓤 H} {g : Name} {xs : List Opd} {d : Place} {rest : Body} where
   calls-plain : K → FmC 𝓤 H (W .laws) C → (c : Contract 𝓤) → Triple 𝓤 (C g) c → (to : c .Ghost) → ent 𝓤 (emp 𝓤) (c .pre to)
       → (R : RattleType) → Shows 𝓤 H A R (Is R) → (y : R .Denot) (S : R .Denot → SProp 𝓤) → ((r : R .Denot) → ent 𝓤 (S r) (fact 𝓤 (r ≡ y)))
@@ -134,7 +144,8 @@ module _ {M : Type 1} {𝓤 : URA M} {H : Heap 𝓤} {A : Atoms 𝓤} {K : Type 
       facts t R (Is R) sh r (w ∷ []) (λ is. k w (subst (λ (z : R .Denot). Is R z (w ∷ [])) e is)))))
 
 module _ {M : Type 1} (𝓤 : URA M) (H : Heap 𝓤) (A : Atoms 𝓤) (W : Given 𝓤 H A) (mem : Memory → SProp 𝓤) (run : Routine → Fun 𝓤) where
-  -- ---- the four callees. Of each one's `ensured` the clause alone is kept: none has a `&mut`, so what is said of last values is dropped
+  -- ---- the four callees. Of each one's `ensured` the clause alone is kept: none has a `&mut`, so
+  -- what is said of last values is dropped
   abbrev Length : Contract 𝓤
   Length = tripleOf 𝓤 H A scan-length.signature (scan-length.spec 𝓤 H A mem run)
 
@@ -172,7 +183,8 @@ module _ {M : Type 1} (𝓤 : URA M) (H : Heap 𝓤) (A : Atoms 𝓤) (W : Given
   to-record s which disk back c =
       ((tt, tt, tt, (s, (which, (disk, (back, (c, tt))))), (S′.lowered s ∷ [], (vint w64 which ∷ [], (vint w64 disk ∷ [], (vbool back ∷ [], (T′.lowered c ∷ [], tt)))))), tt)
 
-  -- it has a `requires`: `says` shows it. The parameters are put together from the last to the first
+  -- it has a `requires`: `says` shows it. The parameters are put together from the last to the
+  -- first
   goes-record : (s : Scan) (which disk : ℕ) (back : Bool) (c : ArrayState) → Is S.the-row s (S′.lowered s ∷ []) → which < 2 ^ 64 → disk < 2 ^ 64 → Is T.the-row c (T′.lowered c ∷ []) → MayScan s
       → ent 𝓤 (emp 𝓤) (Record .pre (to-record s which disk back c))
   goes-record s which disk back c is gw gd ic may =
@@ -252,7 +264,9 @@ module _ {M : Type 1} (𝓤 : URA M) (H : Heap 𝓤) (A : Atoms 𝓤) (W : Given
       abbrev fm : FmC 𝓤 H (W .laws) C
       fm = fmOf 𝓤 H (W .laws) 𝓣
 
-      -- the locals: the result, list, which, disk, back, n, s, i, r, the list's length, the loop's test, the offset and the place of `list[i]`, its copy, the branch's test, the offset and the place of `list[which]`
+      -- the locals: the result, list, which, disk, back, n, s, i, r, the list's length, the loop's
+      -- test, the offset and the place of `list[i]`, its copy, the branch's test, the offset and
+      -- the place of `list[which]`
       abbrev En : Env 𝓤 H
       En = (B′.mir, l₀) ∷ (slice, l₁) ∷ (word, l₂) ∷ (word, l₃) ∷ (tyBool, l₄) ∷ (word, l₅) ∷ (S′.mir, l₆) ∷ (word, l₇) ∷ (B′.mir, l₈)
           ∷ (word, l₉) ∷ (tyBool, l₁₀) ∷ (word, l₁₁) ∷ (tyPtr, l₁₂) ∷ (T′.mir, l₁₃) ∷ (tyBool, l₁₄) ∷ (word, l₁₅) ∷ (tyPtr, l₁₆) ∷ []
@@ -265,8 +279,10 @@ module _ {M : Type 1} (𝓤 : URA M) (H : Heap 𝓤) (A : Atoms 𝓤) (W : Given
       unset τ l = ‵ (froom τ l 0)
 
       -- the context wherever a piece begins. What changes is the list and the locals n, s, i and r
-      --     0 the records    1 s    2 i    3 r    4 _0    5 _9    6 _10    7 _11    8 _12    9 _13    10 _14    11 _15    12 _16
-      --     13 _1, the slice    14 which    15 disk    16 back    17 n    18 the open borrow    19 obs    20 auth    21 plains    22 + k  that local k dies
+      --     0 the records    1 s    2 i    3 r    4 _0    5 _9    6 _10    7 _11    8 _12    9 _13
+      --     10 _14    11 _15    12 _16
+      --     13 _1, the slice    14 which    15 disk    16 back    17 n    18 the open borrow    19
+      --     obs    20 auth    21 plains    22 + k  that local k dies
       abbrev Layout : List ArrayState → Item 𝓤 → Item 𝓤 → Item 𝓤 → Item 𝓤 → List (Item 𝓤)
       Layout zs n₅ s₆ i₇ r₈ =
           ‵ (row T.the-row fullShare zs b o) ∷ s₆ ∷ i₇ ∷ r₈ ∷ unset B′.mir l₀ ∷ unset word l₉ ∷ unset tyBool l₁₀ ∷ unset word l₁₁ ∷ unset tyPtr l₁₂ ∷ unset T′.mir l₁₃ ∷ unset tyBool l₁₄ ∷ unset word l₁₅ ∷ unset tyPtr l₁₆
@@ -285,7 +301,8 @@ module _ {M : Type 1} (𝓤 : URA M) (H : Heap 𝓤) (A : Atoms 𝓤) (W : Given
       ends zs r e promise is room =
           assigns ! (of-opd ! (load ! (from ! (stop !)) (look ! 3 refl))) (from ! (stop !)) (init ! 4 refl (LL.lawful B.the-type B′.the-laws 𝓤 H A W .typed r _ is .0)) $
           move ! (0 ∷ 18 ∷ 19 ∷ 20 ∷ []) $ closes-slice ! tt T.the-row ys zs e b o $
-          -- [obs; the borrow; the token; s; i; r; _0; _9; …; _16; list; which; disk; back; n; plains; and that each local dies]
+          -- [obs; the borrow; the token; s; i; r; _0; _9; …; _16; list; which; disk; back; n;
+          -- plains; and that each local dies]
           returns ! (look ! 6 refl) $ forget ! 3 refl $ forget ! 4 refl $ forget ! 5 refl $ forget ! 6 refl $ forget ! 15 refl $ forget ! 16 refl $ forget ! 17 refl $ forget ! 18 refl $ forget ! 19 refl $
           -- each local beside that it dies, _0 first
           move ! (6 ∷ 21 ∷ 15 ∷ 22 ∷ 16 ∷ 23 ∷ 17 ∷ 24 ∷ 18 ∷ 25 ∷ 19 ∷ 26 ∷ 3 ∷ 27 ∷ 4 ∷ 28 ∷ 5 ∷ 29 ∷ 7 ∷ 30 ∷ 8 ∷ 31 ∷ 9 ∷ 32 ∷ 10 ∷ 33 ∷ 11 ∷ 34 ∷ 12 ∷ 35 ∷ 13 ∷ 36 ∷ 14 ∷ 37 ∷ []) $
@@ -312,7 +329,8 @@ module _ {M : Type 1} (𝓤 : URA M) (H : Heap 𝓤) (A : Atoms 𝓤) (W : Given
             assigns ! (bin ! (load ! (from ! (fld ! refl (stop !))) (look-in ! 13 (sub ! 0 refl (whole !)))) (load ! (from ! (stop !)) (look ! 11 refl)) tt) (from ! (stop !)) (init ! 12 refl (tt, tt)) $
             rewrite ! 12 (λ (p : ℕ). holds tyPtr l₁₆ (vptr b p)) (sym (place-is 24 o which)) refl $
             elem-out ! T.the-row (Is T.the-row) (shows 𝓤 H A T.the-row) (LL.vals T.the-type T′.the-laws) (LL.tells T.the-type T′.the-laws) fullShare ys which noArray b o l (λ g.
-            -- [the record's cell; what it owns; the other records; s; i; r; … as in `Layout`, two further on]
+            -- [the record's cell; what it owns; the other records; s; i; r; … as in `Layout`, two
+            -- further on]
             assigns-last ! (of-opd ! (load ! (from ! (fld ! refl (stop !))) (look-in ! 3 (sub ! 3 refl (whole !))))) (from ! (hop ! (look ! 14 refl) (stop !))) (store-raw ! 0 refl (LL.lawful T.the-type T′.the-laws 𝓤 H A W .typed (seen n .found) _ found .0)) $
             exec ! C Λ En code-mir.t-9 (atRet En End) $
             move ! (1 ∷ []) $ drop ! $ owned ! T.the-row (Is T.the-row) (LL.makes T.the-type T′.the-plain 𝓤 H A) (seen n .found) _ found $ move ! (1 ∷ 0 ∷ []) $
@@ -330,7 +348,8 @@ module _ {M : Type 1} (𝓤 : URA M) (H : Heap 𝓤) (A : Atoms 𝓤) (W : Given
             answered : (w : Val) → Is B.the-row r (w ∷ []) → Is B.the-row r (B′.lowered r ∷ [])
             answered w is = subst (Is B.the-row r) (LL.tells B.the-type B′.the-laws _ _ is) is
 
-        -- ---- the loop: i records are scanned, at most n, and s is the scan of them. What is left falls
+        -- ---- the loop: i records are scanned, at most n, and s is the scan of them. What is left
+        -- falls
         abbrev Turn : Type 0
         Turn = (i : ℕ) × (i ≤ n) × Fine (seen i)
 
@@ -343,7 +362,8 @@ module _ {M : Type 1} (𝓤 : URA M) (H : Heap 𝓤) (A : Atoms 𝓤) (W : Given
         abbrev At : Turn → List (Item 𝓤)
         At t = Seen (t .0)
 
-        -- a turn's postcondition: it ends nearer to n, or the loop is left and the rest of the body runs
+        -- a turn's postcondition: it ends nearer to n, or the loop is left and the rest of the body
+        -- runs
         abbrev Turned : Turn → Out → SProp 𝓤
         Turned t = afterTurn 𝓤 H (Below 𝓤 H A Nearer At t) (afterBlock 𝓤 H (afterSeq 𝓤 H (Wp 𝓤 H C Λ En code-mir.t-6 (atReturn 𝓤 H En End)) (atReturn 𝓤 H En End)))
 
@@ -359,7 +379,8 @@ module _ {M : Type 1} (𝓤 : URA M) (H : Heap 𝓤) (A : Atoms 𝓤) (W : Given
             assigns ! (bin ! (load ! (from ! (fld ! refl (stop !))) (look-in ! 13 (sub ! 0 refl (whole !)))) (load ! (from ! (stop !)) (look ! 7 refl)) tt) (from ! (stop !)) (init ! 8 refl (tt, tt)) $
             rewrite ! 8 (λ (p : ℕ). holds tyPtr l₁₂ (vptr b p)) (sym (place-is 24 o i)) refl $
             elem-out ! T.the-row (Is T.the-row) (shows 𝓤 H A T.the-row) (LL.vals T.the-type T′.the-laws) (LL.tells T.the-type T′.the-laws) fullShare ys i noArray b o l (λ g.
-            -- [the record's cell; what it owns; the other records; s; i; r; … as in `Layout`, two further on]
+            -- [the record's cell; what it owns; the other records; s; i; r; … as in `Layout`, two
+            -- further on]
             assigns ! (of-opd ! (load ! (from ! (hop ! (look ! 10 refl) (stop !))) (look-raw ! 0 refl))) (from ! (stop !)) (init ! 11 refl (LL.lawful T.the-type T′.the-laws 𝓤 H A W .typed c _ g .0)) $
             elem-back ! T.the-row fullShare ys i noArray (T′.lowered c ∷ []) b o l $
             calls-plain ! fm Record known-record (to-record (seen i) which disk back c) (goes-record (seen i) which disk back c (t .2) gw gd g (may-scan which disk back ys i (ltb→lt i n less))) S.the-row (shows 𝓤 H A S.the-row) (seen (i + 1))
@@ -395,7 +416,8 @@ module _ {M : Type 1} (𝓤 : URA M) (H : Heap 𝓤) (A : Atoms 𝓤) (W : Given
             assigns ! (of-opd ! (lit ! tt)) (from ! (stop !)) (init ! 2 refl (tt, record { fits = lit< tt })) $
             first ! $ blocks ! $ loops ! 𝓣 Nearer Nearer-wf At turns (0, zero-le, subst (Is S.the-row (seen 0)) (LL.tells S.the-type S′.the-laws _ _ is) is)))
 
-    -- ---- the entry: the locals are allocated, the slice is opened, and the context is put in the order of `Layout`
+    -- ---- the entry: the locals are allocated, the slice is opened, and the context is put in the
+    -- order of `Layout`
     walk : (𝓣 : Tables 𝓤 H) → Room T.the-row (length ys) → which < 2 ^ 64 → disk < 2 ^ 64 → Triple 𝓤 (𝓣 .C #array-states·totals·scan-length) Length → Triple 𝓤 (𝓣 .C #array-states·totals·scan-start) Start → Triple 𝓤 (𝓣 .C #array-states·scan·scan-record) Record → Triple 𝓤 (𝓣 .C #array-states·board·scan-answer) Answer
         → ent 𝓤 (onEntry 𝓤 H A f.signature (κ, tt) (q, tt) x vals) (WpFn 𝓤 H (𝓣 .C) (𝓣 .Λ) code.function (sliceVal (b, o) (length ys) ∷ vint w64 which ∷ vint w64 disk ∷ vbool back ∷ []) End)
     walk 𝓣 room gw gd known-length known-start known-record known-answer =
@@ -404,7 +426,8 @@ module _ {M : Type 1} (𝓤 : URA M) (H : Heap 𝓤) (A : Atoms 𝓤) (W : Given
         alloc1 ! (λ l₀. alloc1 ! (λ l₁. alloc1 ! (λ l₂. alloc1 ! (λ l₃. alloc1 ! (λ l₄. alloc1 ! (λ l₅. alloc1 ! (λ l₆. alloc1 ! (λ l₇. alloc1 ! (λ l₈. alloc1 ! (λ l₉. alloc1 ! (λ l₁₀. alloc1 ! (λ l₁₁. alloc1 ! (λ l₁₂. alloc1 ! (λ l₁₃. alloc1 ! (λ l₁₄. alloc1 ! (λ l₁₅. alloc1 ! (λ l₁₆. alloc0 ! $ params1 ! $
         pass1 ! (init ! 30 refl (tt, (tt, (record { fits = room .0 }, tt)))) $ pass1 ! (init ! 28 refl (tt, record { fits = gw })) $ pass1 ! (init ! 26 refl (tt, record { fits = gd })) $ pass1 ! (init ! 24 refl (tt, tt)) $ pass0 ! $
         move ! (35 ∷ []) $ fsplit ! $ fsplit ! $ move ! (1 ∷ []) $ fsplit ! $ move ! (38 ∷ []) $ split ! $ move ! (2 ∷ 3 ∷ 0 ∷ []) $ opens-slice ! tt T.the-row ys b o $
-        -- [the records; the open borrow; obs; auth; true; the slice's fact; plains; _16; that it dies; _15; …; _0; …]
+        -- [the records; the open borrow; obs; auth; true; the slice's fact; plains; _16; that it
+        -- dies; _15; …; _0; …]
         keep ! (0 ∷ 27 ∷ 25 ∷ 23 ∷ 39 ∷ 21 ∷ 19 ∷ 17 ∷ 15 ∷ 13 ∷ 11 ∷ 9 ∷ 7 ∷ 37 ∷ 35 ∷ 33 ∷ 31 ∷ 29 ∷ 1 ∷ 2 ∷ 3 ∷ 6 ∷ 40 ∷ 38 ∷ 36 ∷ 34 ∷ 32 ∷ 30 ∷ 28 ∷ 26 ∷ 24 ∷ 22 ∷ 20 ∷ 18 ∷ 16 ∷ 14 ∷ 12 ∷ 10 ∷ 8 ∷ []) $
         begins 𝓣 l₀ l₁ l₂ l₃ l₄ l₅ l₆ l₇ l₈ l₉ l₁₀ l₁₁ l₁₂ l₁₃ l₁₄ l₁₅ l₁₆ room gw gd known-length known-start known-record known-answer)))))))))))))))))
 

@@ -1,4 +1,5 @@
--- `write_parity`: the groups give the encoded stripe; and so do P by the row sets and then Q by the diagonal sets.
+-- `write_parity`: the groups give the encoded stripe; and so do P by the row sets and then Q by the
+-- diagonal sets.
 use borrow.Author.Needs.{needs}
 use Rattle.encode.proofs.EncodeLaws.{both-kinds}
 use Rattle.encode.proofs.write_parity.Statement.{statement}

@@ -1,5 +1,8 @@
--- The mend of missing cells, from its promise alone: it is refused by 23 exactly if two different clean stripes agree in all cells that are not missing.
--- Where it is accepted, all other bytes stand, what the missing cells held does not matter, and survivors of a clean stripe bring that one back. Missing cells on two disks are always mended, two whole disks as by the rebuild of the two.
+-- The mend of missing cells, from its promise alone: it is refused by 23 exactly if two different
+-- clean stripes agree in all cells that are not missing.
+-- Where it is accepted, all other bytes stand, what the missing cells held does not matter, and
+-- survivors of a clean stripe bring that one back. Missing cells on two disks are always mended,
+-- two whole disks as by the rebuild of the two.
 use mathlib.Core.Path.{_≡_, refl, sym, ap, subst, _∙_}
 use mathlib.Core.Bool.{Bool, true, false, not}
 use mathlib.Core.List.{List}
@@ -14,8 +17,8 @@ use Rattle.mathematics.specs.Lists.{isIn, allBelow}
 use Rattle.mathematics.proofs.ChoiceLaws.{first-none, when-none, pick-refused}
 use Rattle.mathematics.proofs.Flags.{flag}
 use Rattle.liberation.specs.Limits.{InArray}
-use Rattle.liberation.specs.Sets.{diskAt, shapeFault, longFault}
-use Rattle.liberation.proofs.FaultLaws.{shape-of}
+use Rattle.liberation.specs.Sets.{diskAt, shapeRefusal, longRefusal}
+use Rattle.liberation.proofs.RefusalLaws.{shape-of}
 use Rattle.liberation.specs.stripes.Stripes.{cellAt, stripeLong, isStripe, clean}
 use Rattle.liberation.proofs.stripes.SizedLaws.{sized-long}
 use Rattle.liberation.proofs.stripes.Solving.{stripe-of}
@@ -26,7 +29,7 @@ use Rattle.rebuild_cells.proofs.theory.MendLaws.{mended-off, mended-alike, mend
 use Rattle.rebuild_cells.proofs.theory.Exact.{refused-two, determined-mendable}
 use Rattle.rebuild_cells.proofs.theory.WholeDisks.{disks-mendable, disks-whole}
 use Rattle.refusals.specs.declared.Answer.{Answer}
-use Rattle.rebuild_cells.specs.Says.{lentFault, mendFault, RebuildCellsSays}
+use Rattle.rebuild_cells.specs.Says.{lentRefusal, mendRefusal, RebuildCellsSays}
 use Rattle.rebuild_cells.proofs.MendRefusals.{lent-none}
 use Rattle.guarantees.specs.limits.Limits.{by, Within as Inside, Decides}
 use Rattle.guarantees.specs.limits.Calls.{markedStripe, rebuildCells}
@@ -42,10 +45,10 @@ record Within (p k s : ℕ) (ms t : List ℕ) : Type 0 where
   below : allBelow (p * (k + 2)) (missingCells ms) ≡ true
 
 module _ (p k s : ℕ) (ms t t′ : List ℕ) (r : Answer) (says : RebuildCellsSays p k s ms t t′ r) where
-  within : lentFault p k s ms t ≡ 0 → Within p k s ms t
+  within : lentRefusal p k s ms t ≡ 0 → Within p k s ms t
   within e =
       let g = lent-none p k s ms t e in
-      let w = shape-of p k s (first-none (shapeFault p k s) (firstOf (longFault (p * (k + 2)) ms) (longFault (stripeLong p k s) t)) e .0) in
+      let w = shape-of p k s (first-none (shapeRefusal p k s) (firstOf (longRefusal (p * (k + 2)) ms) (longRefusal (stripeLong p k s) t)) e .0) in
       record {
         array = w .0;
         some = w .1;
@@ -54,18 +57,18 @@ module _ (p k s : ℕ) (ms t t′ : List ℕ) (r : Answer) (says : RebuildCellsS
       }
 
   -- a call within these limits
-  lent : Inside (markedStripe p k s ms t) → lentFault p k s ms t ≡ 0
+  lent : Inside (markedStripe p k s ms t) → lentRefusal p k s ms t ≡ 0
   lent w = within-zero (marked-decides p k s ms t) w
 
   -- an accepted call: none of the refusals
-  faultless : r .refusal ≡ 0 → mendFault p k s ms t ≡ 0
+  faultless : r .refusal ≡ 0 → mendRefusal p k s ms t ≡ 0
   faultless z = sym (says .answer .refusal) ∙ z
 
-  limits : r .refusal ≡ 0 → lentFault p k s ms t ≡ 0
-  limits z = first-none (lentFault p k s ms t) (when (not (mendable p k (missingCells ms))) 23) (faultless z) .0
+  limits : r .refusal ≡ 0 → lentRefusal p k s ms t ≡ 0
+  limits z = first-none (lentRefusal p k s ms t) (when (not (mendable p k (missingCells ms))) 23) (faultless z) .0
 
   determined : r .refusal ≡ 0 → mendable p k (missingCells ms) ≡ true
-  determined z = not-false (mendable p k (missingCells ms)) (when-none (not (mendable p k (missingCells ms))) 22 (first-none (lentFault p k s ms t) (when (not (mendable p k (missingCells ms))) 23) (faultless z) .1))
+  determined z = not-false (mendable p k (missingCells ms)) (when-none (not (mendable p k (missingCells ms))) 22 (first-none (lentRefusal p k s ms t) (when (not (mendable p k (missingCells ms))) 23) (faultless z) .1))
 
   written : r .refusal ≡ 0 → t′ ≡ mendedCells p k s (missingCells ms) t
   written z = says .stripe ∙ ap (λ (n : ℕ). pick (eqb n 0) (mendedCells p k s (missingCells ms) t) t) (faultless z)
@@ -81,7 +84,8 @@ module _ (p k s : ℕ) (ms t t′ : List ℕ) (r : Answer) (says : RebuildCellsS
   pub cells-back : r .refusal ≡ 0 → (u : List ℕ) → isStripe p k s u ≡ true → clean p k s u ≡ true → AlikeOff p k s (missingCells ms) t u → t′ ≡ u
   cells-back z u hu cu same = let w = within (limits z) in written z ∙ mended-back p k s (w .array .some) (missingCells ms) (w .below) (determined z) t u (w .stripe) hu cu same
 
-  -- accepted: the cells that are not missing determine the others, and no more are missing than there are sets
+  -- accepted: the cells that are not missing determine the others, and no more are missing than
+  -- there are sets
   pub accepted-determined : r .refusal ≡ 0 → Determined p k s (missingCells ms)
   accepted-determined z = let w = within (limits z) in mendable-determined p k s (w .array .some) (missingCells ms) (w .below) (determined z)
 
@@ -89,7 +93,7 @@ module _ (p k s : ℕ) (ms t t′ : List ℕ) (r : Answer) (says : RebuildCellsS
   accepted-few z = mendable-few p k (missingCells ms) (determined z)
 
   -- past the first refusals there is 23 alone
-  refusal-is : lentFault p k s ms t ≡ 0 → (b : Bool) → mendable p k (missingCells ms) ≡ b → r .refusal ≡ when (not b) 23
+  refusal-is : lentRefusal p k s ms t ≡ 0 → (b : Bool) → mendable p k (missingCells ms) ≡ b → r .refusal ≡ when (not b) 23
   refusal-is e b h = says .answer .refusal ∙ ap (λ (n : ℕ). firstOf n (when (not (mendable p k (missingCells ms))) 23)) e ∙ ap (λ (x : Bool). when (not x) 23) h
 
   pub determined-accepted : Inside (markedStripe p k s ms t) → Determined p k s (missingCells ms) → r .refusal ≡ 0
@@ -97,14 +101,15 @@ module _ (p k s : ℕ) (ms t t′ : List ℕ) (r : Answer) (says : RebuildCellsS
       let w = within (lent i) in
       refusal-is (lent i) true (determined-mendable p k s (w .array .some) (w .some) (missingCells ms) (w .below) (missing-distinct ms) d)
 
-  -- refused by 23: two different clean stripes agree in all cells that are not missing, and the stripe stands
+  -- refused by 23: two different clean stripes agree in all cells that are not missing, and the
+  -- stripe stands
   pub refused-stands : (r .refusal ≡ 0 → ⊥) → t′ ≡ t
-  refused-stands n = says .stripe ∙ sym (pick-refused (r .refusal) (mendFault p k s ms t) (mendedCells p k s (missingCells ms) t) t (says .answer .refusal) n)
+  refused-stands n = says .stripe ∙ sym (pick-refused (r .refusal) (mendRefusal p k s ms t) (mendedCells p k s (missingCells ms) t) t (says .answer .refusal) n)
 
   pub undetermined : r .refusal ≡ 23 → TwoClean p k s (missingCells ms)
   undetermined q = ⊎-elim (λ h. absurd (never (refusal-is e true h))) two (flag (mendable p k (missingCells ms)))
     where
-      e : lentFault p k s ms t ≡ 0
+      e : lentRefusal p k s ms t ≡ 0
       e = lent (comes-after (markedStripe p k s ms t) (by 23 (Determined p k s (missingCells ms))) refl (subst (λ (n : ℕ). Decides (rebuildCells p k s ms t) n (r .place)) q (demand1 .rebuild-cells p k s ms t t′ r says .decides)) .0)
 
       never : r .refusal ≡ 0 → ⊥
@@ -117,7 +122,7 @@ module _ (p k s : ℕ) (ms t t′ : List ℕ) (r : Answer) (says : RebuildCellsS
   pub two-refused : Inside (markedStripe p k s ms t) → TwoClean p k s (missingCells ms) → r .refusal ≡ 23
   two-refused i g = ⊎-elim mended (λ h. refusal-is e false h) (flag (mendable p k (missingCells ms)))
     where
-      e : lentFault p k s ms t ≡ 0
+      e : lentRefusal p k s ms t ≡ 0
       e = lent i
 
       mended : mendable p k (missingCells ms) ≡ true → r .refusal ≡ 23
@@ -137,7 +142,8 @@ module _ (p k s : ℕ) (ms t t′ : List ℕ) (r : Answer) (says : RebuildCellsS
         written disks-accepted
         ∙ disks-whole p k a b (w .array .width) (w .array .some) (w .array .disks) ha hb apart (missingCells ms) (w .below) (missing-distinct ms) on all s t (w .stripe)
 
--- two accepted calls with the same marks, on stripes that agree in the cells that are not missing, end with the same stripe
+-- two accepted calls with the same marks, on stripes that agree in the cells that are not missing,
+-- end with the same stripe
 pub same-survivors :
     (p k s : ℕ) (ms t t′ u u′ : List ℕ) (q r : Answer) → RebuildCellsSays p k s ms t t′ q → RebuildCellsSays p k s ms u u′ r → q .refusal ≡ 0 → r .refusal ≡ 0 → AlikeOff p k s (missingCells ms) t u → t′ ≡ u′
 same-survivors p k s ms t t′ u u′ q r f g z y same =

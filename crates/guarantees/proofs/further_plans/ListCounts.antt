@@ -14,7 +14,7 @@ use Rattle.liberation.specs.Plans.{Step, cellsRead, marksFrom, listOf}
 use Rattle.liberation.proofs.MarkLists.{take-marks, drop-marks}
 use Rattle.liberation.proofs.ReadLaws.{marks-total}
 use Rattle.liberation.specs.balanced_plan.Balanced.{readsOf, fairShare}
-use Rattle.planner.proofs.reads.MeansLaws.{marks-ones}
+use Rattle.planner.proofs.ReadListMeans.{marks-ones}
 use Rattle.guarantees.specs.further_plans.Counts.{onesOn, share}
 
 pub ones-on : (p k f c : ℕ) (ss : List Step) → c < k + 2 → onesOn p c (listOf p k f ss) ≡ readsOf p k f c ss

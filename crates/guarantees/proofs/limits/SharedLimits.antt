@@ -1,4 +1,5 @@
--- The tests that several calls share decide their limits: width, data disks, cell size, disk, length, the steps of a plan.
+-- The tests that several calls share decide their limits: width, data disks, cell size, disk,
+-- length, the steps of a plan.
 use mathlib.Core.Path.{_≡_, refl, sym, ap, ap₂, _∙_, subst}
 use mathlib.Core.Bool.{Bool, true, false, _||_, not}
 use mathlib.Core.Logic.{_⊎_, inl, inr, ⊎-elim}
@@ -11,9 +12,9 @@ use Rattle.mathematics.specs.Choice.{pick, when, firstOf}
 use Rattle.mathematics.specs.Lists.{isIn}
 use Rattle.mathematics.proofs.Flags.{or-false-l, or-false-r, or-cases}
 use Rattle.mathematics.proofs.ChoiceLaws.{first-is, first-none, when-none}
-use Rattle.liberation.specs.Sets.{isWidth, place, setOf, lostIn, widthFault, diskFault, arrayFault, planFault, shapeFault, numbersFault}
+use Rattle.liberation.specs.Sets.{isWidth, place, setOf, lostIn, widthRefusal, diskRefusal, arrayRefusal, planRefusal, shapeRefusal, numbersRefusal}
 use Rattle.liberation.specs.Plans.{Step}
-use Rattle.liberation.specs.Judging.{Judged, judged, othersThere, stepFault, judgeFrom}
+use Rattle.liberation.specs.Judging.{Judged, judged, othersThere, stepRefusal, judgeFrom}
 use Rattle.liberation.proofs.SetLaws.{in-lost}
 use Rattle.liberation.proofs.AcceptedLaws.{passed}
 use Rattle.liberation.proofs.Passing.{step-passes}
@@ -22,30 +23,30 @@ use Rattle.guarantees.specs.limits.Calls.{OneOfTen, array, shape, disk, 
 use Rattle.guarantees.proofs.limits.LimitLaws.{test, test-at, test-not, test-or, and-then, then-zero}
 
 -- ---- numbers and lengths
-pub width-decides : (p : ℕ) → Decides (by 1 (OneOfTen p)) (widthFault p) 0
+pub width-decides : (p : ℕ) → Decides (by 1 (OneOfTen p)) (widthRefusal p) 0
 width-decides p = test-not (isWidth p) 0 (λ e. e) (λ e. e)
 
-pub array-decides : (p k : ℕ) → Decides (array p k) (arrayFault p k) 0
+pub array-decides : (p k : ℕ) → Decides (array p k) (arrayRefusal p k) 0
 array-decides p k =
     then-zero (width-decides p)
     (λ w. test-or (ltb k 2) (ltb p k) 12 (ltb-false k 2) (le-ltb k 2) (ltb-false p k) (le-ltb p k))
 
-pub shape-decides : (p k s : ℕ) → Decides (shape p k s) (shapeFault p k s) 0
+pub shape-decides : (p k s : ℕ) → Decides (shape p k s) (shapeRefusal p k s) 0
 shape-decides p k s =
     then-zero (array-decides p k)
     (λ w. test-or (eqb s 0) (ltb 4096 s) 1 (λ e. omega (arith, eqb-false s 0 e)) (λ h. ne-eqb s 0 (λ e. omega arith)) (ltb-false 4096 s) (le-ltb 4096 s))
 
-pub disk-decides : (k f : ℕ) → Decides (disk k f) (diskFault k f) 0
+pub disk-decides : (k f : ℕ) → Decides (disk k f) (diskRefusal k f) 0
 disk-decides k f = test (ltb (k + 1) f) 2 (ltb-false (k + 1) f) (le-ltb (k + 1) f)
 
 -- n bytes where m are required
 pub length-decides : (n m : ℕ) → Decides (by 5 (n ≡ m)) (when (not (eqb n m)) 5) 0
 length-decides n m = test-not (eqb n m) 4 (eqb-true n m) (eq-eqb n m)
 
-pub plan-decides : (p k f : ℕ) → Decides (plan p k f) (planFault p k f) 0
+pub plan-decides : (p k f : ℕ) → Decides (plan p k f) (planRefusal p k f) 0
 plan-decides p k f = then-zero (array-decides p k) (λ w. disk-decides k f)
 
-pub numbers-decide : (p k s f : ℕ) → Decides (shape p k s then disk k f) (numbersFault p k s f) 0
+pub numbers-decide : (p k s f : ℕ) → Decides (shape p k s then disk k f) (numbersRefusal p k s f) 0
 numbers-decide p k s f = then-zero (shape-decides p k s) (λ w. disk-decides k f)
 
 -- ---- the steps of a plan
@@ -99,16 +100,16 @@ module _ (i p k f : ℕ) (done : List ℕ) (s : Step) where
         ltb-false 1 (s .kind) (or-false-r (leb p (s .number)) (ltb 1 (s .kind)) m),
       )
 
-  abbrev fault : ℕ
-  fault = firstOf (when out 6) (firstOf (when lacks 7) (firstOf (when again 8) (when missing 9)))
+  abbrev refusal : ℕ
+  refusal = firstOf (when out 6) (firstOf (when lacks 7) (firstOf (when again 8) (when missing 9)))
 
   held-none : Low → Held → lacks ≡ false
   held-none l h = ap not (in-lost p f (s .row) set (l .0) ∙ h)
 
   others-of : Low → Held → Fresh → missing ≡ false → Others
-  unfolding stepFault
+  unfolding stepRefusal
   others-of l h n e x g q =
-      let z : fault ≡ 0 =
+      let z : refusal ≡ 0 =
       ap (λ (b : Bool). firstOf (when b 6) (firstOf (when lacks 7) (firstOf (when again 8) (when missing 9)))) (low-none l)
       ∙ ap (λ (b : Bool). firstOf (when b 7) (firstOf (when again 8) (when missing 9))) (held-none l h)
       ∙ ap (λ (b : Bool). firstOf (when b 8) (when missing 9)) n
@@ -116,16 +117,16 @@ module _ (i p k f : ℕ) (done : List ℕ) (s : Step) where
       ⊎-elim (λ t. inl (eqb-true x (s .row) t)) inr (or-cases (eqb x (s .row)) (isIn x done) (passed p k f done s z .others x (in-lost p f x set g ∙ q)))
 
   others-none : Low → Held → Fresh → Others → missing ≡ false
-  unfolding stepFault
+  unfolding stepRefusal
   others-none l h n o =
       let a = first-none (when out 6) (firstOf (when lacks 7) (firstOf (when again 8) (when missing 9))) (step-passes p k f done (s .row) (s .kind) (s .number) (l .0) (l .1) (l .2) h n o) in
       let b = first-none (when lacks 7) (firstOf (when again 8) (when missing 9)) (a .1) in
       when-none missing 8 (first-none (when again 8) (when missing 9) (b .1) .1)
 
-  step-decides : Decides (step i p k f done s) (stepFault p k f done s) (when (not (eqb (stepFault p k f done s) 0)) i)
-  unfolding stepFault
+  step-decides : Decides (step i p k f done s) (stepRefusal p k f done s) (when (not (eqb (stepRefusal p k f done s) 0)) i)
+  unfolding stepRefusal
   step-decides =
-      subst (λ (at : ℕ). Decides (step i p k f done s) fault at) (place-of out lacks again missing i)
+      subst (λ (at : ℕ). Decides (step i p k f done s) refusal at) (place-of out lacks again missing i)
       (and-then (test-at out 5 i low-of low-none)
       (λ l. and-then (test-at lacks 6 i (λ e. sym (in-lost p f (s .row) set (l .0 .0)) ∙ not-false (isIn (s .row) (lostIn p f set)) e) (held-none (l .0)))
       (λ h. and-then (test-at again 7 i (λ e. e) (λ e. e))
@@ -140,7 +141,7 @@ pub steps-decide : (i p k f : ℕ) (done : List ℕ) (ss : List Step) → Decide
 unfolding judgeFrom
 steps-decide i p k f done [] = record { cases = (refl, refl) }
 steps-decide i p k f done (s ∷ ss) =
-    let n = stepFault p k f done s in
+    let n = stepRefusal p k f done s in
     let j = judgeFrom (suc i) p k f (s .row ∷ done) ss in
     subst (λ (x : Judged). Decides (steps i p k f done (s ∷ ss)) (x .number) (x .place)) (sym (goes-on (eqb n 0) n i j refl))
     (and-then (step-decides i p k f done s) (λ w. steps-decide (suc i) p k f (s .row ∷ done) ss))

@@ -1,4 +1,5 @@
--- Ask 8 of document 02: "A record whose skipped is above next gives refusal 10 in any call; a skip gives it also where a step would."
+-- Ask 8 of document 02: "A record whose skipped is above next gives refusal 10 in any call; a skip
+-- gives it also where a step would."
 use mathlib.Core.Path.{_≡_, refl, subst}
 use mathlib.Core.List.{List}
 use Prim.Native.Nat.{ℕ, _+_, _*_, _≤_, _<_}
@@ -7,9 +8,9 @@ use lib.ListN.{length}
 use Rattle.refusals.specs.declared.Answer.{Answer}
 use Rattle.rebuild_runs.specs.declared.Run.{Run}
 use Rattle.rebuild_runs.specs.Runs.{SkipSays}
-use Rattle.rebuild_runs.specs.steps.Says.{StepSays}
+use Rattle.rebuild_runs.specs.StepSays.{StepSays}
 use Rattle.rebuild_runs.specs.declared.progress.Progress.{Progress}
-use Rattle.rebuild_runs.specs.progress.Says.{ProgressSays}
+use Rattle.rebuild_runs.specs.ProgressSays.{ProgressSays}
 use Rattle.billing.specs.declared.Bill.{Bill}
 use Rattle.billing.specs.Bills.{RunBillSays}
 use Rattle.guarantees.specs.limits.Limits.{none, _then_, Within, Decides}
@@ -19,7 +20,8 @@ use Rattle.guarantees.proofs.limits.Demand1.{demand1}
 
 -- every call on a record x, whose own numbers are within their limits
 pub record Tens (x : Run) : Type 0 where
-  -- "A record whose skipped is above next gives refusal 10 in any call": a step on slices of the lengths required
+  -- "A record whose skipped is above next gives refusal 10 in any call": a step on slices of the
+  -- lengths required
   pub read : x .next < x .skipped → (g : Progress) → ProgressSays x g → g .answer .refusal ≡ 10
   pub bill : x .next < x .skipped → (a b c : ℕ) (y : Bill) (g : Progress) → RunBillSays x a b c y → ProgressSays x g → y .answer .refusal ≡ 10
   pub skip : x .next < x .skipped → (x′ : Run) (i : ℕ) (r : Answer) → SkipSays x x′ i r → r .refusal ≡ 10

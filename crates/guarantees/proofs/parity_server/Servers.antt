@@ -1,5 +1,7 @@
--- Ask 7 of document 02, said of the calls that write and rebuild a server: whatever they return, as long as they keep their promises.
--- ts are the m + 1 stripes as they were lent, ts′ as they are given back, ls the losses, j the lost server. That the lengths are those required and that all are bytes comes with the answer.
+-- Ask 7 of document 02, said of the calls that write and rebuild a server: whatever they return, as
+-- long as they keep their promises.
+-- ts are the m + 1 stripes as they were lent, ts′ as they are given back, ls the losses, j the lost
+-- server. That the lengths are those required and that all are bytes comes with the answer.
 use mathlib.Core.Path.{_≡_, sym, subst, ap, ap₂, _∙_}
 use mathlib.Core.Bool.{true}
 use mathlib.Core.List.{List}
@@ -9,13 +11,13 @@ use lib.ListN.{length}
 use Rattle.mathematics.specs.Choice.{pick}
 use Rattle.mathematics.proofs.ChoiceLaws.{pick-refused}
 use Rattle.liberation.specs.stripes.Stripes.{cellAt, xorOver, stripeLong, clean, without}
-use Rattle.liberation.specs.parity_server.Servers.{upTo, serverAt, isServers, firstLoss, secondLoss, mendedAt, written, serverRebuilt, writeFault, rebuildFault}
-use Rattle.liberation.specs.parity_server.Claims.{CleanServers, AlikeOff}
-use Rattle.liberation.proofs.parity_server.RefusalLaws.{write-of}
+use Rattle.liberation.specs.parity_server.Servers.{upTo, serverAt, isServers, firstLoss, secondLoss, mendedAt, serverWritten, serverRebuilt, writeRefusal, rebuildRefusal}
+use Rattle.liberation.specs.parity_server.ServerClaims.{CleanServers, AlikeOff}
+use Rattle.liberation.proofs.parity_server.ServerRefusalLaws.{write-of}
 use Rattle.liberation.proofs.parity_server.ServerLaws.{servers-of}
 use Rattle.liberation.proofs.parity_server.Writing.{written-servers, written-other, written-cell, written-clean, written-cleans}
 use Rattle.liberation.proofs.parity_server.ServerBack.{rebuilt-servers, rebuilt-other, rebuilt-off, rebuilt-lost, servers-back, rebuilt-alike}
-use Rattle.liberation.proofs.parity_server.Unread.{fault-unread, rebuilt-unread}
+use Rattle.liberation.proofs.parity_server.Unread.{refusal-unread, rebuilt-unread}
 use Rattle.refusals.specs.declared.Answer.{Answer}
 use Rattle.refusals.proofs.AnswerLaws.{answers-none}
 use Rattle.parity_server.specs.Says.{WriteServerSays, RebuildServerSays}
@@ -34,15 +36,15 @@ pub record Writes (p k s m : ℕ) (ts ts′ : List ℕ) : Type 0 where
 
 module _ (p k s m : ℕ) (ts ts′ : List ℕ) (r : Answer) (q : WriteServerSays p k s m ts ts′ r) where
   pub write-stands : (r .refusal ≡ 0 → ⊥) → ts′ ≡ ts
-  write-stands z = q .stripes ∙ sym (pick-refused (r .refusal) (writeFault p k s m ts) (written p k s m ts) ts (q .answer .refusal) z)
+  write-stands z = q .stripes ∙ sym (pick-refused (r .refusal) (writeRefusal p k s m ts) (serverWritten p k s m ts) ts (q .answer .refusal) z)
 
   -- an accepted call, by its answer
   module _ (z : r .refusal ≡ 0) where
-    none : writeFault p k s m ts ≡ 0
-    none = answers-none (writeFault p k s m ts) r (q .answer) z
+    none : writeRefusal p k s m ts ≡ 0
+    none = answers-none (writeRefusal p k s m ts) r (q .answer) z
 
-    pub write-done : ts′ ≡ written p k s m ts
-    write-done = q .stripes ∙ ap (λ (n : ℕ). pick (eqb n 0) (written p k s m ts) ts) none
+    pub write-done : ts′ ≡ serverWritten p k s m ts
+    write-done = q .stripes ∙ ap (λ (n : ℕ). pick (eqb n 0) (serverWritten p k s m ts) ts) none
 
     lent : isServers p k s m ts ≡ true
     lent = servers-of p k s m ts (write-of p k s m ts none .long) (q .bytes)
@@ -61,22 +63,24 @@ module _ (p k s m : ℕ) (ts ts′ : List ℕ) (r : Answer) (q : WriteServerSays
 pub record Rebuilds (p k s m j : ℕ) (ls ts ts′ : List ℕ) : Type 0 where
   -- m + 1 stripes still, in length and bytes
   pub servers : isServers p k s m ts′ ≡ true
-  -- on dirty stripes too: every other server is as its losses are mended, and the lost one is the XOR of these
+  -- on dirty stripes too: every other server is as its losses are mended, and the lost one is the
+  -- XOR of these
   pub others : (i : ℕ) → i < suc m → (i ≡ j → ⊥) → serverAt p k s ts′ i ≡ mendedAt p k s ls ts i
   pub lost : serverAt p k s ts′ j ≡ xorOver (stripeLong p k s) (mendedAt p k s ls ts) (without j (upTo (suc m)))
   -- the other servers' bytes off their losses stand
   pub kept : AlikeOff p k s m j ls ts′ ts
-  -- "the lost server comes back exact, provided all m + 1 stripes were clean and the extra the XOR of the rest before the losses", and so does every other
+  -- "the lost server comes back exact, provided all m + 1 stripes were clean and the extra the XOR
+  -- of the rest before the losses", and so does every other
   pub back : (us : List ℕ) → CleanServers p k s m us → AlikeOff p k s m j ls ts us → ts′ ≡ us
 
 module _ (p k s m j : ℕ) (ts ls ts′ : List ℕ) (r : Answer) (q : RebuildServerSays p k s m j ts ls ts′ r) where
   pub rebuild-stands : (r .refusal ≡ 0 → ⊥) → ts′ ≡ ts
-  rebuild-stands z = q .stripes ∙ sym (pick-refused (r .refusal) (rebuildFault p k s m j ls ts) (serverRebuilt p k s m j ls ts) ts (q .answer .refusal) z)
+  rebuild-stands z = q .stripes ∙ sym (pick-refused (r .refusal) (rebuildRefusal p k s m j ls ts) (serverRebuilt p k s m j ls ts) ts (q .answer .refusal) z)
 
   -- an accepted call, by its answer
   module _ (z : r .refusal ≡ 0) where
-    accepted : rebuildFault p k s m j ls ts ≡ 0
-    accepted = answers-none (rebuildFault p k s m j ls ts) r (q .answer) z
+    accepted : rebuildRefusal p k s m j ls ts ≡ 0
+    accepted = answers-none (rebuildRefusal p k s m j ls ts) r (q .answer) z
 
     pub rebuild-done : ts′ ≡ serverRebuilt p k s m j ls ts
     rebuild-done = q .stripes ∙ ap (λ (n : ℕ). pick (eqb n 0) (serverRebuilt p k s m j ls ts) ts) accepted
@@ -94,7 +98,7 @@ module _ (p k s m j : ℕ) (ts ls ts′ : List ℕ) (r : Answer) (q : RebuildSer
     -- what server j and the lost disks held does not matter, on dirty stripes too
     pub never-used : (vs vs′ : List ℕ) (o : Answer) → RebuildServerSays p k s m j vs ls vs′ o → o .refusal ≡ 0 → AlikeOff p k s m j ls ts vs → ts′ ≡ vs′
     never-used vs vs′ o w y same =
-        let av : rebuildFault p k s m j ls vs ≡ 0 = answers-none (rebuildFault p k s m j ls vs) o (w .answer) y in
+        let av : rebuildRefusal p k s m j ls vs ≡ 0 = answers-none (rebuildRefusal p k s m j ls vs) o (w .answer) y in
         rebuild-done
         ∙ rebuilt-alike p k s m j ls ts vs (q .bytes) (w .bytes) accepted av same
         ∙ sym (w .stripes ∙ ap (λ (n : ℕ). pick (eqb n 0) (serverRebuilt p k s m j ls vs) vs) av)
@@ -102,7 +106,7 @@ module _ (p k s m j : ℕ) (ts ls ts′ : List ℕ) (r : Answer) (q : RebuildSer
   -- "the lost server's own pair is not read": neither the answer nor the stripes depend on it
   pub pair-unread : (ms us : List ℕ) (o : Answer) → RebuildServerSays p k s m j ts ms us o → length ls ≡ length ms → ((i : ℕ) → i < suc m → (i ≡ j → ⊥) → (firstLoss ls i ≡ firstLoss ms i) × (secondLoss ls i ≡ secondLoss ms i)) → (r .refusal ≡ o .refusal) × (ts′ ≡ us)
   pair-unread ms us o w long same =
-      let e : rebuildFault p k s m j ls ts ≡ rebuildFault p k s m j ms ts = fault-unread p k s m j ls ms same ts long in (
+      let e : rebuildRefusal p k s m j ls ts ≡ rebuildRefusal p k s m j ms ts = refusal-unread p k s m j ls ms same ts long in (
         q .answer .refusal ∙ e ∙ sym (w .answer .refusal),
         q .stripes ∙ ap₂ (λ (n : ℕ) (l : List ℕ). pick (eqb n 0) l ts) e (rebuilt-unread p k s m j ls ms same ts) ∙ sym (w .stripes),
       )

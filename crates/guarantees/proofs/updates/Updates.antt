@@ -1,5 +1,7 @@
--- Ask 4 of document 02, said of the call that updates a cell: whatever it returns, as long as it keeps its promise.
--- t is the stripe as it was lent, t′ as it is given back, new the lent cell, for row r of data disk c. That the lengths are those required and that all are bytes comes with the answer.
+-- Ask 4 of document 02, said of the call that updates a cell: whatever it returns, as long as it
+-- keeps its promise.
+-- t is the stripe as it was lent, t′ as it is given back, new the lent cell, for row r of data disk
+-- c. That the lengths are those required and that all are bytes comes with the answer.
 use mathlib.Core.Path.{_≡_, sym, ap, ap₂, _∙_}
 use mathlib.Core.Bool.{true, false}
 use mathlib.Core.Logic.{_⊎_}
@@ -12,10 +14,10 @@ use Rattle.mathematics.specs.Choice.{pick, when, firstOf}
 use Rattle.mathematics.specs.Lists.{isIn, distinct}
 use Rattle.mathematics.specs.Xor.{xorL}
 use Rattle.mathematics.proofs.ChoiceLaws.{first-none}
-use Rattle.liberation.specs.Sets.{place, extraOf, diagonalSet, setOf, shapeFault}
-use Rattle.liberation.proofs.FaultLaws.{long-accepted}
+use Rattle.liberation.specs.Sets.{place, extraOf, diagonalSet, setOf, shapeRefusal}
+use Rattle.liberation.proofs.RefusalLaws.{long-accepted}
 use Rattle.liberation.specs.stripes.Stripes.{cellAt, withCell, xorOver, stripeLong, isStripe, clean, encoded}
-use Rattle.liberation.proofs.stripes.CellLaws.{length-with}
+use Rattle.liberation.proofs.stripes.StripeCellLaws.{length-with}
 use Rattle.liberation.proofs.stripes.Solving.{stripe-of}
 use Rattle.liberation.specs.update.Updates.{isExtra, holders, parityOf, updated}
 use Rattle.liberation.proofs.update.HolderLaws.{in-holders, holders-distinct, holders-count, extra-some, extra-any}
@@ -23,12 +25,12 @@ use Rattle.liberation.proofs.update.ParityCells.{parity-row, parity-diagonal, p
 use Rattle.liberation.proofs.update.Updating.{updated-stripe, updated-new, updated-parity, updated-byte, updated-set, updated-clean, updated-encoded}
 use Rattle.refusals.specs.declared.Answer.{Answer}
 use Rattle.refusals.proofs.AnswerLaws.{answers-none}
-use Rattle.refusals.specs.stripe.Says.{stripeFault}
+use Rattle.refusals.specs.StripeSays.{stripeRefusal}
 use Rattle.encode.specs.Says.{EncodeSays}
-use Rattle.update.specs.parity.Cells.{DataCell}
-use Rattle.update.proofs.parity.CellPlaces.{own-fits}
-use Rattle.update.specs.Says.{dataFault, updateFault, UpdateSays}
-use Rattle.update.proofs.UpdateRefusals.{lastFaults, fault-none}
+use Rattle.update.specs.Cells.{DataCell}
+use Rattle.update.proofs.CellPlaces.{own-fits}
+use Rattle.update.specs.Says.{dataRefusal, updateRefusal, UpdateSays}
+use Rattle.update.proofs.UpdateRefusals.{lastRefusals, refusal-none}
 
 -- The parity cells of data cell (r, c): "its P cell and the Q cells of the diagonals holding it".
 pub record Parity (p k r c : ℕ) : Type 0 where
@@ -64,11 +66,11 @@ pub record Updates (p k s r c : ℕ) (t new t′ : List ℕ) : Type 0 where
 
 -- an accepted call, by its answer
 module _ (p k s r c : ℕ) (t new t′ : List ℕ) (a : Answer) (q : UpdateSays p k s r c t new t′ a) (z : a .refusal ≡ 0) where
-  none : updateFault p k s r c t new ≡ 0
-  none = answers-none (updateFault p k s r c t new) a (q .answer) z
+  none : updateRefusal p k s r c t new ≡ 0
+  none = answers-none (updateRefusal p k s r c t new) a (q .answer) z
 
   pub shown : DataCell p k s r c t × (length new ≡ s) × (0 < s)
-  shown = fault-none p k s r c t new none
+  shown = refusal-none p k s r c t new none
 
   done : t′ ≡ updated p k s r c new t
   done = q .stripe ∙ ap (λ (n : ℕ). pick (eqb n 0) (updated p k s r c new t) t) none
@@ -109,8 +111,8 @@ module _ (p k s r c : ℕ) (t new t′ : List ℕ) (a : Answer) (q : UpdateSays 
   ends-as-encoded e u b m =
       let d = shown .0 in
       let w : List ℕ = withCell s (place p r c) new t in
-      let fine : stripeFault p k s w ≡ 0 = ap₂ firstOf shape (long-accepted (stripeLong p k s) w (length-with s (place p r c) new t (shown .1) (own-fits p k s r c t d) ∙ d .long)) in
+      let fine : stripeRefusal p k s w ≡ 0 = ap₂ firstOf shape (long-accepted (stripeLong p k s) w (length-with s (place p r c) new t (shown .1) (own-fits p k s r c t d) ∙ d .long)) in
       updates .as-encoded e ∙ sym (m .stripe ∙ ap (λ (n : ℕ). pick (eqb n 0) (encoded p k s w) w) fine)
     where
-      shape : shapeFault p k s ≡ 0
-      shape = first-none (shapeFault p k s) (firstOf (dataFault k c) (lastFaults p k s r c (length t) (length new))) none .0
+      shape : shapeRefusal p k s ≡ 0
+      shape = first-none (shapeRefusal p k s) (firstOf (dataRefusal k c) (lastRefusals p k s r c (length t) (length new))) none .0

@@ -1,5 +1,9 @@
--- The limits of every call in plain words, in the order of the papers (document 01, "Reasons to turn a call away", read with what document 02 adds): each line is a number and what must hold, or else the call is refused by it.
--- "Checks go upward by number"; 13 is "tested right after 1", 18 "after 2" and before 5, 3 and 4, 15 and 22 "after 5", 14 "just before 11", 16 and 17 after 14, 19 "last", 20 "first of all", 21 "last". No definition of a refusal is used here, so none can move a limit.
+-- The limits of every call in plain words, in the order of the papers (document 01, "Reasons to
+-- turn a call away", read with what document 02 adds): each line is a number and what must hold, or
+-- else the call is refused by it.
+-- "Checks go upward by number"; 13 is "tested right after 1", 18 "after 2" and before 5, 3 and 4,
+-- 15 and 22 "after 5", 14 "just before 11", 16 and 17 after 14, 19 "last", 20 "first of all", 21
+-- "last". No definition of a refusal is used here, so none can move a limit.
 use mathlib.Core.Path.{_≡_}
 use mathlib.Core.Bool.{Bool, true, false}
 use mathlib.Core.Logic.{_⊎_}
@@ -15,11 +19,11 @@ use Rattle.liberation.specs.scrub.Explained.{Explains}
 use Rattle.rebuild_cells.specs.theory.Mending.{missingCells, Determined}
 use Rattle.plan_texts.specs.form.Form.{PlanText}
 use Rattle.plan_texts.specs.form.Reading.{stepsRead}
-use Rattle.printed_plan.specs.input.Input.{inputOf, firstValue, secondValue}
-use Rattle.array_states.specs.bits.Lost.{isLost}
+use Rattle.printed_plan.specs.Input.{inputOf, firstValue, secondValue}
+use Rattle.array_states.specs.Lost.{hasBit}
 use Rattle.rebuild_runs.specs.declared.Run.{Run}
 use Rattle.array_states.specs.declared.ArrayState.{ArrayState}
-use Rattle.array_states.specs.totals.Scanning.{noArray}
+use Rattle.array_states.specs.Scanning.{noArray}
 use Rattle.guarantees.specs.limits.Limits.{Limits, none, limit, by, _then_}
 
 -- "The width p is one of ten primes"
@@ -87,7 +91,8 @@ writePlan p k f bs o = (room p k f o then long (3 * p) bs) then steps 0 p k f []
 abbrev pub plainText : ℕ → ℕ → ℕ → List ℕ → List ℕ → Limits
 plainText p k f t o = (room p k f o then text p t) then steps 0 p k f [] (stepsRead p t)
 
--- `plan_text`, "but the plan program tests 12 first": t is the input, which has the form if it is that of its two numbers, both below 100
+-- `plan_text`, "but the plan program tests 12 first": t is the input, which has the form if it is
+-- that of its two numbers, both below 100
 abbrev pub program : List ℕ → Limits
 program t = by 12 ((firstValue t < 100) × (secondValue t < 100) × (t ≡ inputOf (firstValue t) (secondValue t))) then (by 1 (OneOfTen (firstValue t)) then disk (firstValue t) (secondValue t))
 
@@ -194,7 +199,7 @@ packageSpace p k s ls = shape p k s then (by 14 (length ls ≤ 4096) then by 11 
 -- ---- states of arrays
 -- "A record whose p or k is out of limits, or that holds a lost disk over k + 1"
 abbrev pub state : ArrayState → Limits
-state c = array (c .width) (c .disks) then by 3 ((d : ℕ) → isLost (c .lost) d ≡ true → d ≤ c .disks + 1)
+state c = array (c .width) (c .disks) then by 3 ((d : ℕ) → hasBit (c .lost) d ≡ true → d ≤ c .disks + 1)
 
 -- "the earliest such record deciding"
 abbrev pub states : List ArrayState → Limits
@@ -203,7 +208,7 @@ states (c ∷ cs) = state c then states cs
 
 -- "21: a loss of a lost disk or a return of a present one"
 abbrev pub report : ArrayState → ℕ → Bool → Limits
-report c d back = disk (c .disks) d then by 21 (isLost (c .lost) d ≡ back)
+report c d back = disk (c .disks) d then by 21 (hasBit (c .lost) d ≡ back)
 
 -- `report_state`
 abbrev pub reportState : ArrayState → ℕ → Bool → Limits

@@ -1,31 +1,34 @@
--- Demand 1 of every call: "Refused, by a number from document 01: a width, cell size, disk, disk pair, slice length, plan, run step, package size or program input outside its limits, with all lent memory as before the call. Every other input is accepted."
--- The limits of each call stand in `Calls`. A prime is what a call leaves in what was lent; of a call that writes none, every other field of its answer is zero or false.
+-- Demand 1 of every call: "Refused, by a number from document 01: a width, cell size, disk, disk
+-- pair, slice length, plan, run step, package size or program input outside its limits, with all
+-- lent memory as before the call. Every other input is accepted."
+-- The limits of each call stand in `Calls`. A prime is what a call leaves in what was lent; of a
+-- call that writes none, every other field of its answer is zero or false.
 use mathlib.Core.Path.{_≡_}
 use mathlib.Core.Bool.{Bool, false}
 use mathlib.Core.List.{List, []}
 use Prim.Native.Nat.{ℕ}
 use Rattle.refusals.specs.declared.Answer.{Answer}
-use Rattle.planner.specs.records.Records.{Holds}
+use Rattle.planner.specs.StepRecords.{Holds}
 use Rattle.planner.specs.declared.steps.Planned.{Planned}
-use Rattle.planner.specs.steps.Says.{PlannedSays}
+use Rattle.planner.specs.PlanStepsSays.{PlannedSays}
 use Rattle.planner.specs.declared.Plan.{Plan}
-use Rattle.planner.specs.Says.{PlanSays}
-use Rattle.planner.specs.reads.Says.{ListSays}
+use Rattle.planner.specs.PlanSays.{PlanSays}
+use Rattle.planner.specs.ReadListSays.{ListSays}
 use Rattle.judge.specs.declared.all_steps.Judged.{Judged}
-use Rattle.judge.specs.Says.{JudgeSays}
-use Rattle.plan_texts.specs.judged.Says.{JudgeTextSays}
+use Rattle.judge.specs.JudgeSays.{JudgeSays}
+use Rattle.plan_texts.specs.JudgeTextSays.{JudgeTextSays}
 use Rattle.plan_texts.specs.declared.plain.Written.{Written}
-use Rattle.plan_texts.specs.plain.Says.{WriteSays, PlainSays}
-use Rattle.printed_plan.specs.input.Input.{firstValue, secondValue}
+use Rattle.plan_texts.specs.PlainTextSays.{WriteSays, PlainSays}
+use Rattle.printed_plan.specs.Input.{firstValue, secondValue}
 use Rattle.printed_plan.specs.declared.Text.{Text}
 use Rattle.printed_plan.specs.Text.{planText, refusedLine}
 use Rattle.printed_plan.specs.Says.{TextIs, TextSays}
 use Rattle.encode.specs.Says.{EncodeSays}
 use Rattle.scrub.specs.declared.clean.Checked.{Checked}
-use Rattle.scrub.specs.clean.Says.{CheckSays}
+use Rattle.scrub.specs.CheckSays.{CheckSays}
 use Rattle.scrub.specs.declared.Scrubbed.{Scrubbed}
-use Rattle.scrub.specs.Says.{ScrubSays}
-use Rattle.rebuild_one.specs.Says.{OneSays}
+use Rattle.scrub.specs.ScrubSays.{ScrubSays}
+use Rattle.rebuild_one.specs.RebuildOneSays.{OneSays}
 use Rattle.rebuild_tested.specs.Says.{TestedSays}
 use Rattle.rebuild_two.specs.Says.{TwoSays}
 use Rattle.update.specs.Says.{UpdateSays}
@@ -34,10 +37,10 @@ use Rattle.parity_server.specs.Says.{WriteServerSays, RebuildServerSays}
 use Rattle.rebuild_runs.specs.declared.Run.{Run}
 use Rattle.rebuild_runs.specs.declared.RunAnswer.{RunAnswer}
 use Rattle.rebuild_runs.specs.Runs.{SkipSays}
-use Rattle.rebuild_runs.specs.starts.Starts.{noRun, OpenSays}
-use Rattle.rebuild_runs.specs.steps.Says.{StepSays}
+use Rattle.rebuild_runs.specs.Starts.{noRun, OpenSays}
+use Rattle.rebuild_runs.specs.StepSays.{StepSays}
 use Rattle.rebuild_runs.specs.declared.progress.Progress.{Progress}
-use Rattle.rebuild_runs.specs.progress.Says.{ProgressSays}
+use Rattle.rebuild_runs.specs.ProgressSays.{ProgressSays}
 use Rattle.billing.specs.declared.Bill.{Bill}
 use Rattle.billing.specs.Bills.{BillSays, RunBillSays}
 use Rattle.space.specs.declared.Space.{Space}
@@ -45,9 +48,9 @@ use Rattle.space.specs.Says.{SpaceSays}
 use Rattle.array_states.specs.declared.ArrayState.{ArrayState}
 use Rattle.array_states.specs.declared.StateAnswer.{StateAnswer}
 use Rattle.array_states.specs.States.{StateSays}
-use Rattle.array_states.specs.totals.Scanning.{noTotals}
+use Rattle.array_states.specs.Scanning.{noTotals}
 use Rattle.array_states.specs.declared.board.Board.{Board}
-use Rattle.array_states.specs.board.Reports.{ReportSays}
+use Rattle.array_states.specs.Reports.{ReportSays}
 use Rattle.guarantees.specs.limits.Limits.{Refuses}
 use Rattle.guarantees.specs.limits.Calls.{plan, readList, judgePlan, judgeText, writePlan, plainText, program, onStripe, rebuildOne, rebuildTested, rebuildTwo, updateCell, rebuildCells, writeServer, rebuildServer, openRun, readRun, skipStripe, stepRun, billBytes, billRun, packageSpace, reportState, reportDisk}
 
@@ -87,7 +90,8 @@ pub record Demand1 : Type 0 where
   pub step-run : (x x′ : Run) (i : ℕ) (t o o′ : List ℕ) (r : Answer) → StepSays x x′ i t o o′ r → Refuses (stepRun x i t o) ((x′ ≡ x) × (o′ ≡ o)) r
   pub skip-stripe : (x x′ : Run) (i : ℕ) (r : Answer) → SkipSays x x′ i r → Refuses (skipStripe x i) (x′ ≡ x) r
   pub run-progress : (x : Run) (r : Progress) → ProgressSays x r → Refuses (readRun x) ((r .over ≡ false) × (r .cells ≡ 0)) (r .answer)
-  -- bills and space; that a run's bytes are never too many rests on what reading its record promises
+  -- bills and space; that a run's bytes are never too many rests on what reading its record
+  -- promises
   pub bill-bytes : (n a b c : ℕ) (x : Bill) → BillSays n a b c x → Refuses (billBytes n a b c) (NoBill x) (x .answer)
   pub bill-run : (x : Run) (a b c : ℕ) (y : Bill) (g : Progress) → RunBillSays x a b c y → ProgressSays x g → Refuses (billRun x a b c) (NoBill y) (y .answer)
   pub package-space : (p k s : ℕ) (ls : List ℕ) (free : ℕ) (r : Space) → SpaceSays p k s ls free r → Refuses (packageSpace p k s ls) ((r .stripes ≡ 0) × (r .bytes ≡ 0) × (r .fits ≡ false)) (r .answer)

@@ -1,4 +1,5 @@
--- The limits of a call, in the order in which they are tested, each with the refusal outside it (document 01, "Reasons to turn a call away"): "A refusal returns its number and a place".
+-- The limits of a call, in the order in which they are tested, each with the refusal outside it
+-- (document 01, "Reasons to turn a call away"): "A refusal returns its number and a place".
 use mathlib.Core.Path.{_≡_}
 use mathlib.Core.Logic.{_⊎_}
 use Prim.Native.Nat.{ℕ, _<_}
@@ -30,7 +31,8 @@ pub record RefusedBy (n place number at : ℕ) : Type 0 where
   pub place-is : at ≡ place
   pub some : 0 < number
 
--- Either a limit holds and the ones after it decide, or it does not and its own refusal is the answer; 0 where all hold.
+-- Either a limit holds and the ones after it decide, or it does not and its own refusal is the
+-- answer; 0 where all hold.
 abbrev pub Cases : Limits → ℕ → ℕ → Type 0
 Cases none number at = (number ≡ 0) × (at ≡ 0)
 Cases (limit n place L ls) number at = (L × Cases ls number at) ⊎ ((L → ⊥) × RefusedBy n place number at)
@@ -39,7 +41,8 @@ Cases (limit n place L ls) number at = (L × Cases ls number at) ⊎ ((L → ⊥
 pub record Decides (ls : Limits) (number at : ℕ) : Type 0 where
   pub cases : Cases ls number at
 
--- Demand 1 of a call with these limits that answers a: S is what holds of lent memory, records and results of a refused call.
+-- Demand 1 of a call with these limits that answers a: S is what holds of lent memory, records and
+-- results of a refused call.
 pub record Refuses (ls : Limits) (S : Type 0) (a : Answer) : Type 0 where
   -- refused "by a number from document 01", the first that applies
   pub decides : Decides ls (a .refusal) (a .place)

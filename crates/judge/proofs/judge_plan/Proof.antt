@@ -1,4 +1,5 @@
--- `judge_plan`: refusals 1, 13, 3 and 5, then the steps, over marks for as many cells as the stripe has.
+-- `judge_plan`: refusals 1, 13, 3 and 5, then the steps, over marks for as many cells as the stripe
+-- has.
 use mathlib.Core.Path.{_≡_, sym, ap, _∙_}
 use mathlib.Core.List.{[]}
 use Prim.Native.Nat.{_+_, _*_, _≤_}
@@ -8,22 +9,22 @@ use lib.Seq.{length-take-le}
 use borrow.Author.Needs.{needs}
 use Rattle.mathematics.proofs.ChoiceLaws.{first-none}
 use Rattle.liberation.specs.Limits.{InArray}
-use Rattle.liberation.specs.Sets.{planFault, longFault}
-use Rattle.liberation.proofs.FaultLaws.{plan-of, long-of}
+use Rattle.liberation.specs.Sets.{planRefusal, longRefusal}
+use Rattle.liberation.proofs.RefusalLaws.{plan-of, long-of}
 use Rattle.liberation.proofs.MarkLists.{length-marks, take-marks, cells-most}
-use Rattle.judge.specs.Says.{formFault}
+use Rattle.judge.specs.JudgeSays.{formRefusal}
 use Rattle.judge.proofs.FormRefusals.{form-refused, steps-decide}
 use Rattle.judge.proofs.judge_plan.Statement.{statement}
 use Rattle.judge.proofs.judge_plan.Tie as tie
 
 -- past the refusals that come before any step
-none : (c : tie.Else1) → let a = c .before .before .before .args in formFault (a .width) (a .disks) (a .lost) (a .plan .now) ≡ 0
-none c = sym (c .before .form-fault .ensures) ∙ c .if1 .left
+none : (c : tie.Else1) → let a = c .before .before .before .args in formRefusal (a .width) (a .disks) (a .lost) (a .plan .now) ≡ 0
+none c = sym (c .before .form-refusal .ensures) ∙ c .if1 .left
 
 within : (c : tie.Else1) → let a = c .before .before .before .args in (InArray (a .width) (a .disks) × (a .lost ≤ a .disks + 1)) × (length (a .plan .now) ≡ 3 * a .width)
 within c =
     let a = c .before .before .before .args in
-    let q = first-none (planFault (a .width) (a .disks) (a .lost)) (longFault (3 * a .width) (a .plan .now)) (none c) in
+    let q = first-none (planRefusal (a .width) (a .disks) (a .lost)) (longRefusal (3 * a .width) (a .plan .now)) (none c) in
     (plan-of (a .width) (a .disks) (a .lost) (q .0), long-of (3 * a .width) (a .plan .now) (q .1))
 
 returns : tie.Need-returns
@@ -31,7 +32,7 @@ returns c =
     let t = c .before in
     let q = t .before in
     let a = q .before .before .args in
-    form-refused (a .width) (a .disks) (a .lost) (q .form-fault .result) (a .plan .now) (q .form-fault .ensures) (t .if1 .taken) (c .answered .result) (c .answered .ensures)
+    form-refused (a .width) (a .disks) (a .lost) (q .form-refusal .result) (a .plan .now) (q .form-refusal .ensures) (t .if1 .taken) (c .answered .result) (c .answered .ensures)
 
 -- the stripe has few cells, and they have their marks
 few : (c : tie.Else1) → let a = c .before .before .before .args in a .width * (a .disks + 2) ≤ 1023

@@ -1,6 +1,10 @@
--- The balanced plan is accepted, in every array, and is one of the best: it has (p - 1)/2 diagonals, rebuilds no cell through an extra cell, and no extra cell of a used diagonal is in no other used set.
--- The last is where the squares count. The extra cell of D z is in row p - 1 - z and on D (z - 1). With s, m and w for what the rows of D z, p - 1 - z and
--- D (z - 1) are above a, s + m = e and w + 1 = s mod p; so where s and m are squares, -1 is one, hence e = 1, w = -m, and w is a square.
+-- The balanced plan is accepted, in every array, and is one of the best: it has (p - 1)/2
+-- diagonals, rebuilds no cell through an extra cell, and no extra cell of a used diagonal is in no
+-- other used set.
+-- The last is where the squares count. The extra cell of D z is in row p - 1 - z and on D (z - 1).
+-- With s, m and w for what the rows of D z, p - 1 - z and
+-- D (z - 1) are above a, s + m = e and w + 1 = s mod p; so where s and m are squares, -1 is one,
+-- hence e = 1, w = -m, and w is a square.
 use mathlib.Core.Path.{_≡_, refl, sym, ap, _∙_}
 use mathlib.Core.Bool.{Bool, true, false, _||_, not}
 use mathlib.Core.Logic.{⊎-elim}

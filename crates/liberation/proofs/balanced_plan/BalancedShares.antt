@@ -1,5 +1,7 @@
--- What each disk gives in the balanced plan, k = p: surviving data disk c gives (p + 1)/2 cells and one for each square x with x - (c - f) a square too, P gives (p + 1)/2, Q gives (p - 1)/2.
--- On disk c cell (r, c) is read through its row set, where r - a is no square, or through its ordinary diagonal, where r - a - (c - f) is one; an extra cell is in one of the two.
+-- What each disk gives in the balanced plan, k = p: surviving data disk c gives (p + 1)/2 cells and
+-- one for each square x with x - (c - f) a square too, P gives (p + 1)/2, Q gives (p - 1)/2.
+-- On disk c cell (r, c) is read through its row set, where r - a is no square, or through its
+-- ordinary diagonal, where r - a - (c - f) is one; an extra cell is in one of the two.
 use mathlib.Core.Path.{_≡_, refl, sym, ap, _∙_}
 use mathlib.Core.Bool.{Bool, true, false, _&&_, _||_, not}
 use mathlib.Core.Logic.{_⊎_, inl, inr, ⊎-elim}

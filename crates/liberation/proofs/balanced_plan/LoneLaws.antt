@@ -1,4 +1,5 @@
--- Where no surviving extra cell is in one used diagonal only, a cell of a surviving data disk is read exactly if its row set or its ordinary diagonal is used.
+-- Where no surviving extra cell is in one used diagonal only, a cell of a surviving data disk is
+-- read exactly if its row set or its ordinary diagonal is used.
 use mathlib.Core.Path.{_≡_, refl, sym, ap, ap₂, _∙_}
 use mathlib.Core.Bool.{Bool, true, false, _&&_, _||_, not}
 use mathlib.Core.List.{List}

@@ -1,5 +1,8 @@
--- A plan told by its routes: row-set steps first, rows upward, then diagonal steps, rows upward. Row j has a diagonal where the flag T j holds.
--- Where every surviving extra cell of a used diagonal is in another used set, it reads as many cells as its diagonals say, and on surviving data disk c it reads the cells of the rows r without a diagonal, and of those for which row r - (c - f) has one.
+-- A plan told by its routes: row-set steps first, rows upward, then diagonal steps, rows upward.
+-- Row j has a diagonal where the flag T j holds.
+-- Where every surviving extra cell of a used diagonal is in another used set, it reads as many
+-- cells as its diagonals say, and on surviving data disk c it reads the cells of the rows r without
+-- a diagonal, and of those for which row r - (c - f) has one.
 use mathlib.Core.Path.{_≡_, refl, sym, ap, ap₂, _∙_}
 use mathlib.Core.Bool.{Bool, true, false, _&&_, _||_, not}
 use mathlib.Core.Logic.{inl}

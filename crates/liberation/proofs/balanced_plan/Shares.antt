@@ -1,5 +1,8 @@
--- The cells that a plan reads on one disk, for any plan: none on the lost disk, and all disks together give the read count. On P there is one for each row set used, on Q one for each diagonal.
--- In an accepted plan for a lost data disk the p - 1 other data disks give (3p² + 1)/4 - p = (p - 1)(3p - 1)/4 cells at least, so one of them gives (3p - 1)/4 at least.
+-- The cells that a plan reads on one disk, for any plan: none on the lost disk, and all disks
+-- together give the read count. On P there is one for each row set used, on Q one for each
+-- diagonal.
+-- In an accepted plan for a lost data disk the p - 1 other data disks give (3p² + 1)/4 - p = (p -
+-- 1)(3p - 1)/4 cells at least, so one of them gives (3p - 1)/4 at least.
 use mathlib.Core.Path.{_≡_, refl, sym, ap, ap₂, _∙_}
 use mathlib.Core.Bool.{Bool, true, _&&_, not}
 use mathlib.Core.Logic.{⊎-elim}

@@ -1,6 +1,10 @@
--- How many squares there are modulo an odd prime p, (p - 1)/2, and how many squares x have x - d as a square too, for d that p does not divide: 4 times that is p - 1, less 2 if d is a square, less 2 if -d is one.
--- A square has two roots, 0 has one, other numbers have none. So the pairs (y, z) with y² - z² = d are four for each such x, two if d is a square (z = 0) and two if -d is one (y = 0).
--- Such a pair is told by y + z = u, which is not 0, as 2 u y = u² + d; and every other u has one. So there are p - 1 of them.
+-- How many squares there are modulo an odd prime p, (p - 1)/2, and how many squares x have x - d as
+-- a square too, for d that p does not divide: 4 times that is p - 1, less 2 if d is a square, less
+-- 2 if -d is one.
+-- A square has two roots, 0 has one, other numbers have none. So the pairs (y, z) with y² - z² = d
+-- are four for each such x, two if d is a square (z = 0) and two if -d is one (y = 0).
+-- Such a pair is told by y + z = u, which is not 0, as 2 u y = u² + d; and every other u has one.
+-- So there are p - 1 of them.
 use mathlib.Core.Path.{_≡_, refl, sym, ap, ap₂, _∙_}
 use mathlib.Core.Bool.{Bool, true, false, _&&_, _||_}
 use mathlib.Core.Logic.{⊎-elim}

@@ -1,5 +1,7 @@
--- Squares modulo a prime p: products of squares, negatives of squares, and which numbers have one square.
--- All is said of roots. Two numbers have one square only if they are equal or their sum is 0 mod p: else their sum can be divided out.
+-- Squares modulo a prime p: products of squares, negatives of squares, and which numbers have one
+-- square.
+-- All is said of roots. Two numbers have one square only if they are equal or their sum is 0 mod p:
+-- else their sum can be divided out.
 use mathlib.Core.Path.{_≡_, refl, sym, ap, _∙_}
 use mathlib.Core.Bool.{true, false, _||_, false≢true}
 use mathlib.Core.Logic.{⊎-elim}

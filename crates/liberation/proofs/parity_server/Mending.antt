@@ -1,4 +1,5 @@
--- Mending one stripe of up to two losses: it stays a stripe, cells off the losses stand, what the lost disks held does not matter, and a clean stripe comes back whole.
+-- Mending one stripe of up to two losses: it stays a stripe, cells off the losses stand, what the
+-- lost disks held does not matter, and a clean stripe comes back whole.
 -- A byte of 255 is no disk's, so it names no loss.
 use mathlib.Core.Path.{_≡_, refl, sym, _∙_}
 use mathlib.Core.Bool.{Bool, true, false}
@@ -23,7 +24,7 @@ use Rattle.liberation.proofs.two_disks.Restoring.{Alike}
 use Rattle.liberation.proofs.two_disks.PairLaws.{pair-stripe, pair-off, pair-back, pair-alike}
 use Rattle.liberation.specs.parity_server.Servers.{lost, mended}
 use Rattle.liberation.proofs.PartPlans.{plan-accepted}
-use Rattle.liberation.proofs.parity_server.RefusalLaws.{Losses}
+use Rattle.liberation.proofs.parity_server.ServerRefusalLaws.{Losses}
 
 -- what mending the losses a and b does
 pub record Mends (p k s a b : ℕ) (f : List ℕ → List ℕ) : Type 0 where

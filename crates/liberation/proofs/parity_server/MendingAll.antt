@@ -1,4 +1,5 @@
--- Mending the servers one after another: server n's mend changes its own stripe alone, so after n turns each of the first n but j is mended from what it held at first, and the later ones stand.
+-- Mending the servers one after another: server n's mend changes its own stripe alone, so after n
+-- turns each of the first n but j is mended from what it held at first, and the later ones stand.
 use mathlib.Core.Path.{_≡_, refl, sym, ap, _∙_}
 use mathlib.Core.Bool.{Bool, true, false}
 use mathlib.Core.Logic.{⊎-elim}
@@ -11,7 +12,7 @@ use borrow.Author.Tests.{eqb-false, ne-eqb}
 use Rattle.mathematics.specs.Choice.{pick}
 use Rattle.mathematics.proofs.OrderLaws.{lt-or-le}
 use Rattle.liberation.specs.stripes.Stripes.{withCell, stripeLong, isStripe}
-use Rattle.liberation.proofs.stripes.CellLaws.{length-with, cell-with, cell-other}
+use Rattle.liberation.proofs.stripes.StripeCellLaws.{length-with, cell-with, cell-other}
 use Rattle.liberation.proofs.stripes.Solving.{bytes-with, stripe-long, stripe-bytes}
 use Rattle.liberation.specs.parity_server.Servers.{serverAt, isServers, firstLoss, secondLoss, mended, mendedAt, mendedAll}
 use Rattle.liberation.proofs.parity_server.ServerLaws.{servers-of, servers-long, servers-bytes, server-fits, server-stripe}

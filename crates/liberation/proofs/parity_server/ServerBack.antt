@@ -1,5 +1,7 @@
--- Rebuilding a server. After any call that is not refused, every other server is as mended and the lost one is the XOR of these.
--- Where the servers held m + 1 clean stripes, the last the XOR of the rest, they all come back, whatever the lost server and the lost disks held.
+-- Rebuilding a server. After any call that is not refused, every other server is as mended and the
+-- lost one is the XOR of these.
+-- Where the servers held m + 1 clean stripes, the last the XOR of the rest, they all come back,
+-- whatever the lost server and the lost disks held.
 use mathlib.Core.Path.{_≡_, sym, ap, _∙_}
 use mathlib.Core.Bool.{true, not}
 use mathlib.Core.Logic.{⊎-elim}
@@ -14,10 +16,10 @@ use Rattle.mathematics.proofs.Flags.{and-l, and-r}
 use Rattle.mathematics.proofs.OrderLaws.{eq-or-ne}
 use Rattle.liberation.specs.stripes.Stripes.{cellAt, xorOver, stripeLong, isStripe, clean, without}
 use Rattle.liberation.proofs.stripes.OverLaws.{over-ext, in-without}
-use Rattle.liberation.specs.parity_server.Servers.{upTo, serverAt, isServers, firstLoss, secondLoss, mended, mendedAt, mendedAll, serverRebuilt, written, writeFault, rebuildFault}
-use Rattle.liberation.specs.parity_server.Claims.{CleanServers, AlikeOff, Given, GivenLosses}
+use Rattle.liberation.specs.parity_server.Servers.{upTo, serverAt, isServers, firstLoss, secondLoss, mended, mendedAt, mendedAll, serverRebuilt, serverWritten, writeRefusal, rebuildRefusal}
+use Rattle.liberation.specs.parity_server.ServerClaims.{CleanServers, AlikeOff, Given, GivenLosses}
 use Rattle.liberation.proofs.parity_server.UpTo.{up-lt}
-use Rattle.liberation.proofs.parity_server.RefusalLaws.{losses-of, write-of, rebuild-of, rebuild-losses}
+use Rattle.liberation.proofs.parity_server.ServerRefusalLaws.{losses-of, write-of, rebuild-of, rebuild-losses}
 use Rattle.liberation.proofs.parity_server.Mending.{Mends, mends}
 use Rattle.liberation.proofs.parity_server.ServerLaws.{servers-of, servers-equal, server-stripe, step-servers, step-server, step-other, step-same, extra-zero}
 use Rattle.liberation.proofs.parity_server.MendingAll.{all-servers, all-mended}
@@ -36,7 +38,7 @@ servers-by p k s m j ts us ht hu own others =
     (λ i l. ⊎-elim (λ q. ap (serverAt p k s ts) q ∙ own ∙ sym (ap (serverAt p k s us) q)) (others i l) (eq-or-ne i j))
 
 -- a call that is not refused, on a slice of bytes
-module _ (p k s m j : ℕ) (ls ts : List ℕ) (bytes : allBytes ts ≡ true) (accepted : rebuildFault p k s m j ls ts ≡ 0) where
+module _ (p k s m j : ℕ) (ls ts : List ℕ) (bytes : allBytes ts ≡ true) (accepted : rebuildRefusal p k s m j ls ts ≡ 0) where
   given : Given p k s m ts
   given = rebuild-of p k s m ts j ls accepted
 
@@ -96,7 +98,7 @@ module _ (p k s m j : ℕ) (ls ts : List ℕ) (bytes : allBytes ts ≡ true) (ac
         servers-by p k s m j (serverRebuilt p k s m j ls ts) us rebuilt-servers (cleans .servers) lost-back (λ i l a. rebuilt-other i l a ∙ mended-back i l a)
 
 -- what server j and the lost disks held does not matter, on dirty stripes too
-module _ (p k s m j : ℕ) (ls ts vs : List ℕ) (bt : allBytes ts ≡ true) (bv : allBytes vs ≡ true) (ht : rebuildFault p k s m j ls ts ≡ 0) (hv : rebuildFault p k s m j ls vs ≡ 0) (same : AlikeOff p k s m j ls ts vs) where
+module _ (p k s m j : ℕ) (ls ts vs : List ℕ) (bt : allBytes ts ≡ true) (bv : allBytes vs ≡ true) (ht : rebuildRefusal p k s m j ls ts ≡ 0) (hv : rebuildRefusal p k s m j ls vs ≡ 0) (same : AlikeOff p k s m j ls ts vs) where
   mended-alike : (i : ℕ) → i < suc m → (i ≡ j → ⊥) → mendedAt p k s ls ts i ≡ mendedAt p k s ls vs i
   mended-alike i l a =
       mends-at p k s m j ls ts bt ht i l a .alike (serverAt p k s ts i) (serverAt p k s vs i)
@@ -116,8 +118,8 @@ module _ (p k s m j : ℕ) (ls ts vs : List ℕ) (bt : allBytes ts ≡ true) (bv
 -- both calls together: what was written over clean stripes comes back after the losses
 pub written-back :
     (p k s m j : ℕ) (ls ts vs : List ℕ) → allBytes ts ≡ true → allBytes vs ≡ true
-    → writeFault p k s m ts ≡ 0 → ((i : ℕ) → i < m → clean p k s (serverAt p k s ts i) ≡ true)
-    → rebuildFault p k s m j ls vs ≡ 0 → AlikeOff p k s m j ls vs (written p k s m ts)
-    → serverRebuilt p k s m j ls vs ≡ written p k s m ts
+    → writeRefusal p k s m ts ≡ 0 → ((i : ℕ) → i < m → clean p k s (serverAt p k s ts i) ≡ true)
+    → rebuildRefusal p k s m j ls vs ≡ 0 → AlikeOff p k s m j ls vs (serverWritten p k s m ts)
+    → serverRebuilt p k s m j ls vs ≡ serverWritten p k s m ts
 written-back p k s m j ls ts vs bt bv write cleans rebuild alike =
-    servers-back p k s m j ls vs bv rebuild (written p k s m ts) (written-cleans p k s m ts (servers-of p k s m ts (write-of p k s m ts write .long) bt) cleans) alike
+    servers-back p k s m j ls vs bv rebuild (serverWritten p k s m ts) (written-cleans p k s m ts (servers-of p k s m ts (write-of p k s m ts write .long) bt) cleans) alike

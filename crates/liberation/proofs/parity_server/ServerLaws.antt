@@ -1,4 +1,5 @@
--- The m + 1 stripes as cells of one slice: each is a stripe, and the step of all of them for server j writes the XOR of the others there and leaves the others.
+-- The m + 1 stripes as cells of one slice: each is a stripe, and the step of all of them for server
+-- j writes the XOR of the others there and leaves the others.
 use mathlib.Core.Path.{_≡_, sym, ap, _∙_}
 use mathlib.Core.Bool.{true}
 use mathlib.Core.List.{List}
@@ -12,7 +13,7 @@ use Rattle.mathematics.specs.Xor.{xorL, allBytes}
 use Rattle.mathematics.proofs.Flags.{and-l, and-r, and-i}
 use Rattle.mathematics.proofs.XorLaws.{xorL-self}
 use Rattle.liberation.specs.stripes.Stripes.{xorOver, stripeLong, isStripe, without}
-use Rattle.liberation.proofs.stripes.CellLaws.{cell-fits, cell-long, cells-equal}
+use Rattle.liberation.proofs.stripes.StripeCellLaws.{cell-fits, cell-long, cells-equal}
 use Rattle.liberation.proofs.stripes.OverLaws.{over-without}
 use Rattle.liberation.proofs.stripes.Solving.{cell-bytes, stripe-of, solved-long, solved-bytes, solved-cell, solved-other, solved-zero, solved-same}
 use Rattle.liberation.specs.parity_server.Servers.{upTo, serverAt, serversLong, isServers, serverSolved}

@@ -9,18 +9,18 @@ use lib.ListN.{length}
 use borrow.Author.Tests.{eqb-false}
 use Rattle.mathematics.specs.Choice.{pick, when, firstOf}
 use Rattle.liberation.specs.stripes.Stripes.{withCell, stripeLong}
-use Rattle.liberation.specs.parity_server.Servers.{serverAt, firstLoss, secondLoss, serverSolved, mended, mendedAt, mendedAll, serverRebuilt, serverFault, pairFault, lossesFault, callFault, rebuildFault}
+use Rattle.liberation.specs.parity_server.Servers.{serverAt, firstLoss, secondLoss, serverSolved, mended, mendedAt, mendedAll, serverRebuilt, serverRefusal, pairRefusal, lossesRefusal, callRefusal, rebuildRefusal}
 
 -- two lists of losses alike but for server j's
 module _ (p k s m j : ℕ) (ls ms : List ℕ) (same : (i : ℕ) → i < suc m → (i ≡ j → ⊥) → (firstLoss ls i ≡ firstLoss ms i) × (secondLoss ls i ≡ secondLoss ms i)) where
-  losses-unread : (n : ℕ) → n ≤ suc m → lossesFault n k j ls ≡ lossesFault n k j ms
-  unfolding lossesFault
+  losses-unread : (n : ℕ) → n ≤ suc m → lossesRefusal n k j ls ≡ lossesRefusal n k j ms
+  unfolding lossesRefusal
   losses-unread zero h = refl
   losses-unread (suc n) h = ap₂ firstOf (losses-unread n (omega arith)) (go (eqb n j) refl)
     where
-      go : (b : Bool) → eqb n j ≡ b → pick b 0 (pairFault k (firstLoss ls n) (secondLoss ls n)) ≡ pick b 0 (pairFault k (firstLoss ms n) (secondLoss ms n))
+      go : (b : Bool) → eqb n j ≡ b → pick b 0 (pairRefusal k (firstLoss ls n) (secondLoss ls n)) ≡ pick b 0 (pairRefusal k (firstLoss ms n) (secondLoss ms n))
       go true e = refl
-      go false e = let w = same n (omega arith) (eqb-false n j e) in ap₂ (pairFault k) (w .0) (w .1)
+      go false e = let w = same n (omega arith) (eqb-false n j e) in ap₂ (pairRefusal k) (w .0) (w .1)
 
   mended-unread : (n : ℕ) (ts : List ℕ) → n ≤ suc m → mendedAll n p k s j ls ts ≡ mendedAll n p k s j ms ts
   unfolding mendedAll
@@ -31,9 +31,9 @@ module _ (p k s m j : ℕ) (ls ms : List ℕ) (same : (i : ℕ) → i < suc m �
       go us true e = refl
       go us false e = let w = same n (omega arith) (eqb-false n j e) in ap₂ (λ (a b : ℕ). withCell (stripeLong p k s) n (mended p k s a b (serverAt p k s us n)) us) (w .0) (w .1)
 
-  pub fault-unread : (ts : List ℕ) → length ls ≡ length ms → rebuildFault p k s m j ls ts ≡ rebuildFault p k s m j ms ts
-  unfolding rebuildFault
-  fault-unread ts e = ap (firstOf (callFault (serverFault m j) p k s m ts)) (ap₂ firstOf (ap (λ (n : ℕ). when (not (eqb n (2 * suc m))) 5) e) (losses-unread (suc m) (omega arith)))
+  pub refusal-unread : (ts : List ℕ) → length ls ≡ length ms → rebuildRefusal p k s m j ls ts ≡ rebuildRefusal p k s m j ms ts
+  unfolding rebuildRefusal
+  refusal-unread ts e = ap (firstOf (callRefusal (serverRefusal m j) p k s m ts)) (ap₂ firstOf (ap (λ (n : ℕ). when (not (eqb n (2 * suc m))) 5) e) (losses-unread (suc m) (omega arith)))
 
   pub rebuilt-unread : (ts : List ℕ) → serverRebuilt p k s m j ls ts ≡ serverRebuilt p k s m j ms ts
   unfolding serverRebuilt

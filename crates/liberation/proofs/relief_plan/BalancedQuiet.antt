@@ -1,5 +1,8 @@
--- The busiest survivor of a part-filled array. On surviving data disk c an accepted plan leaves unread at most the cells of the rows r whose row set is used and for which the diagonal of row r - (c - f) is used: X (f - c) of them, in the words of CutLaws.
--- Over the (p - 1)/2 disks next after f, or next before it, these are t(p - t)/2 together at most, so (p² - 1)/8; hence some disk of these gives (3p - 1)/4 cells at least.
+-- The busiest survivor of a part-filled array. On surviving data disk c an accepted plan leaves
+-- unread at most the cells of the rows r whose row set is used and for which the diagonal of row r
+-- - (c - f) is used: X (f - c) of them, in the words of CutLaws.
+-- Over the (p - 1)/2 disks next after f, or next before it, these are t(p - t)/2 together at most,
+-- so (p² - 1)/8; hence some disk of these gives (3p - 1)/4 cells at least.
 use mathlib.Core.Path.{_≡_, sym, ap, ap₂, _∙_}
 use mathlib.Core.Bool.{Bool, true, false, _&&_, _||_}
 use mathlib.Core.Logic.{_⊎_, inl, inr, ⊎-elim}
@@ -127,7 +130,8 @@ module _ (p f : ℕ) (odd : p % 2 ≡ 1) (large : 3 ≤ p) (lost : f < p) (ss : 
       seen : (r : ℕ) → r < p → J ((r + s) % p) ≡ uses 1 ((r + p - c) % p) ss
       seen r m = ap J (sym (far r m)) ∙ rows.J-diagonal p f odd lost ss t ((r + p - c) % p) (mod-lt (r + p - c) (omega arith))
 
-  -- what the plan leaves unread on h disks, if it is no more than this, is too little for all of them to be quiet
+  -- what the plan leaves unread on h disks, if it is no more than this, is too little for all of
+  -- them to be quiet
   busy : (g s : ℕ → ℕ) → sumTo h (λ i. met (s i)) + sumTo h (λ i. alike (suc i)) ≤ h * used → ((i : ℕ) → i < h → p ≤ readsOf p p f (g i) ss + met (s i)) → (i : ℕ) × (i < h) × (fairShare p ≤ readsOf p p f (g i) ss)
   unfolding alike used J
   busy g s few each =

@@ -1,6 +1,10 @@
--- Flags round a circle of p = 2h + 1 places: J holds at t of them. A s counts the places where J holds both there and s further on, X s those where R holds there and J holds s further on.
--- Over all s the A s are t² together, A 0 is t and A (p - s) is A s, so A 1 to A h are t(t - 1)/2 together.
--- If R holds just where J does not, X s is t - A s. If they differ from that by R holding at j + 1 too, where J holds, and not at j, where J does not, then X 1 to X h are no more together, nor are X (p - 1) to X (p - h): the changes cancel but for the ends.
+-- Flags round a circle of p = 2h + 1 places: J holds at t of them. A s counts the places where J
+-- holds both there and s further on, X s those where R holds there and J holds s further on.
+-- Over all s the A s are t² together, A 0 is t and A (p - s) is A s, so A 1 to A h are t(t - 1)/2
+-- together.
+-- If R holds just where J does not, X s is t - A s. If they differ from that by R holding at j + 1
+-- too, where J holds, and not at j, where J does not, then X 1 to X h are no more together, nor are
+-- X (p - 1) to X (p - h): the changes cancel but for the ends.
 use mathlib.Core.Path.{_≡_, refl, sym, ap, ap₂, _∙_}
 use mathlib.Core.Bool.{Bool, true, false, _&&_}
 use Prim.Native.Nat.{ℕ, suc, _+_, _-_, _*_, _%_, _≤_, _<_}

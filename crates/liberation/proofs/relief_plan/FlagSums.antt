@@ -1,4 +1,5 @@
--- Sums of flags: all hold where the count says so; and a sum over the diagonals of one disk's cells.
+-- Sums of flags: all hold where the count says so; and a sum over the diagonals of one disk's
+-- cells.
 use mathlib.Core.Path.{_≡_, ap, _∙_}
 use mathlib.Core.Bool.{Bool, true, false}
 use mathlib.Core.Logic.{_⊎_, inl, inr, ⊎-elim}

@@ -1,5 +1,8 @@
--- No plan asks less than (p + 1)/2 cells of a surviving data disk, whatever disk is lost. A row set has one ordinary cell on each data disk, and so has a diagonal; different row sets have different ones there, and so have different diagonals.
--- A plan uses p sets, so either (p + 1)/2 row sets or (p + 1)/2 diagonals. Whether a cell is rebuilt through an extra cell plays no part.
+-- No plan asks less than (p + 1)/2 cells of a surviving data disk, whatever disk is lost. A row set
+-- has one ordinary cell on each data disk, and so has a diagonal; different row sets have different
+-- ones there, and so have different diagonals.
+-- A plan uses p sets, so either (p + 1)/2 row sets or (p + 1)/2 diagonals. Whether a cell is
+-- rebuilt through an extra cell plays no part.
 use mathlib.Core.Path.{_≡_, ap, _∙_}
 use mathlib.Core.Bool.{Bool, true, false, _&&_, _||_}
 use Prim.Native.Nat.{ℕ, _+_, _-_, _%_, _≤_, _<_}

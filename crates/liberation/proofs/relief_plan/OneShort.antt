@@ -1,5 +1,9 @@
--- The fewest reads with p - 1 data disks. A plan reads there what it reads in the full array, less what disk p - 1 gives. In the full array it reads (3p² + 1)/4 cells at least, and where it reads just these, disk p - 1 does not give all its p cells:
--- else with row r also row r - (c - f) would have a diagonal, and so every row, while a best plan has (p - 1)/2 or (p + 1)/2 diagonals. With step f + 1 disk p - 1 is one step back from f, so it gives p - 1 cells.
+-- The fewest reads with p - 1 data disks. A plan reads there what it reads in the full array, less
+-- what disk p - 1 gives. In the full array it reads (3p² + 1)/4 cells at least, and where it reads
+-- just these, disk p - 1 does not give all its p cells:
+-- else with row r also row r - (c - f) would have a diagonal, and so every row, while a best plan
+-- has (p - 1)/2 or (p + 1)/2 diagonals. With step f + 1 disk p - 1 is one step back from f, so it
+-- gives p - 1 cells.
 use mathlib.Core.Path.{_≡_, refl, sym, ap, ap₂, _∙_}
 use mathlib.Core.Bool.{Bool, true, false, _||_}
 use mathlib.Core.Logic.{⊎-elim}

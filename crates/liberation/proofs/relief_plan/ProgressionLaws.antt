@@ -1,5 +1,7 @@
--- Arithmetic progressions mod a prime p. The numbers a, a + g, a + 2g, .. a + (p - 1)g are all numbers mod p, each once; so what is said of a row is said of its place in this walk.
--- Two stretches of h = (p - 1)/2 places, 1 to h and the same e further round, have h less min(e, p - e) in common.
+-- Arithmetic progressions mod a prime p. The numbers a, a + g, a + 2g, .. a + (p - 1)g are all
+-- numbers mod p, each once; so what is said of a row is said of its place in this walk.
+-- Two stretches of h = (p - 1)/2 places, 1 to h and the same e further round, have h less min(e, p
+-- - e) in common.
 use mathlib.Core.Path.{_≡_, sym, ap, ap₂, _∙_}
 use mathlib.Core.Bool.{Bool, true, false, _&&_, _||_}
 use mathlib.Core.Logic.{⊎-elim}

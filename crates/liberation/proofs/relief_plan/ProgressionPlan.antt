@@ -1,5 +1,8 @@
--- The progression plan with any step g: accepted in every array, and what each disk gives and what is read in all.
--- The row of the extra cell of D z, and the row of D z on the lost disk, are together 2a; so they are places x and -x of the walk a, a + g, a + 2g, .., and not both from 1 to h: the one with the extra cell has its row set.
+-- The progression plan with any step g: accepted in every array, and what each disk gives and what
+-- is read in all.
+-- The row of the extra cell of D z, and the row of D z on the lost disk, are together 2a; so they
+-- are places x and -x of the walk a, a + g, a + 2g, .., and not both from 1 to h: the one with the
+-- extra cell has its row set.
 use mathlib.Core.Path.{_≡_, refl, sym, ap, ap₂, _∙_}
 use mathlib.Core.Bool.{Bool, true, false, _&&_, _||_, not}
 use mathlib.Core.Logic.{⊎-elim}
@@ -72,7 +75,8 @@ start p f odd h =
     g : ℕ
     g = (f + p - 1) % p
 
--- row r is place x of the walk, e further than place y, and disk c is e steps from f: then the row of its diagonal on disk f is place y
+-- row r is place x of the walk, e further than place y, and disk c is e steps from f: then the row
+-- of its diagonal on disk f is place y
 seen : (p a g c f e x y r z : ℕ) → 0 < p → (c + z) % p ≡ r % p → (f + g * e) % p ≡ c % p → (e + y) % p ≡ x % p → r % p ≡ (a + g * x) % p → (z + f) % p ≡ (a + g * y) % p
 seen p a g c f e x y r z h ez ec ey er =
     add-cancel p c (z + f) (a + g * y) h

@@ -1,4 +1,6 @@
--- The plan that relieves data disk c: with step g = 2(c - f), c is (p + 1)/2 steps from f, as g (p + 1)/2 = (c - f)(p + 1) = c - f mod p. So it gives p - (p - 1)/2 cells, and no plan asks less of it.
+-- The plan that relieves data disk c: with step g = 2(c - f), c is (p + 1)/2 steps from f, as g (p
+-- + 1)/2 = (c - f)(p + 1) = c - f mod p. So it gives p - (p - 1)/2 cells, and no plan asks less of
+-- it.
 use mathlib.Core.Path.{_≡_, refl, sym, ap, _∙_}
 use mathlib.Core.Bool.{Bool}
 use mathlib.Core.Logic.{⊎-elim}

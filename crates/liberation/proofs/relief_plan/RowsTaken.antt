@@ -1,5 +1,8 @@
--- Which rows of the lost data disk the sets used by an accepted plan hold as ordinary cells. R r: the row set of row r is used; J r: the diagonal is used on which row r is ordinary.
--- If no cell is rebuilt through an extra cell, each row has just one of the two. Else the diagonal z that rebuilds its extra cell has its cells on the lost disk in rows j = p - 1 - z and j + 1: row j has neither set, row j + 1 has both, and every other row has one.
+-- Which rows of the lost data disk the sets used by an accepted plan hold as ordinary cells. R r:
+-- the row set of row r is used; J r: the diagonal is used on which row r is ordinary.
+-- If no cell is rebuilt through an extra cell, each row has just one of the two. Else the diagonal
+-- z that rebuilds its extra cell has its cells on the lost disk in rows j = p - 1 - z and j + 1:
+-- row j has neither set, row j + 1 has both, and every other row has one.
 use mathlib.Core.Path.{_≡_, refl, sym, ap, ap₂, _∙_}
 use mathlib.Core.Bool.{Bool, true, false, _&&_, _||_, not}
 use mathlib.Core.Logic.{_⊎_, inl, inr, ⊎-elim}

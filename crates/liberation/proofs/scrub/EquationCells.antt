@@ -1,4 +1,5 @@
--- The cells of an equation of the survivors: they are cells of the stripe, and on the disk itself each row occurs twice or not at all.
+-- The cells of an equation of the survivors: they are cells of the stripe, and on the disk itself
+-- each row occurs twice or not at all.
 use mathlib.Core.Path.{_≡_, refl, ap, ap₂, _∙_}
 use mathlib.Core.Bool.{Bool, true}
 use mathlib.Core.Logic.{_⊎_, inl, inr, ⊎-elim}

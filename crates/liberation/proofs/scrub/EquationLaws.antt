@@ -1,5 +1,7 @@
--- A disk fits exactly if its p equations hold of the survivors. The cells on the disk cancel, so the XOR of an equation is that of its survivors, in t and in every stripe that is t off the disk.
--- A clean one has zero there, as a sum of sets. Conversely fill the disk by the row sets (Q by the diagonal sets): these are zero then, and as the equations hold, the other sets are zero too.
+-- A disk fits exactly if its p equations hold of the survivors. The cells on the disk cancel, so
+-- the XOR of an equation is that of its survivors, in t and in every stripe that is t off the disk.
+-- A clean one has zero there, as a sum of sets. Conversely fill the disk by the row sets (Q by the
+-- diagonal sets): these are zero then, and as the equations hold, the other sets are zero too.
 use mathlib.Core.Path.{_≡_, refl, sym, ap, ap₂, _∙_}
 use mathlib.Core.Bool.{true, not}
 use mathlib.Core.Logic.{⊎-elim}
@@ -23,7 +25,7 @@ use Rattle.liberation.proofs.AcceptedLaws.{Passes, accepted-passes}
 use Rattle.liberation.proofs.RowLaws.{uses-all}
 use Rattle.liberation.proofs.ParityPlans.{rows-accepted, diagonals-accepted}
 use Rattle.liberation.specs.stripes.Stripes.{cellAt, xorOver, isStripe, clean, followed, columnOf, rebuilt}
-use Rattle.liberation.proofs.stripes.CellLaws.{cell-fits, cell-long}
+use Rattle.liberation.proofs.stripes.StripeCellLaws.{cell-fits, cell-long}
 use Rattle.liberation.proofs.stripes.OverLaws.{Long, over-long, over-bytes, over-ext, over-append, over-split}
 use Rattle.liberation.proofs.stripes.Solving.{cells-long, stripe-long, SetZero, clean-at, clean-of}
 use Rattle.liberation.proofs.stripes.Following.{followed-stripe, followed-off, followed-zero}
@@ -159,7 +161,8 @@ fits-equations p k s d width most disk t stripe =
     (λ h. explains-equations p k s d disk t stripe (withRebuilt p k s d t) (fits-explains p k s d width most disk t stripe h))
     (λ h. let w = equations-explain p k s d disk t stripe h in explains-fits p k s d width most disk t stripe (w .0) (w .1))
 
--- a data disk or P that fits is what all row sets give: what they leave is a clean stripe, and only one is t off the disk
+-- a data disk or P that fits is what all row sets give: what they leave is a clean stripe, and only
+-- one is t off the disk
 pub fits-rows : (p k s d : ℕ) → isWidth p ≡ true → k ≤ p → d ≤ k → (t : List ℕ) → isStripe p k s t ≡ true → fits p k s d t ≡ true → columnOf p s d (followed p k s d (allOf p 0 0) t) ≡ rebuilt p k s d t
 fits-rows p k s d width most low t stripe h =
     let disk : d < k + 2 = omega arith in

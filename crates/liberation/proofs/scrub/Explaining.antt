@@ -1,5 +1,7 @@
--- A disk fits exactly if some clean stripe is t off that disk, and that stripe is then t with the disk rebuilt. A dirty stripe has at most one such disk:
--- two stripes that explain it by different disks are clean and alike off both, so they are the same, and t is that stripe.
+-- A disk fits exactly if some clean stripe is t off that disk, and that stripe is then t with the
+-- disk rebuilt. A dirty stripe has at most one such disk:
+-- two stripes that explain it by different disks are clean and alike off both, so they are the
+-- same, and t is that stripe.
 use mathlib.Core.Path.{_≡_, sym, ap, _∙_}
 use mathlib.Core.Bool.{true, false}
 use mathlib.Core.Logic.{⊎-elim}
@@ -15,7 +17,7 @@ use Rattle.liberation.specs.Plans.{planOf}
 use Rattle.liberation.specs.Judging.{accepted}
 use Rattle.liberation.proofs.PlaceLaws.{some-row}
 use Rattle.liberation.specs.stripes.Stripes.{cellAt, isStripe, clean, columnOf, withColumn, rebuilt}
-use Rattle.liberation.proofs.stripes.CellLaws.{cell-fits, column-cell, length-column, cell-off, column-with}
+use Rattle.liberation.proofs.stripes.StripeCellLaws.{cell-fits, column-cell, length-column, cell-off, column-with}
 use Rattle.liberation.proofs.stripes.Solving.{stripe-long, stripe-bytes, stripe-of, bytes-with, stripes-equal, stripes-alike}
 use Rattle.liberation.proofs.stripes.Rebuilding.{rebuilt-long, rebuilt-bytes, one-back}
 use Rattle.liberation.proofs.two_disks.PairLaws.{pair-only}

@@ -1,4 +1,5 @@
--- The verdict on a stripe: clean; dirty and explained by the suspect and no other disk; or dirty and explained by no one disk.
+-- The verdict on a stripe: clean; dirty and explained by the suspect and no other disk; or dirty
+-- and explained by no one disk.
 use mathlib.Core.Path.{_≡_, refl, sym, ap₂, _∙_}
 use mathlib.Core.Bool.{Bool, true, false}
 use mathlib.Core.Logic.{⊎-elim}

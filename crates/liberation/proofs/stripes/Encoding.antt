@@ -1,4 +1,5 @@
--- Encoding makes a stripe clean, touches no data cell, and gives the only clean stripe with those data: its steps make every set's XOR zero, first the row sets by P, then the diagonal sets by Q,
+-- Encoding makes a stripe clean, touches no data cell, and gives the only clean stripe with those
+-- data: its steps make every set's XOR zero, first the row sets by P, then the diagonal sets by Q,
 -- and row sets have no cell on Q. In a clean stripe P is told by the data, and Q by the data and P.
 use mathlib.Core.Path.{_≡_, sym, ap, _∙_}
 use mathlib.Core.Bool.{true}

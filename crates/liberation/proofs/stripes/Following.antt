@@ -1,4 +1,6 @@
--- The steps of a plan, done in order on a stripe, are steps over the cells of the lost disk, and where they pass, each finds the other lost cells of its set standing; so Standing says what they do.
+-- The steps of a plan, done in order on a stripe, are steps over the cells of the lost disk, and
+-- where they pass, each finds the other lost cells of its set standing; so Standing says what they
+-- do.
 use mathlib.Core.Path.{_≡_, refl, sym, ap, ap₂, _∙_}
 use mathlib.Core.Bool.{Bool, true, _&&_, _||_, not}
 use mathlib.Core.Logic.{⊎-elim}
@@ -99,7 +101,8 @@ followed-same p k s f {ss = ss} ok t h zeros =
 pub followed-clean : (p k s f : ℕ) {done : List ℕ} {ss : List Step} → Passes p k f done ss → (t : List ℕ) → isStripe p k s t ≡ true → clean p k s t ≡ true → followed p k s f ss t ≡ t
 followed-clean p k s f {ss = ss} ok t h c = followed-steps p k s f ss t ∙ steps-clean p k s (lostOn p f) (passes-standing p k f ok) t h c
 
--- what the steps leave in the rows that they rebuild depends only on the surviving cells of the sets named
+-- what the steps leave in the rows that they rebuild depends only on the surviving cells of the
+-- sets named
 pub followed-agree :
     (p k s f : ℕ) {ss : List Step} → Passes p k f [] ss
     → (t u : List ℕ) → isStripe p k s t ≡ true → isStripe p k s u ≡ true

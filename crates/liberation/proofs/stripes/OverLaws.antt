@@ -1,5 +1,7 @@
--- The XOR over a list of cells: of two lists joined, with one cell taken out, and of a set in its surviving and its lost cells.
--- XOR is associative and commutative, so the order of the cells does not matter; zeros are its unit on cells of s bytes.
+-- The XOR over a list of cells: of two lists joined, with one cell taken out, and of a set in its
+-- surviving and its lost cells.
+-- XOR is associative and commutative, so the order of the cells does not matter; zeros are its unit
+-- on cells of s bytes.
 use mathlib.Core.Path.{_≡_, refl, sym, ap, ap₂, _∙_}
 use mathlib.Core.Bool.{Bool, true, false, _&&_, _||_, not, and-false, false≢true, and-comm}
 use mathlib.Core.List.{List, [], _∷_, _++_}

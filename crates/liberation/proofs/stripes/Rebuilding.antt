@@ -1,5 +1,7 @@
--- Rebuilding one lost disk by an accepted plan: every row is rebuilt, from surviving cells alone. So a clean stripe's column comes back whatever the stripe holds for the lost disk,
--- and the rebuilt column depends only on the cells marked in the read list, none of them on the lost disk, on dirty stripes too.
+-- Rebuilding one lost disk by an accepted plan: every row is rebuilt, from surviving cells alone.
+-- So a clean stripe's column comes back whatever the stripe holds for the lost disk,
+-- and the rebuilt column depends only on the cells marked in the read list, none of them on the
+-- lost disk, on dirty stripes too.
 use mathlib.Core.Path.{_≡_, sym, ap, _∙_}
 use mathlib.Core.Bool.{true}
 use mathlib.Core.List.{List}
@@ -15,7 +17,7 @@ use Rattle.liberation.proofs.ReadListLaws.{list-marked}
 use Rattle.liberation.proofs.AcceptedLaws.{accepted-passes}
 use Rattle.liberation.proofs.RowLaws.{every-row}
 use Rattle.liberation.specs.stripes.Stripes.{cellAt, isStripe, clean, followed, columnOf, rebuiltBy, rebuilt}
-use Rattle.liberation.proofs.stripes.CellLaws.{cell-fits, cell-long, cells-equal, column-cell}
+use Rattle.liberation.proofs.stripes.StripeCellLaws.{cell-fits, cell-long, cells-equal, column-cell}
 use Rattle.liberation.proofs.stripes.Solving.{cell-bytes, stripe-long, stripe-bytes}
 use Rattle.liberation.proofs.stripes.Following.{followed-stripe, followed-clean, followed-agree}
 
@@ -82,7 +84,8 @@ module _ (p k s f : ℕ) (ok : accepted p k f (planOf p k f) ≡ true) (disk : f
   unfolding rebuilt
   one-back t u ht hu cu same = plan-back p k s f (planOf p k f) ok disk t u ht hu cu same
 
-  -- "What the stripe holds for the lost disk is never used": stripes alike off it give one column, dirty stripes too
+  -- "What the stripe holds for the lost disk is never used": stripes alike off it give one column,
+  -- dirty stripes too
   pub lost-unused :
       (t u : List ℕ) → isStripe p k s t ≡ true → isStripe p k s u ≡ true
       → ((x : ℕ) → x < p * (k + 2) → (diskAt p x ≡ f → ⊥) → cellAt s t x ≡ cellAt s u x)
@@ -90,7 +93,8 @@ module _ (p k s f : ℕ) (ok : accepted p k f (planOf p k f) ≡ true) (disk : f
   unfolding rebuilt
   lost-unused t u ht hu same = plan-unused p k s f (planOf p k f) ok disk t u ht hu same
 
-  -- "Two accepted calls .., on stripes that agree in every cell marked 1 in that disk's read list, write the same column, on dirty stripes too."
+  -- "Two accepted calls .., on stripes that agree in every cell marked 1 in that disk's read list,
+  -- write the same column, on dirty stripes too."
   pub only-read :
       (t u : List ℕ) → isStripe p k s t ≡ true → isStripe p k s u ≡ true
       → ((x : ℕ) → getD (readList p k f) x 0 ≡ 1 → cellAt s t x ≡ cellAt s u x)

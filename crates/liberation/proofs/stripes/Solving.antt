@@ -1,5 +1,7 @@
--- A step: the cell that it writes makes its set's XOR zero, and nothing else changes. Where the XOR was zero before, the step changes nothing.
--- The cell and the XOR of the others together are zero exactly if they are equal. Also: a stripe is clean exactly if the XOR over every set is zero.
+-- A step: the cell that it writes makes its set's XOR zero, and nothing else changes. Where the XOR
+-- was zero before, the step changes nothing.
+-- The cell and the XOR of the others together are zero exactly if they are equal. Also: a stripe is
+-- clean exactly if the XOR over every set is zero.
 use mathlib.Core.Path.{_≡_, sym, ap, ap₂, _∙_}
 use mathlib.Core.Bool.{Bool, true, false, not}
 use mathlib.Core.Logic.{⊎-elim}
@@ -24,7 +26,7 @@ use Rattle.liberation.specs.Sets.{place, rowAt, diskAt, rowSet, diagonal
 use Rattle.liberation.proofs.SetLaws.{place-of}
 use Rattle.liberation.proofs.PlaceLaws.{some-row}
 use Rattle.liberation.specs.stripes.Stripes.{cellAt, withCell, xorOver, stripeLong, isStripe, setClean, clean, without, solved}
-use Rattle.liberation.proofs.stripes.CellLaws.{cell-fits, cell-long, with-same, length-with, cell-with, cell-other, cells-equal}
+use Rattle.liberation.proofs.stripes.StripeCellLaws.{cell-fits, cell-long, with-same, length-with, cell-with, cell-other, cells-equal}
 use Rattle.liberation.proofs.stripes.OverLaws.{Long, over-long, over-bytes, over-ext, in-without, over-without}
 
 -- the cells of a list of n cells

@@ -1,5 +1,7 @@
--- Steps, each with all cells of its set known but the one that it writes. They change only lost cells that did not stand before, and leave the XOR of every set that they name zero.
--- Two stripes that agree in the known cells of those sets agree in what is written; and a stripe in which those sets have XOR zero is left as it is.
+-- Steps, each with all cells of its set known but the one that it writes. They change only lost
+-- cells that did not stand before, and leave the XOR of every set that they name zero.
+-- Two stripes that agree in the known cells of those sets agree in what is written; and a stripe in
+-- which those sets have XOR zero is left as it is.
 use mathlib.Core.Path.{_≡_, refl, sym, ap, ap₂, _∙_}
 use mathlib.Core.Bool.{Bool, true, false, _&&_, _||_, not, false≢true}
 use mathlib.Core.Logic.{_⊎_, inl, inr, ⊎-elim}
@@ -130,7 +132,8 @@ module _ (p k s : ℕ) (lost : ℕ → Bool) (done : List ℕ) (c : CellStep) (g
     step-same : SetZero p k s t (c .kind) (c .number) → stepped p k s c t ≡ t
     step-same = solved-same (p * (k + 2)) s (c .cell) (setBy p k c) t (stripe-long p k s t stripe) within (g .held) once (stripe-bytes p k s t stripe)
 
-  -- two stripes that agree in the known cells of the set agree in the cell written, and where they did before
+  -- two stripes that agree in the known cells of the set agree in the cell written, and where they
+  -- did before
   step-agree :
       (t u : List ℕ) → isStripe p k s t ≡ true → isStripe p k s u ≡ true
       → ((y : ℕ) → y < p * (k + 2) → known lost done y ≡ true → isIn y (setBy p k c) ≡ true → cellAt s t y ≡ cellAt s u y)
@@ -168,7 +171,8 @@ steps-kept p k s lost none t h y e = refl
 steps-kept p k s lost (next {done} {c} {cs} g ok) t h y e =
     steps-kept p k s lost ok (stepped p k s c t) (step-stripe p k s lost done c g t h) y (known-more lost (c .cell) y done e) ∙ step-kept p k s lost done c g t h y e
 
--- the sets named have XOR zero after the steps: a set has it after its own step, and all its cells are known from then on
+-- the sets named have XOR zero after the steps: a set has it after its own step, and all its cells
+-- are known from then on
 pub steps-zero : (p k s : ℕ) (lost : ℕ → Bool) {done : List ℕ} {cs : List CellStep} → Standing p k lost done cs → (t : List ℕ) → isStripe p k s t ≡ true → (kind i : ℕ) → names kind i cs ≡ true → SetZero p k s (stepsDone p k s cs t) kind i
 unfolding stepsDone names
 steps-zero p k s lost none t h kind i e = absurd (false≢true e)
@@ -199,7 +203,8 @@ steps-same p k s lost (next {done} {c} {cs} g ok) t h zeros =
 pub steps-clean : (p k s : ℕ) (lost : ℕ → Bool) {done : List ℕ} {cs : List CellStep} → Standing p k lost done cs → (t : List ℕ) → isStripe p k s t ≡ true → clean p k s t ≡ true → stepsDone p k s cs t ≡ t
 steps-clean p k s lost ok t h c = steps-same p k s lost ok t h (λ kind i l e. clean-at p k s t c kind i l)
 
--- what the steps leave in a cell that is then known depends only on the known cells of the sets named, and on the cell itself where it was known before
+-- what the steps leave in a cell that is then known depends only on the known cells of the sets
+-- named, and on the cell itself where it was known before
 pub steps-agree :
     (p k s : ℕ) (lost : ℕ → Bool) {done : List ℕ} {cs : List CellStep} → Standing p k lost done cs
     → (t u : List ℕ) → isStripe p k s t ≡ true → isStripe p k s u ≡ true
@@ -216,7 +221,8 @@ steps-agree p k s lost (next {done} {c} {cs} g ok) t u ht hu read y old h =
     after : (z : ℕ) → (known lost done z ≡ true → cellAt s t z ≡ cellAt s u z) → known lost (c .cell ∷ done) z ≡ true → cellAt s (stepped p k s c t) z ≡ cellAt s (stepped p k s c u) z
     after = step-agree p k s lost done c g t u ht hu (λ z l a e. read z l a (or-l _ _ e))
 
--- steps after which every cell is known: a stripe that agrees with a clean one in the cells known before becomes that one
+-- steps after which every cell is known: a stripe that agrees with a clean one in the cells known
+-- before becomes that one
 pub steps-back :
     (p k s : ℕ) (lost : ℕ → Bool) {done : List ℕ} {cs : List CellStep} → Standing p k lost done cs
     → ((y : ℕ) → y < p * (k + 2) → known lost (doneAfter done cs) y ≡ true)

@@ -1,4 +1,6 @@
--- The XOR of whole stripes, cell by cell: a cell of the XOR is the XOR of the cells, and two XORs, one over cells and one over stripes, may be exchanged. So the XOR of clean stripes is a clean stripe.
+-- The XOR of whole stripes, cell by cell: a cell of the XOR is the XOR of the cells, and two XORs,
+-- one over cells and one over stripes, may be exchanged. So the XOR of clean stripes is a clean
+-- stripe.
 use mathlib.Core.Path.{_≡_, refl, sym, ap, ap₂, _∙_}
 use mathlib.Core.Bool.{true}
 use mathlib.Core.List.{List, [], _∷_}
@@ -14,7 +16,7 @@ use Rattle.mathematics.proofs.XorLaws.{zero-xorL, zeros-bytes, xorL-cross, take
 use Rattle.liberation.specs.Sets.{setOf}
 use Rattle.liberation.proofs.SetLaws.{set-below}
 use Rattle.liberation.specs.stripes.Stripes.{cellAt, xorOver, stripeLong, clean}
-use Rattle.liberation.proofs.stripes.CellLaws.{cell-fits}
+use Rattle.liberation.proofs.stripes.StripeCellLaws.{cell-fits}
 use Rattle.liberation.proofs.stripes.OverLaws.{over-ext}
 use Rattle.liberation.proofs.stripes.Solving.{SetZero, clean-at, clean-of}
 

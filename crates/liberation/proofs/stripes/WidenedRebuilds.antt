@@ -1,4 +1,6 @@
--- Rebuilding a lost disk of a part-filled array is rebuilding it in the full one, with zeros on the absent disks, on dirty stripes too: our plan has the same steps there, and the sets that it uses have the same XOR.
+-- Rebuilding a lost disk of a part-filled array is rebuilding it in the full one, with zeros on the
+-- absent disks, on dirty stripes too: our plan has the same steps there, and the sets that it uses
+-- have the same XOR.
 use mathlib.Core.Path.{_≡_, sym, ap, subst, _∙_}
 use mathlib.Core.Bool.{Bool, true, false, _&&_, false≢true}
 use mathlib.Core.Logic.{⊎-elim}
@@ -22,7 +24,7 @@ use Rattle.liberation.proofs.PartPlans.{plan-accepted}
 use Rattle.liberation.proofs.AcceptedLaws.{Passes, none, next, accepted-passes}
 use Rattle.liberation.specs.stripes.Stripes.{cellAt, xorOver, isStripe, followed, columnOf, rebuilt}
 use Rattle.liberation.specs.stripes.Widened.{widened}
-use Rattle.liberation.proofs.stripes.CellLaws.{cells-equal, column-cell}
+use Rattle.liberation.proofs.stripes.StripeCellLaws.{cells-equal, column-cell}
 use Rattle.liberation.proofs.stripes.Following.{followed-stripe, followed-off, followed-zero, followed-same}
 use Rattle.liberation.proofs.stripes.Rebuilding.{column-long, lost-unused}
 use Rattle.liberation.proofs.stripes.Widening.{widened-absent, widened-cell, widened-stripe, row-kept, diagonal-kept}

@@ -1,5 +1,7 @@
--- A stripe of k data disks in the full array: `widened` puts zeros in the place of the absent data disks. A set of the full array has the part-filled array's cells and, on absent disks, zeros,
--- which are nothing to a XOR; so one is clean exactly if the other is, and encoding one is encoding the other.
+-- A stripe of k data disks in the full array: `widened` puts zeros in the place of the absent data
+-- disks. A set of the full array has the part-filled array's cells and, on absent disks, zeros,
+-- which are nothing to a XOR; so one is clean exactly if the other is, and encoding one is encoding
+-- the other.
 use mathlib.Core.Path.{_≡_, refl, sym, ap, ap₂, _∙_}
 use mathlib.Core.Bool.{Bool, true, false, _&&_}
 use mathlib.Core.Logic.{⊎-elim}
@@ -28,7 +30,7 @@ use Rattle.liberation.proofs.PlaceLaws.{some-row, disk-below}
 use Rattle.liberation.proofs.PartLaws.{full-data, full-parity}
 use Rattle.liberation.specs.stripes.Stripes.{cellAt, xorOver, isStripe, clean, encoded}
 use Rattle.liberation.specs.stripes.Widened.{widened}
-use Rattle.liberation.proofs.stripes.CellLaws.{cell-fits}
+use Rattle.liberation.proofs.stripes.StripeCellLaws.{cell-fits}
 use Rattle.liberation.proofs.stripes.OverLaws.{Long, over-long, over-bytes}
 use Rattle.liberation.proofs.stripes.Solving.{cells-long, stripe-long, stripe-bytes, stripe-of, clean-at, clean-of}
 use Rattle.liberation.proofs.stripes.Encoding.{encoded-stripe, encoded-data, encoded-clean, encoded-only}
@@ -91,7 +93,8 @@ module _ (p k s : ℕ) (t : List ℕ) (most : k ≤ p) (stripe : isStripe p k s 
       spread-within s (k * (p * s)) ((p - k) * (p * s)) t fits (place p r (c - k)) (place p r c)
       (omega (arith, ap (λ (n : ℕ). n * (p * s)) e)) (omega (arith, cell-fits (p * (p - k)) s (place p r (c - k)) (place-below p (p - k) r (c - k) h (omega arith))))
 
-  -- "P becomes disk k and Q disk k + 1": the cells of the disks present stand on the full array's disks, P and Q on P and Q
+  -- "P becomes disk k and Q disk k + 1": the cells of the disks present stand on the full array's
+  -- disks, P and Q on P and Q
   pub widened-cell : (r c : ℕ) → r < p → c < k + 2 → cellAt s (widened p k s t) (place p r (fullDisk p k c)) ≡ cellAt s t (place p r c)
   unfolding widened spread
   widened-cell r c h l = ⊎-elim on-data on-parity (lt-or-le c k)
@@ -108,7 +111,8 @@ module _ (p k s : ℕ) (t : List ℕ) (most : k ≤ p) (stripe : isStripe p k s 
           ∙ spread-after s (k * (p * s)) ((p - k) * (p * s)) t fits (place p r (c - k)) (place p r (c - k + p)) (place p r c)
           (omega (arith, all-data)) (omega (arith, ap (λ (n : ℕ). n * (p * s)) e))
 
-  -- "Stripes have (k + 2) × p × s bytes": with zeros for the absent disks it is a stripe of the full array
+  -- "Stripes have (k + 2) × p × s bytes": with zeros for the absent disks it is a stripe of the
+  -- full array
   pub widened-stripe : isStripe p p s (widened p k s t) ≡ true
   unfolding widened
   widened-stripe = stripe-of p p s (widened p k s t) long bytes
@@ -135,7 +139,8 @@ module _ (p k s : ℕ) (t : List ℕ) (most : k ≤ p) (stripe : isStripe p k s 
   parity-cell : (r c d : ℕ) → r < p → k ≤ c → c < k + 2 → d ≡ c - k + p → full (place p r d) ≡ part (place p r c)
   parity-cell r c d h l m e = ap (λ (x : ℕ). full (place p r x)) (e ∙ sym (full-parity p k c l)) ∙ widened-cell r c h m
 
-  -- a set with one cell (row c, c) on each data disk c and the cells us beside, in the part-filled array vs
+  -- a set with one cell (row c, c) on each data disk c and the cells us beside, in the part-filled
+  -- array vs
   module _ (kind i : ℕ) (within : i < p) (row : ℕ → ℕ) (below : (c : ℕ) → row c < p)
       (cells : ℕ → ℕ → List ℕ) (w : Walk (λ c. place p (row c) c) cells)
       (us vs : List ℕ) (in-full : setOf p p kind i ≡ cells p 0 ++ us) (in-part : setOf p k kind i ≡ cells k 0 ++ vs) (rest : xorOver s full us ≡ xorOver s part vs) where
@@ -166,7 +171,8 @@ module _ (p k s : ℕ) (t : List ℕ) (most : k ≤ p) (stripe : isStripe p k s 
     set-kept : xorOver s full (setOf p p kind i) ≡ xorOver s part (setOf p k kind i)
     set-kept = ap (xorOver s full) in-full ∙ present-kept k p 0 (omega arith) (omega arith) ∙ sym (ap (xorOver s part) in-part)
 
-  -- row sets end with their P cell, diagonal sets with their Q cell and the extra cell, if its disk is there
+  -- row sets end with their P cell, diagonal sets with their Q cell and the extra cell, if its disk
+  -- is there
   pub row-kept : (i : ℕ) → i < p → xorOver s full (setOf p p 0 i) ≡ xorOver s part (setOf p k 0 i)
   unfolding xorOver rowSet
   row-kept i l =
@@ -207,7 +213,8 @@ module _ (p k s : ℕ) (t : List ℕ) (most : k ≤ p) (stripe : isStripe p k s 
       (λ h. clean-of p p s (widened p k s t) (λ i l. row-kept i l ∙ clean-at p k s t h 0 i l) (λ i l. diagonal-kept i l ∙ clean-at p k s t h 1 i l))
       (λ h. clean-of p k s t (λ i l. sym (row-kept i l) ∙ clean-at p p s (widened p k s t) h 0 i l) (λ i l. sym (diagonal-kept i l) ∙ clean-at p p s (widened p k s t) h 1 i l))
 
--- encoding a part-filled stripe is encoding the full one: with zeros for the absent disks the encoded stripe is clean and has those data, and no other stripe is so
+-- encoding a part-filled stripe is encoding the full one: with zeros for the absent disks the
+-- encoded stripe is clean and has those data, and no other stripe is so
 pub widened-encoded : (p k s : ℕ) (t : List ℕ) → k ≤ p → isStripe p k s t ≡ true → encoded p p s (widened p k s t) ≡ widened p k s (encoded p k s t)
 widened-encoded p k s t most stripe =
     sym (encoded-only p p s (widened p k s t) (widened-stripe p k s t most stripe) (widened p k s done) (widened-stripe p k s done most written)

@@ -1,4 +1,6 @@
--- The first cell on a stripe: over the start's sets the whole XOR is the XOR of the surviving cells and the first cell. So a clean stripe is left as it is, stripes alike in the surviving cells get the same first cell,
+-- The first cell on a stripe: over the start's sets the whole XOR is the XOR of the surviving cells
+-- and the first cell. So a clean stripe is left as it is, stripes alike in the surviving cells get
+-- the same first cell,
 -- and once the first cell is that XOR, the last diagonal's XOR is zero if all the other sets' are.
 use mathlib.Core.Path.{_≡_, refl, sym, ap, ap₂, _∙_}
 use mathlib.Core.Bool.{Bool, true, false, _&&_, _||_, not}
@@ -23,7 +25,7 @@ use Rattle.liberation.specs.Plans.{extraRowOn, diagonalOf}
 use Rattle.liberation.proofs.SetLaws.{in-surviving, place-below, set-below}
 use Rattle.liberation.proofs.LostLaws.{lost-surviving, second-range}
 use Rattle.liberation.specs.stripes.Stripes.{cellAt, withCell, xorOver, isStripe, clean}
-use Rattle.liberation.proofs.stripes.CellLaws.{cell-fits, cell-long, with-same, length-with, cell-with, cell-other}
+use Rattle.liberation.proofs.stripes.StripeCellLaws.{cell-fits, cell-long, with-same, length-with, cell-with, cell-other}
 use Rattle.liberation.proofs.stripes.OverLaws.{Long, over-long, over-bytes, over-append, over-split}
 use Rattle.liberation.proofs.stripes.Solving.{cells-long, bytes-with, cell-bytes, stripe-long, stripe-bytes, stripe-of, SetZero, clean-at}
 use Rattle.liberation.specs.two_disks.Pairs.{nextRow, startSets, startCount, firstDisk, startCells, firstCell, started}

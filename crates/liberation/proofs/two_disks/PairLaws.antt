@@ -1,4 +1,6 @@
--- "Any contents of the other p disks belong to exactly one clean stripe. The two columns of the lent stripe become that stripe's; the rest is untouched." For every width p, every number k ≤ p of data disks and any two different disks.
+-- "Any contents of the other p disks belong to exactly one clean stripe. The two columns of the
+-- lent stripe become that stripe's; the rest is untouched." For every width p, every number k ≤ p
+-- of data disks and any two different disks.
 -- Also: at each step after the first cell every lost cell of its set but the one written stands.
 use mathlib.Core.Path.{_≡_, refl, sym, ap, subst, _∙_}
 use mathlib.Core.Bool.{Bool, true, false, _||_, not, or-comm}
@@ -42,7 +44,8 @@ standing-swap p k a b (next {done} {c} {cs} g ok) =
     })
     (standing-swap p k a b ok)
 
--- a rebuild by a plan: its steps stand, and done on the stripe with the first cell they are the rebuild, which restores
+-- a rebuild by a plan: its steps stand, and done on the stripe with the first cell they are the
+-- rebuild, which restores
 record Rebuild (p k s a b : ℕ) (f : List ℕ → List ℕ) (d : PairPlan) : Type 0 where
   restores : Restores p k s a b f
   standing : Standing p k (isLost p a b) (d .first) (d .steps)
@@ -138,7 +141,8 @@ module _ (p k s a b : ℕ) (width : isWidth p ≡ true) (most : k ≤ p) (ha : a
   pub pair-back : (t u : List ℕ) → isStripe p k s t ≡ true → isStripe p k s u ≡ true → clean p k s u ≡ true → Alike p k s a b t u → pairSolved p k s a b t ≡ u
   pair-back = whole .restores .back
 
-  -- "Any contents of the other p disks belong to exactly one clean stripe": two clean stripes alike off two disks are the same
+  -- "Any contents of the other p disks belong to exactly one clean stripe": two clean stripes alike
+  -- off two disks are the same
   pub pair-only : (t u : List ℕ) → isStripe p k s t ≡ true → isStripe p k s u ≡ true → clean p k s t ≡ true → clean p k s u ≡ true → Alike p k s a b t u → t ≡ u
   pair-only t u ht hu ct cu same = sym (pair-back t t ht ht ct (λ c l m n. refl)) ∙ pair-back t u ht hu cu same
 
@@ -147,7 +151,8 @@ module _ (p k s a b : ℕ) (width : isWidth p ≡ true) (most : k ≤ p) (ha : a
   pair-alike t u ht hu same =
       pair-back t (pairSolved p k s a b u) ht (pair-stripe u hu) (pair-clean u hu) (λ c l m n. same c l m n ∙ sym (pair-off u hu c m n))
 
-  -- "After the first cell, a diagonal with three lost cells is used only once two of them stand": so for every set of every step
+  -- "After the first cell, a diagonal with three lost cells is used only once two of them stand":
+  -- so for every set of every step
   pub pair-stands : stepsStand p k a b (pairPlan p k s a b .first) (pairPlan p k s a b .steps) ≡ true
   pair-stands = standing-true p k a b (whole .standing)
 

@@ -1,5 +1,7 @@
--- A parity disk lost with another disk: a data disk by its diagonals and then P by the row sets, or a data disk or P by the row sets and then Q by the diagonal sets.
--- Each step stands, every cell is known at the end, and every set is named. Diagonal sets have no cell on P, and row sets none on Q.
+-- A parity disk lost with another disk: a data disk by its diagonals and then P by the row sets, or
+-- a data disk or P by the row sets and then Q by the diagonal sets.
+-- Each step stands, every cell is known at the end, and every set is named. Diagonal sets have no
+-- cell on P, and row sets none on Q.
 use mathlib.Core.Path.{_≡_, refl, sym, ap, ap₂, _∙_}
 use mathlib.Core.Bool.{Bool, true, false, _&&_, and-false}
 use mathlib.Core.Logic.{inl, inr, ⊎-elim}

@@ -1,5 +1,8 @@
--- What a rebuild of two lost disks a and b does: it keeps every cell off them, makes the stripe clean, and brings a clean stripe back from its cells off a and b. The steps for a parity disk and another disk do,
--- since every cell is known after them and every set is named; so does the walk, where the last diagonal is zero by the start.
+-- What a rebuild of two lost disks a and b does: it keeps every cell off them, makes the stripe
+-- clean, and brings a clean stripe back from its cells off a and b. The steps for a parity disk and
+-- another disk do,
+-- since every cell is known after them and every set is named; so does the walk, where the last
+-- diagonal is zero by the start.
 use mathlib.Core.Path.{_≡_, refl, sym, ap, ap₂, _∙_}
 use mathlib.Core.Bool.{Bool, true, false, _||_}
 use mathlib.Core.Logic.{⊎-elim}

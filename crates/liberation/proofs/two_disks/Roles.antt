@@ -1,5 +1,8 @@
--- Which of two lost data disks is walked from: x has an extra cell, and y is disk 0 or the inverse of y - x mod p is at most (p - 1)/2. One of the two orders of any pair is so, and `forward` says which,
--- since the inverses of y - x and of x - y add up to p. Then the walk does not meet the diagonal whose extra cell is on y before that cell stands.
+-- Which of two lost data disks is walked from: x has an extra cell, and y is disk 0 or the inverse
+-- of y - x mod p is at most (p - 1)/2. One of the two orders of any pair is so, and `forward` says
+-- which,
+-- since the inverses of y - x and of x - y add up to p. Then the walk does not meet the diagonal
+-- whose extra cell is on y before that cell stands.
 use mathlib.Core.Path.{_≡_, refl, sym, ap, _∙_}
 use mathlib.Core.Bool.{Bool, true, false, _&&_, false≢true}
 use mathlib.Core.Logic.{_⊎_, inl, inr, ⊎-elim}

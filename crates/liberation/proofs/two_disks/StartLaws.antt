@@ -1,5 +1,9 @@
--- The start: over the sets of its rows the lost cells XOR to the first cell. A row r and its diagonal leave on disk x nothing and on disk y the cells of row r and of the next row, so the cells of disk y telescope;
--- besides, the diagonal whose extra cell is on a lost disk adds that cell. So in a clean stripe the XOR of the surviving cells is the first cell; and where the first cell is that XOR and all those sets but the last diagonal XOR to zero, so does that one.
+-- The start: over the sets of its rows the lost cells XOR to the first cell. A row r and its
+-- diagonal leave on disk x nothing and on disk y the cells of row r and of the next row, so the
+-- cells of disk y telescope;
+-- besides, the diagonal whose extra cell is on a lost disk adds that cell. So in a clean stripe the
+-- XOR of the surviving cells is the first cell; and where the first cell is that XOR and all those
+-- sets but the last diagonal XOR to zero, so does that one.
 use mathlib.Core.Path.{_≡_, refl, sym, ap, ap₂, _∙_}
 use mathlib.Core.Bool.{Bool, true, false}
 use mathlib.Core.Logic.{⊎-elim}
@@ -89,7 +93,8 @@ extras-one (suc n) (suc m) p x y c r h here none =
     (extras-one n m p x y c (nextRow p x y r) (omega arith) (ap (λ (i : ℕ). extraOn p (diagonalOf p x i) c) (sym (after-next m p x y r)) ∙ here) (λ j l q. ap (λ (i : ℕ). extraOn p (diagonalOf p x i) c) (sym (after-next j p x y r)) ∙ none (suc j) (omega arith) (λ e. q (omega arith))))
     ∙ ap (λ (i : ℕ). extraRow p (diagonalOf p x i) ∷ []) (sym (after-next m p x y r))
 
--- the lost cells of the start's sets: on x each row's cell twice, on y those of the first and the row after the last, and on both the extra cells
+-- the lost cells of the start's sets: on x each row's cell twice, on y those of the first and the
+-- row after the last, and on both the extra cells
 module _ (s p k x y : ℕ) (h : ℕ → List ℕ) (cells : Cells s p h) (hx : x < k) (hy : y < k) (x-high : x < p) where
   -- the lost rows of the first row's two sets, and the rest
   lost-next : (c n r : ℕ) → c < k → r < p → lostIn p c (startSets (suc n) p k x y r) ≡ r ∷ (((diagonalOf p x r + c) % p) ∷ (extraRows p (diagonalOf p x r) c ++ lostIn p c (startSets n p k x y (nextRow p x y r))))

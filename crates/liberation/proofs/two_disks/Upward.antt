@@ -1,5 +1,7 @@
--- Steps that rebuild one lost disk f row by row upward, where each set's cells on f are in its own row or a lower one, and its cells on the other lost disk stand.
--- Two lost disks rebuilt so one after the other, the first by sets that do not meet the second: every step stands, and every cell is known at the end.
+-- Steps that rebuild one lost disk f row by row upward, where each set's cells on f are in its own
+-- row or a lower one, and its cells on the other lost disk stand.
+-- Two lost disks rebuilt so one after the other, the first by sets that do not meet the second:
+-- every step stands, and every cell is known at the end.
 use mathlib.Core.Path.{_≡_, refl, sym, ap, ap₂, _∙_}
 use mathlib.Core.Bool.{Bool, true, false, _&&_, _||_, not, and-true, false≢true}
 use mathlib.Core.Logic.{_⊎_, inl, inr, ⊎-elim}
@@ -68,7 +70,8 @@ row-more : (p r j f : ℕ) (done : List ℕ) → r < p → j < p → isIn (place
 row-more p r j f done l m e =
     ap₂ _||_ (place-eq p r f j f l m ∙ ap (λ (t : Bool). eqb r j && t) (eq-eqb f f refl) ∙ and-true (eqb r j)) e ∙ ltb-next r j
 
--- row i of disk f by the set of this kind with the number num i: the set holds that cell, and on disk f no cell of a higher row
+-- row i of disk f by the set of this kind with the number num i: the set holds that cell, and on
+-- disk f no cell of a higher row
 pub record Upward (p k f kind : ℕ) (num : ℕ → ℕ) : Type 0 where
   pub low : kind ≤ 1
   pub below : (i : ℕ) → i < p → num i < p

@@ -1,5 +1,9 @@
--- The walk between two lost data disks, once both cells of its first row stand: each of its steps stands, it leaves every cell known, and it names every row set and every diagonal set but the last one's.
--- The diagonal of row r has its other lost cell in the next row. It has a third one only if that is the extra cell on x, which stands from the start, or the extra cell on y, which stands when it is met.
+-- The walk between two lost data disks, once both cells of its first row stand: each of its steps
+-- stands, it leaves every cell known, and it names every row set and every diagonal set but the
+-- last one's.
+-- The diagonal of row r has its other lost cell in the next row. It has a third one only if that is
+-- the extra cell on x, which stands from the start, or the extra cell on y, which stands when it is
+-- met.
 use mathlib.Core.Path.{_≡_, refl, sym, ap, ap₂, subst, _∙_}
 use mathlib.Core.Bool.{Bool, true, false, _&&_, _||_, and-true, and-false}
 use mathlib.Core.Logic.{_⊎_, inl, inr, ⊎-elim}

@@ -1,6 +1,10 @@
--- The rows of a walk between two data disks x and y: it goes by d = y - x mod p, so in p turns it comes to every row once.
--- From the row of the extra cell on x it comes to that of the extra cell on y in (p + 1)/2 turns, and back in (p - 1)/2: twice either row is its disk less 2. Where the inverse of d is at most (p - 1)/2,
--- the diagonal whose extra cell is on y is met on the way back and the one whose extra cell is on x is not.
+-- The rows of a walk between two data disks x and y: it goes by d = y - x mod p, so in p turns it
+-- comes to every row once.
+-- From the row of the extra cell on x it comes to that of the extra cell on y in (p + 1)/2 turns,
+-- and back in (p - 1)/2: twice either row is its disk less 2. Where the inverse of d is at most (p
+-- - 1)/2,
+-- the diagonal whose extra cell is on y is met on the way back and the one whose extra cell is on x
+-- is not.
 use mathlib.Core.Path.{_≡_, refl, sym, ap, _∙_}
 use mathlib.Core.Logic.{⊎-elim}
 use Prim.Native.Nat.{ℕ, zero, suc, _+_, _-_, _*_, _/_, _%_, _≤_, _<_}

@@ -1,4 +1,6 @@
--- A step whose cell holds the XOR of its set's surviving cells: the XOR of the set's lost cells is what the step makes of it, since it is the XOR of the set's other cells. Steps that stand write no cell of a later step, so each finds its sum as it was.
+-- A step whose cell holds the XOR of its set's surviving cells: the XOR of the set's lost cells is
+-- what the step makes of it, since it is the XOR of the set's other cells. Steps that stand write
+-- no cell of a later step, so each finds its sum as it was.
 use mathlib.Core.Path.{_≡_, refl, sym, ap, ap₂, _∙_}
 use mathlib.Core.Bool.{Bool, true, false, _&&_, _||_, not, false≢true}
 use mathlib.Core.List.{List, [], _∷_, _++_}
@@ -19,14 +21,14 @@ use Rattle.liberation.proofs.SetLaws.{in-surviving, place-below, set-be
 use Rattle.liberation.proofs.DistinctLaws.{distinct-set}
 use Rattle.liberation.proofs.LostLaws.{lost-surviving}
 use Rattle.liberation.specs.stripes.Stripes.{cellAt, withCell, xorOver, isStripe, without, solved}
-use Rattle.liberation.proofs.stripes.CellLaws.{cell-fits, length-with, cell-with, cell-other}
+use Rattle.liberation.proofs.stripes.StripeCellLaws.{cell-fits, length-with, cell-with, cell-other}
 use Rattle.liberation.proofs.stripes.OverLaws.{Long, over-long, over-bytes, over-ext, over-append, over-without, over-split, in-without}
 use Rattle.liberation.proofs.stripes.Solving.{cells-long, bytes-with, stripe-long, stripe-bytes, stripe-of, solved-other}
 use Rattle.liberation.specs.stripes.Steps.{CellStep, stepsDone}
 use Rattle.liberation.proofs.stripes.Standing.{Stands, Standing, none, next, doneAfter, off-known, steps-stripe}
 use Rattle.liberation.specs.two_disks.PairSteps.{isLost, isKnown}
 use Rattle.liberation.proofs.two_disks.Upward.{known-lost}
-use Rattle.liberation.specs.two_disks_by_sums.Sums.{survivorsOf, placed, lostCells, summed, summedAll, added, addedAll}
+use Rattle.liberation.specs.two_disks_by_sums.Sums.{survivorsOf, placed, lostCells, summed, summedAll, sumAdded, addedAll}
 
 -- a surviving cell of a list
 pub survivor-off : (p x y c : ℕ) (xs : List ℕ) → isIn c (survivorsOf p x y xs) ≡ true → (isLost p x y c ≡ false) × (isIn c xs ≡ true)
@@ -138,7 +140,7 @@ module _ (p k s x y : ℕ) (apart : x ≡ y → ⊥) (hx : x < k + 2) (hy : y < 
     fits = omega (arith, cell-fits (p * (k + 2)) s (c .cell) (in-below (p * (k + 2)) (c .cell) (setBy c) within held), stripe-long p k s t stripe)
 
     -- the step adds
-    step-adds : cellAt s t (c .cell) ≡ sumOf c t → solved s (c .cell) (setBy c) t ≡ added p k s x y c t
+    step-adds : cellAt s t (c .cell) ≡ sumOf c t → solved s (c .cell) (setBy c) t ≡ sumAdded p k s x y c t
     step-adds e = ap (λ (v : List ℕ). withCell s (c .cell) v t) (sym (lost-is e))
 
     -- the sum put into its cell

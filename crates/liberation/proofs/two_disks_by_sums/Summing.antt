@@ -1,4 +1,6 @@
--- The start's sets summed into the cells that they give: their XOR is that of the start's surviving cells, so it is the first cell. The last steps of the walk then add, and what they leave is the rebuilt stripe:
+-- The start's sets summed into the cells that they give: their XOR is that of the start's surviving
+-- cells, so it is the first cell. The last steps of the walk then add, and what they leave is the
+-- rebuilt stripe:
 -- the sums are in lost cells, and the rebuild does not depend on what those held.
 use mathlib.Core.Path.{_≡_, refl, sym, subst, ap, ap₂, _∙_}
 use mathlib.Core.Bool.{Bool, true, false, _&&_, _||_}

@@ -1,4 +1,5 @@
--- Bytes added to several cells: each cell of a distinct list gets them once, the others stand. Added to two cells of a list, they leave the list's XOR as it was.
+-- Bytes added to several cells: each cell of a distinct list gets them once, the others stand.
+-- Added to two cells of a list, they leave the list's XOR as it was.
 use mathlib.Core.Path.{_≡_, refl, sym, ap, ap₂, _∙_}
 use mathlib.Core.Bool.{Bool, true, false, _||_, not}
 use mathlib.Core.List.{List, [], _∷_}
@@ -13,7 +14,7 @@ use Rattle.mathematics.specs.Xor.{xorL, allBytes}
 use Rattle.mathematics.proofs.Flags.{and-l, and-r}
 use Rattle.mathematics.proofs.XorLaws.{xorL-assoc, xorL-comm, xorL-twice, xorL-long, xorL-bytes}
 use Rattle.liberation.specs.stripes.Stripes.{cellAt, withCell, xorOver, without}
-use Rattle.liberation.proofs.stripes.CellLaws.{cell-fits, cell-long, length-with, cell-with, cell-other}
+use Rattle.liberation.proofs.stripes.StripeCellLaws.{cell-fits, cell-long, length-with, cell-with, cell-other}
 use Rattle.liberation.proofs.stripes.OverLaws.{Long, over-long, over-bytes, over-ext, in-without, over-without}
 use Rattle.liberation.proofs.stripes.Solving.{bytes-with}
 use Rattle.liberation.specs.update.Updates.{addedEach}

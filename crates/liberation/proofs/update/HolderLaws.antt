@@ -1,4 +1,5 @@
--- The diagonals that hold a data cell: `holders` lists each once, and no other. The second of two is the one whose extra cell it is, and then the first is the one before it.
+-- The diagonals that hold a data cell: `holders` lists each once, and no other. The second of two
+-- is the one whose extra cell it is, and then the first is the one before it.
 use mathlib.Core.Path.{_≡_, refl, sym, ap, ap₂, _∙_}
 use mathlib.Core.Bool.{Bool, true, false, _&&_, _||_, not, or-false, and-false}
 use mathlib.Core.Logic.{⊎-elim}

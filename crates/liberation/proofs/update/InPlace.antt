@@ -1,4 +1,6 @@
--- An update without scratch: the cell holds the change while it is added to the parity cells. None of these is the cell itself, so the change stands until then, and the cell's own bytes are put in last.
+-- An update without scratch: the cell holds the change while it is added to the parity cells. None
+-- of these is the cell itself, so the change stands until then, and the cell's own bytes are put in
+-- last.
 use mathlib.Core.Path.{_≡_, refl, sym, ap, _∙_}
 use mathlib.Core.Bool.{true, false}
 use mathlib.Core.Logic.{⊎-elim}
@@ -17,7 +19,7 @@ use Rattle.mathematics.proofs.OrderLaws.{eq-or-ne}
 use Rattle.liberation.specs.Sets.{place}
 use Rattle.liberation.proofs.SetLaws.{place-below}
 use Rattle.liberation.specs.stripes.Stripes.{cellAt, withCell, isStripe}
-use Rattle.liberation.proofs.stripes.CellLaws.{cell-fits, cell-long, length-with, cell-with, cell-other, cells-equal}
+use Rattle.liberation.proofs.stripes.StripeCellLaws.{cell-fits, cell-long, length-with, cell-with, cell-other, cells-equal}
 use Rattle.liberation.proofs.stripes.Solving.{stripe-long}
 use Rattle.liberation.specs.update.Updates.{parityOf, addedEach, addedFrom, change, updated, updatedInPlace}
 use Rattle.liberation.proofs.update.ParityCells.{parity-below, parity-distinct}

@@ -1,5 +1,7 @@
--- The parity cells of a data cell: the P cell of its row and the Q cell of each of its holders, two or three different cells, none of them a data cell.
--- A set that holds the data cell holds one of them, its own parity cell, and any other set holds none.
+-- The parity cells of a data cell: the P cell of its row and the Q cell of each of its holders, two
+-- or three different cells, none of them a data cell.
+-- A set that holds the data cell holds one of them, its own parity cell, and any other set holds
+-- none.
 use mathlib.Core.Path.{_≡_, refl, sym, ap, ap₂, _∙_}
 use mathlib.Core.Bool.{Bool, true, false, _&&_, _||_, not, and-true, and-false, or-false, and-or-distrib-right}
 use mathlib.Core.Logic.{_⊎_, inl, inr, ⊎-elim}
@@ -104,7 +106,8 @@ module _ (p k r c : ℕ) (h : r < p) where
       (ap not (in-cells p (suc k) (holders p r c) (holders-below p r c h) r k h ∙ ap (λ (b : Bool). isIn r (holders p r c) && b) (ne-eqb k (suc k) (λ e. omega arith)) ∙ and-false (isIn r (holders p r c))))
       (cells-distinct p (suc k) (holders p r c) (holders-below p r c h) (holders-distinct p r c odd h))
 
-  -- one by one: the P cell, the Q cell of the cell's own diagonal, and that of the next one where its extra cell is this cell
+  -- one by one: the P cell, the Q cell of the cell's own diagonal, and that of the next one where
+  -- its extra cell is this cell
   pub parity-list :
       p % 2 ≡ 1 → c < p
       → parityOf p k r c ≡ place p r k ∷ (place p (diagonalOf p c r) (suc k) ∷ pick (eqb (suc (diagonalOf p c r)) (extraRow p r)) (place p (suc (diagonalOf p c r)) (suc k) ∷ []) [])

@@ -1,5 +1,8 @@
--- The order of updates (document 02, ask 9): two different data cells may be updated in either order, and of two updates of one cell the second alone tells what is there. Any stripe, clean or dirty.
--- An update of one data cell leaves the other as it is, so each change is taken from the first stripe; a parity cell of both gets the two changes in either order.
+-- The order of updates (document 02, ask 9): two different data cells may be updated in either
+-- order, and of two updates of one cell the second alone tells what is there. Any stripe, clean or
+-- dirty.
+-- An update of one data cell leaves the other as it is, so each change is taken from the first
+-- stripe; a parity cell of both gets the two changes in either order.
 use mathlib.Core.Path.{_≡_, refl, sym, ap, ap₂, _∙_}
 use mathlib.Core.Bool.{Bool, true, false}
 use mathlib.Core.List.{List}
@@ -13,7 +16,7 @@ use Rattle.mathematics.proofs.XorLaws.{xorL-assoc, xorL-comm, xorL-twice}
 use Rattle.liberation.specs.Sets.{place, rowAt, diskAt}
 use Rattle.liberation.proofs.SetLaws.{disk-place, row-place, place-below}
 use Rattle.liberation.specs.stripes.Stripes.{cellAt, isStripe}
-use Rattle.liberation.proofs.stripes.CellLaws.{cells-equal}
+use Rattle.liberation.proofs.stripes.StripeCellLaws.{cells-equal}
 use Rattle.liberation.specs.update.Updates.{parityOf, change, updated}
 use Rattle.liberation.proofs.update.ParityCells.{parity-data}
 use Rattle.liberation.proofs.update.Updating.{became, made, updated-long, updated-stripe, updated-at, updated-new, updated-data, updated-only}

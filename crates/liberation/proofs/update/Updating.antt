@@ -1,5 +1,7 @@
--- An update, cell by cell: the cell gets its new bytes, each of its parity cells the change, and all others stand. Every set keeps its XOR, in clean stripes and in dirty ones:
--- a set that holds the cell holds one of its parity cells too, and equal changes cancel. So a clean stripe stays clean, and is what encoding the new data gives.
+-- An update, cell by cell: the cell gets its new bytes, each of its parity cells the change, and
+-- all others stand. Every set keeps its XOR, in clean stripes and in dirty ones:
+-- a set that holds the cell holds one of its parity cells too, and equal changes cancel. So a clean
+-- stripe stays clean, and is what encoding the new data gives.
 use mathlib.Core.Path.{_≡_, refl, sym, ap, ap₂, _∙_}
 use mathlib.Core.Bool.{Bool, true, false}
 use mathlib.Core.Logic.{⊎-elim}
@@ -21,7 +23,7 @@ use Rattle.liberation.specs.Sets.{place, rowSet, diagonalSet, setOf}
 use Rattle.liberation.proofs.SetLaws.{in-row, in-diagonal-parity, place-below, set-below}
 use Rattle.liberation.proofs.DistinctLaws.{distinct-set}
 use Rattle.liberation.specs.stripes.Stripes.{cellAt, withCell, xorOver, isStripe, clean, encoded}
-use Rattle.liberation.proofs.stripes.CellLaws.{cell-fits, cell-long, length-with, cell-with, cell-other, cells-equal}
+use Rattle.liberation.proofs.stripes.StripeCellLaws.{cell-fits, cell-long, length-with, cell-with, cell-other, cells-equal}
 use Rattle.liberation.proofs.stripes.OverLaws.{over-ext}
 use Rattle.liberation.proofs.stripes.Solving.{cells-long, bytes-with, stripe-long, stripe-bytes, stripe-of, SetZero, clean-at, clean-of}
 use Rattle.liberation.proofs.stripes.Encoding.{encoded-only}
@@ -29,7 +31,8 @@ use Rattle.liberation.specs.update.Updates.{parityOf, addedEach, change,
 use Rattle.liberation.proofs.update.ParityCells.{parity-data, parity-below, parity-distinct, row-parity-held, diagonal-parity-held, row-parity-only, diagonal-parity-only}
 use Rattle.liberation.proofs.update.AddingLaws.{added-long, added-bytes, added-cell, over-two}
 
--- what a cell becomes: new bytes where it is the cell itself, the change added where it is a parity cell
+-- what a cell becomes: new bytes where it is the cell itself, the change added where it is a parity
+-- cell
 abbrev pub became : Bool → Bool → List ℕ → List ℕ → List ℕ → List ℕ
 became here held new d old = pick here new (pick held (xorL old d) old)
 
@@ -125,7 +128,8 @@ module _ (p k s r c : ℕ) (odd : p % 2 ≡ 1) (h : r < p) (l : c < k) (new : Li
   pub updated-only : (u : List ℕ) → length u ≡ p * (k + 2) * s → ((y : ℕ) → y < p * (k + 2) → cellAt s u y ≡ made p k s r c new t y (cellAt s t y)) → u ≡ updated p k s r c new t
   updated-only u ul same = cells-equal (p * (k + 2)) s u (updated p k s r c new t) ul updated-long (λ y m. same y m ∙ sym (updated-at y))
 
-  -- the XOR over a list of cells that has the data cell exactly if it has the parity cell q, and no other of its parity cells
+  -- the XOR over a list of cells that has the data cell exactly if it has the parity cell q, and no
+  -- other of its parity cells
   module _ (nb : allBytes new ≡ true) (q : ℕ) (xs : List ℕ) (once : distinct xs ≡ true) (within : allBelow (p * (k + 2)) xs ≡ true) (mine : isIn q xs ≡ true) (held : isIn q (parityOf p k r c) ≡ isIn (place p r c) xs) (only : (y : ℕ) → isIn y xs ≡ true → (y ≡ q → ⊥) → isIn y (parityOf p k r c) ≡ false) where
     -- the new bytes are the old ones and the change
     new-is : cellAt s (updated p k s r c new t) (place p r c) ≡ xorL (cellAt s t (place p r c)) (change s (place p r c) new t)

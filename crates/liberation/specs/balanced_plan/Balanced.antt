@@ -1,5 +1,7 @@
--- The balanced plan: a plan for one lost disk that reads as few cells as ours, spread over the survivors so that the busiest gives no more than the busiest of any accepted plan.
--- For a lost data disk f, row j takes a diagonal exactly if j - a is a square mod p, where 2a + 1 + e = f mod p, e being 1 if -1 is a square, else 0.
+-- The balanced plan: a plan for one lost disk that reads as few cells as ours, spread over the
+-- survivors so that the busiest gives no more than the busiest of any accepted plan.
+-- For a lost data disk f, row j takes a diagonal exactly if j - a is a square mod p, where 2a + 1 +
+-- e = f mod p, e being 1 if -1 is a square, else 0.
 use mathlib.Core.Path.{_≡_}
 use mathlib.Core.Bool.{Bool, true}
 use mathlib.Core.List.{List, [], _∷_, _++_}
@@ -35,7 +37,8 @@ balancedFrom (suc n) p f j = pick (byDiagonal p f j) 2 1 ∷ balancedFrom n p f 
 abbrev pub balancedRoutes : ℕ → ℕ → List ℕ
 balancedRoutes p f = balancedFrom p p f 0
 
--- the balanced plan: row-set steps first, rows upward, then diagonal steps, rows upward; for P (disk k) and Q (disk k + 1) it is ours
+-- the balanced plan: row-set steps first, rows upward, then diagonal steps, rows upward; for P
+-- (disk k) and Q (disk k + 1) it is ours
 unfoldable pub balancedPlan : ℕ → ℕ → ℕ → List Step
 balancedPlan p k f = pick (ltb f k) (rowSteps 0 (balancedRoutes p f) ++ diagonalSteps p f 0 (balancedRoutes p f)) (allOf p (f - k) 0)
 
@@ -47,7 +50,9 @@ readsOf p k f c ss = sumTo p (λ r. when (isIn (place p r c) (cellsRead p k f ss
 abbrev pub fairShare : ℕ → ℕ
 fairShare p = (p + 1) / 2 + (p - 1) / 4
 
--- what is claimed of the balanced plan for lost data disk f, k = p: it is one of the best, no disk gives more than the fair share, two surviving data disks differ by one cell at most, and in every accepted plan some surviving data disk gives the fair share
+-- what is claimed of the balanced plan for lost data disk f, k = p: it is one of the best, no disk
+-- gives more than the fair share, two surviving data disks differ by one cell at most, and in every
+-- accepted plan some surviving data disk gives the fair share
 pub record Balanced (p f : ℕ) : Type 0 where
   pub balanced-accepted : accepted p p f (balancedPlan p p f) ≡ true
   pub balanced-best : isBest p p f (balancedPlan p p f) ≡ true
@@ -60,7 +65,8 @@ pub record Balanced (p f : ℕ) : Type 0 where
 abbrev pub Plans-balanced : Type 0
 Plans-balanced = (p f : ℕ) → isWidth p ≡ true → f < p → Balanced p f
 
--- in an array with k data disks it is accepted, no disk gives more than the fair share of the full array, and for a lost P or Q it is our plan
+-- in an array with k data disks it is accepted, no disk gives more than the fair share of the full
+-- array, and for a lost P or Q it is our plan
 pub record BalancedPart (p k f : ℕ) : Type 0 where
   pub balanced-accepted : accepted p k f (balancedPlan p k f) ≡ true
   pub balanced-shares : f < k → (c : ℕ) → c < k + 2 → readsOf p k f c (balancedPlan p k f) ≤ fairShare p

@@ -1,5 +1,7 @@
--- A parity server (document 02, ask 7): m servers with the same p rows, k data disks and cells of s bytes, and one more. Their m + 1 stripes lie one after another, the extra one last,
--- so a stripe is a cell of stripeLong p k s bytes of the whole, and writing or rebuilding a server is the step of a set whose cells are all the stripes.
+-- A parity server (document 02, ask 7): m servers with the same p rows, k data disks and cells of s
+-- bytes, and one more. Their m + 1 stripes lie one after another, the extra one last,
+-- so a stripe is a cell of stripeLong p k s bytes of the whole, and writing or rebuilding a server
+-- is the step of a set whose cells are all the stripes.
 use mathlib.Core.Bool.{Bool, _&&_, _||_, not}
 use mathlib.Core.List.{List, [], _∷_, _++_}
 use Prim.Native.Nat.{ℕ, zero, suc, _+_, _*_}
@@ -7,7 +9,7 @@ use lib.Dec.{eqb, ltb}
 use lib.ListN.{length, getD}
 use Rattle.mathematics.specs.Choice.{pick, when, firstOf}
 use Rattle.mathematics.specs.Xor.{allBytes}
-use Rattle.liberation.specs.Sets.{diskFault, shapeFault, longFault}
+use Rattle.liberation.specs.Sets.{diskRefusal, shapeRefusal, longRefusal}
 use Rattle.liberation.specs.Plans.{planOf}
 use Rattle.liberation.specs.stripes.Stripes.{cellAt, withCell, stripeLong, solved, followed}
 use Rattle.liberation.specs.two_disks.Pairs.{pairSolved}
@@ -33,10 +35,11 @@ abbrev pub serverSolved : ℕ → ℕ → ℕ → ℕ → ℕ → List ℕ → L
 serverSolved p k s m j ts = solved (stripeLong p k s) j (upTo (suc m)) ts
 
 -- "one more whose stripe is the XOR of theirs": the extra stripe written
-abbrev pub written : ℕ → ℕ → ℕ → ℕ → List ℕ → List ℕ
-written p k s m ts = serverSolved p k s m m ts
+abbrev pub serverWritten : ℕ → ℕ → ℕ → ℕ → List ℕ → List ℕ
+serverWritten p k s m ts = serverSolved p k s m m ts
 
--- "These losses come as two bytes a server, 255 for none": whether a byte names a disk, and the two bytes of server i
+-- "These losses come as two bytes a server, 255 for none": whether a byte names a disk, and the two
+-- bytes of server i
 abbrev pub lost : ℕ → Bool
 lost d = not (eqb d 255)
 
@@ -69,29 +72,31 @@ unfoldable pub serverRebuilt : ℕ → ℕ → ℕ → ℕ → ℕ → List ℕ 
 serverRebuilt p k s m j ls ts = serverSolved p k s m j (mendedAll (suc m) p k s j ls ts)
 
 -- "18: m outside 2 to 16, or a server number over m"
-abbrev pub serversFault : ℕ → ℕ
-serversFault m = when (ltb m 2 || ltb 16 m) 18
+abbrev pub serversRefusal : ℕ → ℕ
+serversRefusal m = when (ltb m 2 || ltb 16 m) 18
 
-abbrev pub serverFault : ℕ → ℕ → ℕ
-serverFault m j = firstOf (serversFault m) (when (ltb m j) 18)
+abbrev pub serverRefusal : ℕ → ℕ → ℕ
+serverRefusal m j = firstOf (serversRefusal m) (when (ltb m j) 18)
 
--- "then 3 and 4 server by server": the refusal of one byte, of one server's pair, and of the pairs of the first n servers but j
-abbrev pub byteFault : ℕ → ℕ → ℕ
-byteFault k d = pick (lost d) (diskFault k d) 0
+-- "then 3 and 4 server by server": the refusal of one byte, of one server's pair, and of the pairs
+-- of the first n servers but j
+abbrev pub byteRefusal : ℕ → ℕ → ℕ
+byteRefusal k d = pick (lost d) (diskRefusal k d) 0
 
-abbrev pub pairFault : ℕ → ℕ → ℕ → ℕ
-pairFault k a b = firstOf (byteFault k a) (firstOf (byteFault k b) (when (lost a && eqb a b) 4))
+abbrev pub pairRefusal : ℕ → ℕ → ℕ → ℕ
+pairRefusal k a b = firstOf (byteRefusal k a) (firstOf (byteRefusal k b) (when (lost a && eqb a b) 4))
 
-unfoldable pub lossesFault : ℕ → ℕ → ℕ → List ℕ → ℕ
-lossesFault zero k j ls = 0
-lossesFault (suc n) k j ls = firstOf (lossesFault n k j ls) (pick (eqb n j) 0 (pairFault k (firstLoss ls n) (secondLoss ls n)))
+unfoldable pub lossesRefusal : ℕ → ℕ → ℕ → List ℕ → ℕ
+lossesRefusal zero k j ls = 0
+lossesRefusal (suc n) k j ls = firstOf (lossesRefusal n k j ls) (pick (eqb n j) 0 (pairRefusal k (firstLoss ls n) (secondLoss ls n)))
 
--- the refusals of the two calls, in order: 1, 13, 2, then 18, n being what its test gave, and 5 for the stripes; a rebuild goes on with 5 for the losses, 3 and 4
-abbrev pub callFault : ℕ → ℕ → ℕ → ℕ → ℕ → List ℕ → ℕ
-callFault n p k s m ts = firstOf (shapeFault p k s) (firstOf n (longFault (serversLong p k s m) ts))
+-- the refusals of the two calls, in order: 1, 13, 2, then 18, n being what its test gave, and 5 for
+-- the stripes; a rebuild goes on with 5 for the losses, 3 and 4
+abbrev pub callRefusal : ℕ → ℕ → ℕ → ℕ → ℕ → List ℕ → ℕ
+callRefusal n p k s m ts = firstOf (shapeRefusal p k s) (firstOf n (longRefusal (serversLong p k s m) ts))
 
-unfoldable pub writeFault : ℕ → ℕ → ℕ → ℕ → List ℕ → ℕ
-writeFault p k s m ts = callFault (serversFault m) p k s m ts
+unfoldable pub writeRefusal : ℕ → ℕ → ℕ → ℕ → List ℕ → ℕ
+writeRefusal p k s m ts = callRefusal (serversRefusal m) p k s m ts
 
-unfoldable pub rebuildFault : ℕ → ℕ → ℕ → ℕ → ℕ → List ℕ → List ℕ → ℕ
-rebuildFault p k s m j ls ts = firstOf (callFault (serverFault m j) p k s m ts) (firstOf (longFault (2 * suc m) ls) (lossesFault (suc m) k j ls))
+unfoldable pub rebuildRefusal : ℕ → ℕ → ℕ → ℕ → ℕ → List ℕ → List ℕ → ℕ
+rebuildRefusal p k s m j ls ts = firstOf (callRefusal (serverRefusal m j) p k s m ts) (firstOf (longRefusal (2 * suc m) ls) (lossesRefusal (suc m) k j ls))

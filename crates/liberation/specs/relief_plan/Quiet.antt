@@ -9,7 +9,9 @@ use Rattle.liberation.specs.Plans.{Step}
 use Rattle.liberation.specs.Judging.{accepted}
 use Rattle.liberation.specs.balanced_plan.Balanced.{readsOf, balancedPlan, fairShare}
 
--- A part-filled array in which (p - 1)/2 data disks stand before the lost one, or as many after it: no disk gives more than the fair share in the balanced plan, and in every accepted plan some surviving data disk gives that much.
+-- A part-filled array in which (p - 1)/2 data disks stand before the lost one, or as many after it:
+-- no disk gives more than the fair share in the balanced plan, and in every accepted plan some
+-- surviving data disk gives that much.
 pub record BalancedQuiet (p k f : ℕ) : Type 0 where
   pub balanced-shares : (c : ℕ) → c < k + 2 → readsOf p k f c (balancedPlan p k f) ≤ fairShare p
   pub busiest : (ss : List Step) → accepted p k f ss ≡ true → (c : ℕ) × (c < k) × (c ≡ f → ⊥) × (fairShare p ≤ readsOf p k f c ss)

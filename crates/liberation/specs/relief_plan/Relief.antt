@@ -1,6 +1,9 @@
--- Progression plans for a lost data disk f: the rows that take a diagonal are a + g, a + 2g, .. a + hg mod p, where 2a + 1 = f mod p and h = (p - 1)/2. The step g, from 1 to p - 1, is free:
--- every such plan reads as few cells as ours in a full array, and a disk that is x steps of g from f is relieved min(x, p - x) of its p cells.
--- The relief plan is the one with step 2(c - f): disk c is then (p + 1)/2 steps from f, so it is relieved as much as any plan can relieve it.
+-- Progression plans for a lost data disk f: the rows that take a diagonal are a + g, a + 2g, .. a +
+-- hg mod p, where 2a + 1 = f mod p and h = (p - 1)/2. The step g, from 1 to p - 1, is free:
+-- every such plan reads as few cells as ours in a full array, and a disk that is x steps of g from
+-- f is relieved min(x, p - x) of its p cells.
+-- The relief plan is the one with step 2(c - f): disk c is then (p + 1)/2 steps from f, so it is
+-- relieved as much as any plan can relieve it.
 use mathlib.Core.Path.{_≡_}
 use mathlib.Core.Bool.{Bool, true, false, _||_}
 use mathlib.Core.List.{List, [], _∷_, _++_}
@@ -19,7 +22,8 @@ unfoldable pub inSteps : ℕ → ℕ → ℕ → ℕ → ℕ → Bool
 inSteps zero p a g j = false
 inSteps (suc n) p a g j = eqb j ((a + g * suc n) % p) || inSteps n p a g j
 
--- the routes of m rows from j on: 2 for a diagonal, in the rows that n steps of g from row a come to, 1 for a row set
+-- the routes of m rows from j on: 2 for a diagonal, in the rows that n steps of g from row a come
+-- to, 1 for a row set
 unfoldable pub stepRoutes : ℕ → ℕ → ℕ → ℕ → ℕ → ℕ → List ℕ
 stepRoutes zero n p a g j = []
 stepRoutes (suc m) n p a g j = pick (inSteps n p a g j) 2 1 ∷ stepRoutes m n p a g (suc j)
@@ -32,7 +36,8 @@ startRow p f = secondRow p ((f + p - 1) % p)
 abbrev pub progressionRoutes : ℕ → ℕ → ℕ → List ℕ
 progressionRoutes p f g = stepRoutes p ((p - 1) / 2) p (startRow p f) g 0
 
--- the progression plan with step g: row-set steps first, rows upward, then diagonal steps, rows upward; for P (disk k) and Q (disk k + 1) it is ours
+-- the progression plan with step g: row-set steps first, rows upward, then diagonal steps, rows
+-- upward; for P (disk k) and Q (disk k + 1) it is ours
 unfoldable pub progressionPlan : ℕ → ℕ → ℕ → ℕ → List Step
 progressionPlan p k f g = pick (ltb f k) (rowSteps 0 (progressionRoutes p f g) ++ diagonalSteps p f 0 (progressionRoutes p f g)) (allOf p (f - k) 0)
 
@@ -52,7 +57,9 @@ reliefPlan p k f c = progressionPlan p k f (reliefStep p f c)
 abbrev pub distance : ℕ → ℕ → ℕ
 distance p x = pick (leb x (p - x)) x (p - x)
 
--- What is claimed of the progression plan with step g for lost data disk f, in an array with k data disks: it is accepted, and what each disk gives and what is read in all is told beforehand, r being the inverse of g.
+-- What is claimed of the progression plan with step g for lost data disk f, in an array with k data
+-- disks: it is accepted, and what each disk gives and what is read in all is told beforehand, r
+-- being the inverse of g.
 -- In a full array no accepted plan reads less.
 pub record Progression (p k f g : ℕ) : Type 0 where
   pub is-accepted : accepted p k f (progressionPlan p k f g) ≡ true
@@ -72,7 +79,9 @@ Plans-progression = (p k f g : ℕ) → isWidth p ≡ true → k ≤ p → f < k
 abbrev pub Parity-ours : Type 0
 Parity-ours = (p k f g : ℕ) → k ≤ f → progressionPlan p k f g ≡ planOf p k f
 
--- What is claimed of the plan that relieves data disk c while data disk f is lost: it is accepted, asks (p + 1)/2 cells of disk c, and no accepted plan asks less of it; and in a full array no accepted plan reads less in all.
+-- What is claimed of the plan that relieves data disk c while data disk f is lost: it is accepted,
+-- asks (p + 1)/2 cells of disk c, and no accepted plan asks less of it; and in a full array no
+-- accepted plan reads less in all.
 pub record Relief (p k f c : ℕ) : Type 0 where
   pub is-accepted : accepted p k f (reliefPlan p k f c) ≡ true
   pub relieved : 2 * readsOf p k f c (reliefPlan p k f c) ≡ p + 1
@@ -84,11 +93,13 @@ pub record Relief (p k f c : ℕ) : Type 0 where
 abbrev pub Plans-relief : Type 0
 Plans-relief = (p k f c : ℕ) → isWidth p ≡ true → k ≤ p → f < k → c < k → (c ≡ f → ⊥) → Relief p k f c
 
--- whatever disk is lost, every accepted plan asks (p + 1)/2 cells at least of every surviving data disk
+-- whatever disk is lost, every accepted plan asks (p + 1)/2 cells at least of every surviving data
+-- disk
 abbrev pub Half-asked : Type 0
 Half-asked = (p k f c : ℕ) (ss : List Step) → isWidth p ≡ true → k ≤ p → f ≤ k + 1 → c < k → (c ≡ f → ⊥) → accepted p k f ss ≡ true → p + 1 ≤ 2 * readsOf p k f c ss
 
--- An array with p - 1 data disks: the progression plan with step f + 1 reads (3p² - 4p + 5)/4 cells, and no accepted plan reads less.
+-- An array with p - 1 data disks: the progression plan with step f + 1 reads (3p² - 4p + 5)/4
+-- cells, and no accepted plan reads less.
 pub record OneShort (p f : ℕ) : Type 0 where
   pub is-accepted : accepted p (p - 1) f (progressionPlan p (p - 1) f (f + 1)) ≡ true
   pub count : 4 * readCount p (p - 1) f (progressionPlan p (p - 1) f (f + 1)) + 4 * p ≡ 3 * (p * p) + 5

@@ -1,4 +1,5 @@
--- What the verdict on a stripe claims, in terms of clean stripes alone (document 02, asks 2 and 11).
+-- What the verdict on a stripe claims, in terms of clean stripes alone (document 02, asks 2 and
+-- 11).
 use mathlib.Core.Path.{_≡_}
 use mathlib.Core.Bool.{true, false}
 use mathlib.Core.List.{List}

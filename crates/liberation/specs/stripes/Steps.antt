@@ -1,4 +1,5 @@
--- Steps over cells: each writes one cell as the XOR of the others of a set. A plan's steps for a lost disk are such, and those for two lost disks.
+-- Steps over cells: each writes one cell as the XOR of the others of a set. A plan's steps for a
+-- lost disk are such, and those for two lost disks.
 use mathlib.Core.Bool.{Bool, _||_, not}
 use mathlib.Core.List.{List, [], _∷_}
 use Prim.Native.Nat.{ℕ}

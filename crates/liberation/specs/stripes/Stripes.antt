@@ -1,4 +1,5 @@
--- Stripes (document 01, "Stripe and sets"): p rows, k data disks, cells of s bytes, one after another by place. Clean stripes, encoding, rebuilding one disk.
+-- Stripes (document 01, "Stripe and sets"): p rows, k data disks, cells of s bytes, one after
+-- another by place. Clean stripes, encoding, rebuilding one disk.
 use mathlib.Core.Bool.{Bool, _&&_}
 use mathlib.Core.List.{List, [], _∷_, _++_}
 use Prim.Native.Nat.{ℕ, suc, _+_, _*_}
@@ -11,7 +12,8 @@ use Rattle.mathematics.specs.Xor.{xorL, allBytes}
 use Rattle.liberation.specs.Sets.{place, setOf}
 use Rattle.liberation.specs.Plans.{Step, planOf}
 
--- the cell at place x of the stripe t: "Cell (i, c) .. starts at byte (c × p + i) × s"; and a stripe with the bytes new there
+-- the cell at place x of the stripe t: "Cell (i, c) .. starts at byte (c × p + i) × s"; and a
+-- stripe with the bytes new there
 abbrev pub cellAt : ℕ → List ℕ → ℕ → List ℕ
 cellAt s t x = take s (drop (x * s) t)
 
@@ -43,7 +45,8 @@ unfoldable pub without : ℕ → List ℕ → List ℕ
 without x [] = []
 without x (y ∷ ys) = pick (eqb x y) (without x ys) (y ∷ without x ys)
 
--- a step "rebuilds that row's cell of the lost disk by XOR of the set's other cells": the cell x becomes the XOR of the other cells of the set xs
+-- a step "rebuilds that row's cell of the lost disk by XOR of the set's other cells": the cell x
+-- becomes the XOR of the other cells of the set xs
 abbrev pub solved : ℕ → ℕ → List ℕ → List ℕ → List ℕ
 solved s x xs t = withCell s x (xorOver s (cellAt s t) (without x xs)) t
 
@@ -63,7 +66,8 @@ withColumn p s c col t = take (c * (p * s)) t ++ (col ++ drop (c * (p * s) + p *
 abbrev pub rebuiltBy : ℕ → ℕ → ℕ → ℕ → List Step → List ℕ → List ℕ
 rebuiltBy p k s f ss t = columnOf p s f (followed p k s f ss t)
 
--- "Rebuilding one disk follows our plan for it": the lost disk's column once our plan's steps are done. What the stripe holds for the lost disk does not matter (proofs/Rebuilding.antt).
+-- "Rebuilding one disk follows our plan for it": the lost disk's column once our plan's steps are
+-- done. What the stripe holds for the lost disk does not matter (proofs/Rebuilding.antt).
 unfoldable pub rebuilt : ℕ → ℕ → ℕ → ℕ → List ℕ → List ℕ
 rebuilt p k s f t = columnOf p s f (followed p k s f (planOf p k f) t)
 

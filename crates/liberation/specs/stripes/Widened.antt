@@ -1,4 +1,5 @@
--- A part-filled array's stripe in the full array (document 02, ask 1): "Data disks k to p - 1 are absent: their cells leave every set and count as zero."
+-- A part-filled array's stripe in the full array (document 02, ask 1): "Data disks k to p - 1 are
+-- absent: their cells leave every set and count as zero."
 use mathlib.Core.List.{List, _++_}
 use Prim.Native.Nat.{ℕ, _-_, _*_}
 use lib.ListN.{take, drop, replicate}

@@ -1,4 +1,5 @@
--- The steps of the rebuild of two lost disks as a list, and the test that every lost cell of a step's set but the one written stands before it.
+-- The steps of the rebuild of two lost disks as a list, and the test that every lost cell of a
+-- step's set but the one written stands before it.
 use mathlib.Core.Bool.{Bool, true, _&&_, _||_, not}
 use mathlib.Core.List.{List, [], _∷_, _++_}
 use Prim.Native.Nat.{ℕ, zero, suc, _-_}
@@ -26,7 +27,8 @@ rowParitySteps p k f = onDisk p f (upDiagonals p p f 0) ++ onDisk p k (allOf p 0
 abbrev pub diagonalParitySteps : ℕ → ℕ → ℕ → List CellStep
 diagonalParitySteps p k f = onDisk p f (allOf p 0 0) ++ onDisk p (suc k) (allOf p 1 0)
 
--- a rebuild of two lost disks: the cells that stand before its steps, the stripe that these are done on, and the steps
+-- a rebuild of two lost disks: the cells that stand before its steps, the stripe that these are
+-- done on, and the steps
 pub record PairPlan : Type 0 where
   pub first : List ℕ
   pub start : List ℕ → List ℕ
@@ -59,7 +61,8 @@ unfoldable pub allKnown : ℕ → ℕ → ℕ → List ℕ → List ℕ → Bool
 allKnown p a b done [] = true
 allKnown p a b done (x ∷ xs) = isKnown p a b done x && allKnown p a b done xs
 
--- the set exists and holds the lost cell, which does not stand yet, and all its other cells are known
+-- the set exists and holds the lost cell, which does not stand yet, and all its other cells are
+-- known
 unfoldable pub stepStands : ℕ → ℕ → ℕ → ℕ → List ℕ → CellStep → Bool
 stepStands p k a b done c =
     (leb (c .kind) 1 && ltb (c .number) p)

@@ -1,5 +1,7 @@
--- Rebuilding two lost disks in place (document 01, "Two lost disks"): p rows, k data disks, cells of s bytes.
--- Two data disks x and y are walked: from row r, D (r - x) leads to the row of its cell on disk y, and the row set of that row to its cell on disk x.
+-- Rebuilding two lost disks in place (document 01, "Two lost disks"): p rows, k data disks, cells
+-- of s bytes.
+-- Two data disks x and y are walked: from row r, D (r - x) leads to the row of its cell on disk y,
+-- and the row set of that row to its cell on disk x.
 use mathlib.Core.Bool.{Bool, false, _&&_, _||_}
 use mathlib.Core.List.{List, [], _∷_, _++_}
 use Prim.Native.Nat.{ℕ, zero, suc, _+_, _-_, _*_, _/_, _%_}
@@ -18,7 +20,8 @@ unfoldable pub startSets : ℕ → ℕ → ℕ → ℕ → ℕ → ℕ → List 
 startSets zero p k x y r = []
 startSets (suc n) p k x y r = rowSet p k r ++ (diagonalSet p k (diagonalOf p x r) ++ startSets n p k x y (nextRow p x y r))
 
--- Where y is disk 0, all 2p sets give the cell of disk x in row e, the row of the extra cell on x. Otherwise (p - 1)/2 rows from that of the extra cell on y give the cell of disk y in row e.
+-- Where y is disk 0, all 2p sets give the cell of disk x in row e, the row of the extra cell on x.
+-- Otherwise (p - 1)/2 rows from that of the extra cell on y give the cell of disk y in row e.
 abbrev pub startCount : ℕ → ℕ → ℕ
 startCount p y = pick (eqb y 0) p ((p - 1) / 2)
 
@@ -60,14 +63,16 @@ unfoldable pub comesToOne : ℕ → ℕ → ℕ → ℕ → Bool
 comesToOne zero p d r = false
 comesToOne (suc n) p d r = eqb r 1 || comesToOne n p d ((r + d) % p)
 
--- "so chosen that the walk goes through": for a < b, from a to b exactly if a > 0 and 1 is one of the first (p - 1)/2 multiples of b - a
+-- "so chosen that the walk goes through": for a < b, from a to b exactly if a > 0 and 1 is one of
+-- the first (p - 1)/2 multiples of b - a
 abbrev pub forward : ℕ → ℕ → ℕ → Bool
 forward p a b = leb 1 a && comesToOne ((p - 1) / 2) p (b - a) (b - a)
 
 abbrev pub dataSolved : ℕ → ℕ → ℕ → ℕ → ℕ → List ℕ → List ℕ
 dataSolved p k s a b t = pick (forward p a b) (walked p k s a b t) (walked p k s b a t)
 
--- A data disk f and P: f by its diagonals, then P by the row sets. The rows go upward, since where the extra cell of a row's diagonal is on f too, it is in a lower row.
+-- A data disk f and P: f by its diagonals, then P by the row sets. The rows go upward, since where
+-- the extra cell of a row's diagonal is on f too, it is in a lower row.
 unfoldable pub upDiagonals : ℕ → ℕ → ℕ → ℕ → List Step
 upDiagonals zero p f j = []
 upDiagonals (suc n) p f j = step j 1 (diagonalOf p f j) ∷ upDiagonals n p f (suc j)
@@ -75,7 +80,8 @@ upDiagonals (suc n) p f j = step j 1 (diagonalOf p f j) ∷ upDiagonals n p f (s
 abbrev pub withRowParity : ℕ → ℕ → ℕ → ℕ → List ℕ → List ℕ
 withRowParity p k s f t = followed p k s k (allOf p 0 0) (followed p k s f (upDiagonals p p f 0) t)
 
--- A data disk f, or P, and Q: f by the row sets, then Q by the diagonal sets. With P this is encoding.
+-- A data disk f, or P, and Q: f by the row sets, then Q by the diagonal sets. With P this is
+-- encoding.
 abbrev pub withDiagonalParity : ℕ → ℕ → ℕ → ℕ → List ℕ → List ℕ
 withDiagonalParity p k s f t = followed p k s (suc k) (allOf p 1 0) (followed p k s f (allOf p 0 0) t)
 

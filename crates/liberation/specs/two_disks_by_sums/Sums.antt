@@ -1,4 +1,5 @@
--- Two lost data disks x and y: the start's sets are summed into the lost cells that they will give, and the walk's last steps add to them what the sets have of other lost cells.
+-- Two lost data disks x and y: the start's sets are summed into the lost cells that they will give,
+-- and the walk's last steps add to them what the sets have of other lost cells.
 use mathlib.Core.List.{List, [], _∷_, _++_}
 use Prim.Native.Nat.{ℕ, zero, suc, _-_, _/_}
 use Rattle.liberation.specs.Sets.{place, rowSet, lostIn, survivingIn, setOf}
@@ -30,14 +31,15 @@ summedAll p k s x y [] t = t
 summedAll p k s x y (c ∷ cs) t = summedAll p k s x y cs (summed p k s x y c t)
 
 -- a step's cell becomes the XOR of its set's lost cells, of which it is one
-abbrev pub added : ℕ → ℕ → ℕ → ℕ → ℕ → CellStep → List ℕ → List ℕ
-added p k s x y c t = withCell s (c .cell) (xorOver s (cellAt s t) (lostCells p x y (setOf p k (c .kind) (c .number)))) t
+abbrev pub sumAdded : ℕ → ℕ → ℕ → ℕ → ℕ → CellStep → List ℕ → List ℕ
+sumAdded p k s x y c t = withCell s (c .cell) (xorOver s (cellAt s t) (lostCells p x y (setOf p k (c .kind) (c .number)))) t
 
 unfoldable pub addedAll : ℕ → ℕ → ℕ → ℕ → ℕ → List CellStep → List ℕ → List ℕ
 addedAll p k s x y [] t = t
-addedAll p k s x y (c ∷ cs) t = addedAll p k s x y cs (added p k s x y c t)
+addedAll p k s x y (c ∷ cs) t = addedAll p k s x y cs (sumAdded p k s x y c t)
 
--- the start's sets with the cells that they give: R r gives (r, x), and D (r - x) the cell of disk y in the next row
+-- the start's sets with the cells that they give: R r gives (r, x), and D (r - x) the cell of disk
+-- y in the next row
 unfoldable pub startSteps : ℕ → ℕ → ℕ → ℕ → ℕ → List CellStep
 startSteps zero p x y r = []
 startSteps (suc n) p x y r = cellStep (place p r x) 0 r ∷ (cellStep (place p (nextRow p x y r) y) 1 (diagonalOf p x r) ∷ startSteps n p x y (nextRow p x y r))
@@ -51,7 +53,8 @@ unfoldable pub cellsOf : List CellStep → List ℕ
 cellsOf [] = []
 cellsOf (c ∷ cs) = c .cell ∷ cellsOf cs
 
--- the start's steps: (p - 1)/2 rows from that of the extra cell on y on. The last of them gives the first cell of the walk
+-- the start's steps: (p - 1)/2 rows from that of the extra cell on y on. The last of them gives the
+-- first cell of the walk
 abbrev pub sumSteps : ℕ → ℕ → ℕ → List CellStep
 sumSteps p x y = startSteps ((p - 1) / 2) p x y (extraRowOn p y)
 
@@ -63,7 +66,8 @@ firstAdded p s x y t = withCell s (place p (extraRowOn p x) y) (xorOver s (cellA
 abbrev pub sumStarted : ℕ → ℕ → ℕ → ℕ → ℕ → List ℕ → List ℕ
 sumStarted p k s x y t = firstAdded p s x y (summedAll p k s x y (sumSteps p x y) t)
 
--- then the other cell of the first cell's row, the walk until the cell of disk y in the row of its extra cell stands, and the last steps
+-- then the other cell of the first cell's row, the walk until the cell of disk y in the row of its
+-- extra cell stands, and the last steps
 abbrev pub sumWalked : ℕ → ℕ → ℕ → ℕ → ℕ → List ℕ → List ℕ
 sumWalked p k s x y t =
     addedAll p k s x y (lastSteps ((p - 1) / 2 - 1) p x y)

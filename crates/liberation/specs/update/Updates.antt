@@ -1,4 +1,6 @@
--- Updating one data cell (document 02, asks 4 and 9): p rows, k data disks, cells of s bytes. What is added to the cell is added to the P cell of its row and to the Q cell of each diagonal that holds it.
+-- Updating one data cell (document 02, asks 4 and 9): p rows, k data disks, cells of s bytes. What
+-- is added to the cell is added to the P cell of its row and to the Q cell of each diagonal that
+-- holds it.
 use mathlib.Core.Bool.{Bool, _&&_}
 use mathlib.Core.List.{List, [], _∷_}
 use Prim.Native.Nat.{ℕ, suc}
@@ -13,7 +15,8 @@ use Rattle.liberation.specs.stripes.Stripes.{cellAt, withCell}
 abbrev pub isExtra : ℕ → ℕ → ℕ → Bool
 isExtra p r c = leb 1 (extraRow p r) && eqb (extraDisk p (extraRow p r)) c
 
--- the diagonals that hold data cell (r, c): the one on which it is ordinary, and the one whose extra cell it is
+-- the diagonals that hold data cell (r, c): the one on which it is ordinary, and the one whose
+-- extra cell it is
 unfoldable pub holders : ℕ → ℕ → ℕ → List ℕ
 holders p r c = diagonalOf p c r ∷ pick (isExtra p r c) (extraRow p r ∷ []) []
 
@@ -39,7 +42,8 @@ change s x new t = xorL (cellAt s t x) new
 unfoldable pub updated : ℕ → ℕ → ℕ → ℕ → ℕ → List ℕ → List ℕ → List ℕ
 updated p k s r c new t = withCell s (place p r c) new (addedEach s (change s (place p r c) new t) (parityOf p k r c) t)
 
--- The same without scratch: the cell takes the change first, its bytes are added to the parity cells, then it takes the new bytes.
+-- The same without scratch: the cell takes the change first, its bytes are added to the parity
+-- cells, then it takes the new bytes.
 unfoldable pub addedFrom : ℕ → ℕ → List ℕ → List ℕ → List ℕ
 addedFrom s x [] t = t
 addedFrom s x (y ∷ ys) t = addedFrom s x ys (withCell s y (xorL (cellAt s t y) (cellAt s t x)) t)

@@ -1,4 +1,5 @@
--- The bits of a word: those of an XOR differ where those of the two words do, and a power of two has one alone.
+-- The bits of a word: those of an XOR differ where those of the two words do, and a power of two
+-- has one alone.
 use mathlib.Core.Path.{_≡_, refl, sym, ap, _∙_}
 use mathlib.Core.Bool.{false}
 use mathlib.Core.Logic.{⊎-elim}

@@ -1,4 +1,5 @@
--- Sums of bits: they are added term by term, two of them may be exchanged, and a term that stands alone is the sum.
+-- Sums of bits: they are added term by term, two of them may be exchanged, and a term that stands
+-- alone is the sum.
 use mathlib.Core.Path.{_≡_, refl, sym, ap, ap₂, _∙_}
 use mathlib.Core.Bool.{Bool, true, false, _&&_, _||_, not}
 use mathlib.Core.Logic.{⊎-elim}

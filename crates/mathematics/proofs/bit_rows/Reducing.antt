@@ -1,5 +1,7 @@
--- Equations over bits, reduced: at every time each row is the sum of the given equations that its second word names, and what solves all rows solves all given equations.
--- Where all unknowns are done, row b holds unknown b alone; where one cannot be done, a vector that is not zero solves all given equations.
+-- Equations over bits, reduced: at every time each row is the sum of the given equations that its
+-- second word names, and what solves all rows solves all given equations.
+-- Where all unknowns are done, row b holds unknown b alone; where one cannot be done, a vector that
+-- is not zero solves all given equations.
 use mathlib.Core.Path.{_≡_, refl, sym, ap, ap₂, subst, _∙_}
 use mathlib.Core.Bool.{Bool, true, false, _&&_, _||_, not, and-false, and-true}
 use mathlib.Core.Logic.{_⊎_, inl, inr, ⊎-elim}
@@ -210,7 +212,8 @@ module _ (n m : ℕ) (given : ℕ → ℕ → Bool) where
       alone : (a e : ℕ) → a < n → e < suc b → has (columnDone n b j r) a e ≡ eqb a e
       alone a e l k = ⊎-elim (λ q. c .ready .alone a e l q) (λ q. let w : e ≡ b = omega arith in ap (has (columnDone n b j r) a) w ∙ c .only a l ∙ ap (eqb a) (sym w)) (lt-or-le e b)
 
-  -- ---- an unknown that no row from its own on has: the vector of it and of those before it whose rows have it solves everything
+  -- ---- an unknown that no row from its own on has: the vector of it and of those before it whose
+  -- rows have it solves everything
   pub record Dependent : Type 0 where
     pub unknown : ℕ
     pub below : unknown < m
@@ -358,7 +361,8 @@ module _ (n m : ℕ) (given : ℕ → ℕ → Bool) (r : Rows) (lw : length (r .
           to-one n j _ l (λ i h q. ap (λ (t : Bool). t && given i b) (own j i l ∙ ne-eqb i j q))
           ∙ ap (λ (t : Bool). t && given j b) (own j j l ∙ eq-eqb j j refl)
 
-  -- all unknowns are done, each alone in its row, or a vector that is not zero solves all given equations
+  -- all unknowns are done, each alone in its row, or a vector that is not zero solves all given
+  -- equations
   pub reduces : ((reducedFrom m n 0 r .done ≡ m) × Solved n m given (reducedFrom m n 0 r .left)) ⊎ ((reducedFrom m n 0 r .done < m) × Dependent n m given)
   unfolding Outcome
   reduces = from-b n m given m 0 r (omega arith) (omega arith) start

@@ -1,4 +1,5 @@
--- Sums of bits: truth values that are added, the sum of those of [0, n) and of those of a list, and the bits of a word.
+-- Sums of bits: truth values that are added, the sum of those of [0, n) and of those of a list, and
+-- the bits of a word.
 use mathlib.Core.Bool.{Bool, true, false, not}
 use mathlib.Core.List.{List, [], _∷_}
 use Prim.Native.Nat.{ℕ, zero, suc, _/_, _%_, _^_}

@@ -1,5 +1,7 @@
--- Equations over bits, one a row: bit b of a row's word says that unknown b is in it, and bit i of its second word that the given equation i was added to make it.
--- They are reduced one unknown after another, and the only step is that one row is added to another.
+-- Equations over bits, one a row: bit b of a row's word says that unknown b is in it, and bit i of
+-- its second word that the given equation i was added to make it.
+-- They are reduced one unknown after another, and the only step is that one row is added to
+-- another.
 use mathlib.Core.Bool.{Bool, not, _&&_}
 use mathlib.Core.List.{List}
 use Prim.Native.Nat.{ℕ, zero, suc, _-_}

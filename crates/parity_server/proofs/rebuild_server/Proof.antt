@@ -1,15 +1,16 @@
--- `rebuild_server`: a refusal leaves the stripes as they were; else the others' losses are mended, and then the lost server's stripe becomes the XOR of the others.
+-- `rebuild_server`: a refusal leaves the stripes as they were; else the others' losses are mended,
+-- and then the lost server's stripe becomes the XOR of the others.
 use mathlib.Core.Path.{_≡_, sym, _∙_}
 use mathlib.Core.Bool.{true}
 use Prim.Native.Nat.{_+_, _*_, _≤_}
 use native.Mathlib.Omega.{arith}
 use borrow.Author.Needs.{needs}
 use Rattle.mathematics.specs.Xor.{allBytes}
-use Rattle.liberation.specs.parity_server.Servers.{rebuildFault}
-use Rattle.liberation.specs.parity_server.Claims.{Given, GivenLosses}
-use Rattle.liberation.proofs.parity_server.RefusalLaws.{rebuild-of, rebuild-losses}
+use Rattle.liberation.specs.parity_server.Servers.{rebuildRefusal}
+use Rattle.liberation.specs.parity_server.ServerClaims.{Given, GivenLosses}
+use Rattle.liberation.proofs.parity_server.ServerRefusalLaws.{rebuild-of, rebuild-losses}
 use Rattle.xor.proofs.SourceLaws.{bytes-all}
-use Rattle.parity_server.proofs.ServerRefusals.{given-small, given-long, rebuild-tests, rebuild-refused, rebuild-done}
+use Rattle.parity_server.proofs.ServerCallRefusals.{given-small, given-long, rebuild-tests, rebuild-refused, rebuild-done}
 use Rattle.parity_server.proofs.rebuild_server.Statement.{statement}
 use Rattle.parity_server.proofs.rebuild_server.Tie as tie
 
@@ -18,20 +19,20 @@ bytes : (c : tie.After-shared-slice-known) → let a = c .before .before .args i
 bytes c = let a = c .before .before .args in (bytes-all (a .stripes .now) (c .before .slice-known .given), bytes-all (a .losses .now) (c .shared-slice-known .given))
 
 -- what was tested are the refusals of the call
-tested : (c : tie.After-rebuild-fault) → let a = c .before .before .before .args in c .rebuild-fault .result ≡ rebuildFault (a .shape .width) (a .shape .disks) (a .shape .«cell_size») (a .servers) (a .lost) (a .losses .now) (a .stripes .now)
+tested : (c : tie.After-rebuild-refusal) → let a = c .before .before .before .args in c .rebuild-refusal .result ≡ rebuildRefusal (a .shape .width) (a .shape .disks) (a .shape .«cell_size») (a .servers) (a .lost) (a .losses .now) (a .stripes .now)
 tested c =
     let a = c .before .before .before .args in
-    rebuild-tests (a .shape .width) (a .shape .disks) (a .shape .«cell_size») (a .servers) (a .stripes .now) (a .lost) (a .losses .now) (c .rebuild-fault .result) (c .rebuild-fault .ensures)
+    rebuild-tests (a .shape .width) (a .shape .disks) (a .shape .«cell_size») (a .servers) (a .stripes .now) (a .lost) (a .losses .now) (c .rebuild-refusal .result) (c .rebuild-refusal .ensures)
 
 returns : tie.Need-returns
 returns c =
     let f = c .before .before in
     let b = bytes (f .before) in
     let a = f .before .before .before .args in
-    rebuild-refused (a .shape .width) (a .shape .disks) (a .shape .«cell_size») (a .servers) (a .stripes .now) (a .lost) (a .losses .now) (f .rebuild-fault .result) (c .answered .result) (tested f) (c .before .if1 .taken) (c .answered .ensures) (b .0) (b .1)
+    rebuild-refused (a .shape .width) (a .shape .disks) (a .shape .«cell_size») (a .servers) (a .stripes .now) (a .lost) (a .losses .now) (f .rebuild-refusal .result) (c .answered .result) (tested f) (c .before .if1 .taken) (c .answered .ensures) (b .0) (b .1)
 
 -- past the refusals
-passed : (c : tie.Else1) → let a = c .before .before .before .before .args in rebuildFault (a .shape .width) (a .shape .disks) (a .shape .«cell_size») (a .servers) (a .lost) (a .losses .now) (a .stripes .now) ≡ 0
+passed : (c : tie.Else1) → let a = c .before .before .before .before .args in rebuildRefusal (a .shape .width) (a .shape .disks) (a .shape .«cell_size») (a .servers) (a .lost) (a .losses .now) (a .stripes .now) ≡ 0
 passed c = sym (tested (c .before)) ∙ c .if1 .left
 
 given : (c : tie.Else1) → let a = c .before .before .before .before .args in Given (a .shape .width) (a .shape .disks) (a .shape .«cell_size») (a .servers) (a .stripes .now)

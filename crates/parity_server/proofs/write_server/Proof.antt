@@ -1,15 +1,16 @@
--- `write_server`: a refusal leaves the stripes as they were; else the extra one becomes the XOR of the others.
+-- `write_server`: a refusal leaves the stripes as they were; else the extra one becomes the XOR of
+-- the others.
 use mathlib.Core.Path.{_≡_, refl, sym, _∙_}
 use mathlib.Core.Bool.{true}
 use Prim.Native.Nat.{_+_, _*_, _≤_}
 use native.Mathlib.Omega.{arith}
 use borrow.Author.Needs.{needs}
 use Rattle.mathematics.specs.Xor.{allBytes}
-use Rattle.liberation.specs.parity_server.Servers.{writeFault}
-use Rattle.liberation.specs.parity_server.Claims.{Given}
-use Rattle.liberation.proofs.parity_server.RefusalLaws.{write-of}
+use Rattle.liberation.specs.parity_server.Servers.{writeRefusal}
+use Rattle.liberation.specs.parity_server.ServerClaims.{Given}
+use Rattle.liberation.proofs.parity_server.ServerRefusalLaws.{write-of}
 use Rattle.xor.proofs.SourceLaws.{bytes-all}
-use Rattle.parity_server.proofs.ServerRefusals.{given-small, given-long, write-tests, write-refused, write-done}
+use Rattle.parity_server.proofs.ServerCallRefusals.{given-small, given-long, write-tests, write-refused, write-done}
 use Rattle.parity_server.proofs.write_server.Statement.{statement}
 use Rattle.parity_server.proofs.write_server.Tie as tie
 
@@ -18,17 +19,17 @@ bytes : (c : tie.After-slice-known) → allBytes (c .before .args .stripes .now)
 bytes c = bytes-all (c .before .args .stripes .now) (c .slice-known .given)
 
 -- what was tested are the refusals of the call
-tested : (c : tie.After-call-fault) → let a = c .before .before .args in c .call-fault .result ≡ writeFault (a .shape .width) (a .shape .disks) (a .shape .«cell_size») (a .servers) (a .stripes .now)
-tested c = let a = c .before .before .args in write-tests (a .shape .width) (a .shape .disks) (a .shape .«cell_size») (a .servers) (a .stripes .now) (c .call-fault .result) (c .call-fault .ensures)
+tested : (c : tie.After-call-refusal) → let a = c .before .before .args in c .call-refusal .result ≡ writeRefusal (a .shape .width) (a .shape .disks) (a .shape .«cell_size») (a .servers) (a .stripes .now)
+tested c = let a = c .before .before .args in write-tests (a .shape .width) (a .shape .disks) (a .shape .«cell_size») (a .servers) (a .stripes .now) (c .call-refusal .result) (c .call-refusal .ensures)
 
 returns : tie.Need-returns
 returns c =
     let f = c .before .before in
     let a = f .before .before .args in
-    write-refused (a .shape .width) (a .shape .disks) (a .shape .«cell_size») (a .servers) (a .stripes .now) (f .call-fault .result) (c .answered .result) (tested f) (c .before .if1 .taken) (c .answered .ensures) (bytes (f .before))
+    write-refused (a .shape .width) (a .shape .disks) (a .shape .«cell_size») (a .servers) (a .stripes .now) (f .call-refusal .result) (c .answered .result) (tested f) (c .before .if1 .taken) (c .answered .ensures) (bytes (f .before))
 
 -- past the refusals
-passed : (c : tie.Else1) → let a = c .before .before .before .args in writeFault (a .shape .width) (a .shape .disks) (a .shape .«cell_size») (a .servers) (a .stripes .now) ≡ 0
+passed : (c : tie.Else1) → let a = c .before .before .before .args in writeRefusal (a .shape .width) (a .shape .disks) (a .shape .«cell_size») (a .servers) (a .stripes .now) ≡ 0
 passed c = sym (tested (c .before)) ∙ c .if1 .left
 
 given : (c : tie.Else1) → let a = c .before .before .before .args in Given (a .shape .width) (a .shape .disks) (a .shape .«cell_size») (a .servers) (a .stripes .now)

@@ -1,4 +1,5 @@
--- `cell_in_row`: the places of the definition, cell by cell; all are small in the widest array, so no product wraps.
+-- `cell_in_row`: the places of the definition, cell by cell; all are small in the widest array, so
+-- no product wraps.
 use mathlib.Core.Path.{ap, _∙_}
 use Prim.Native.Nat.{ℕ, _+_, _*_, _<_}
 use native.Mathlib.Nat.{mod-lt}

@@ -1,4 +1,5 @@
--- `diagonal_of`: the width is added before the disk is taken away, and taken away again where that is too much.
+-- `diagonal_of`: the width is added before the disk is taken away, and taken away again where that
+-- is too much.
 use borrow.Author.Needs.{needs}
 use native.Mathlib.Omega.{arith}
 use Rattle.parity_sets.proofs.NumberLaws.{diagonal-after, diagonal-before}

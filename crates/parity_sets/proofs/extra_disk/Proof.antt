@@ -1,4 +1,5 @@
--- `extra_disk`: twice the number is below twice the width, so its remainder is itself or that less the width.
+-- `extra_disk`: twice the number is below twice the width, so its remainder is itself or that less
+-- the width.
 use mathlib.Core.Logic.{⊎-elim}
 use native.Mathlib.Omega.{arith}
 use borrow.Author.Needs.{needs}

@@ -1,4 +1,5 @@
--- `row_on`: below the width a sum is its own remainder, and below twice the width one subtraction does.
+-- `row_on`: below the width a sum is its own remainder, and below twice the width one subtraction
+-- does.
 use mathlib.Core.Path.{sym, _∙_}
 use Prim.Native.Nat.{_+_, _-_}
 use native.Mathlib.Nat.{mod-eq-of-lt, mod-eq-sub-mod}

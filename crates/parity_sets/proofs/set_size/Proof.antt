@@ -1,4 +1,5 @@
--- `set_size`: a row set and a diagonal without an extra cell have a cell of each data disk and one parity cell.
+-- `set_size`: a row set and a diagonal without an extra cell have a cell of each data disk and one
+-- parity cell.
 use Rattle.liberation.proofs.SetSizes.{size-row, size-none, size-extra, size-absent}
 use borrow.Author.Needs.{needs}
 use Rattle.parity_sets.proofs.set_size.Statement.{statement}

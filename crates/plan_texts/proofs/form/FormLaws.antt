@@ -1,4 +1,5 @@
--- Nothing but texts of the form is read: a readable text is put together as the form says, from the steps that are read.
+-- Nothing but texts of the form is read: a readable text is put together as the form says, from the
+-- steps that are read.
 use mathlib.Core.Path.{_≡_, refl, sym, ap, ap₂, subst, _∙_}
 use mathlib.Core.Bool.{Bool, true, false, _&&_, false≢true}
 use mathlib.Core.Logic.{⊎-elim}

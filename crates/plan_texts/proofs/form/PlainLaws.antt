@@ -13,8 +13,8 @@ use Rattle.mathematics.proofs.OrderLaws.{lt-or-le}
 use Rattle.liberation.specs.Plans.{Step}
 use Rattle.text.specs.Digits.{digitsOf}
 use Rattle.text.proofs.DigitLaws.{one-digit, two-digits}
-use Rattle.text.specs.steps.Fields.{letterOf}
-use Rattle.text.proofs.steps.FieldLaws.{step-most}
+use Rattle.text.specs.Fields.{letterOf}
+use Rattle.text.proofs.FieldLaws.{step-most}
 use Rattle.plan_texts.specs.form.Reading.{isDigit, valueFrom}
 use Rattle.plan_texts.specs.form.Plain.{plainLine, plainLines, plain, writable}
 use Rattle.plan_texts.specs.form.Form.{NumberText, LetterText, capital-r, capital-d, lf, LineText, line, LinesText, none, next, PlanText, text}

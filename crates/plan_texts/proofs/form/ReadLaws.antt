@@ -49,7 +49,8 @@ pub record LineRead (t rest : List ℕ) (s : Step) : Type 0 where
   pub read : lineIn (t ++ rest) .read ≡ s
   pub size : lineIn (t ++ rest) .size ≡ length t
 
--- its parts in their order: the row's digits ds, the letter b, the number's digits es, the end e, and the rest
+-- its parts in their order: the row's digits ds, the letter b, the number's digits es, the end e,
+-- and the rest
 module _ {ds es e : List ℕ} {b row kind number : ℕ} (ka : NumberText ds row) (kb : LetterText b kind) (kc : NumberText es number) (ke : EndText e) (rest : List ℕ) where
   abbrev whole : List ℕ
   whole = ds ++ (44 ∷ (b ∷ (44 ∷ (es ++ (e ++ rest)))))

@@ -1,4 +1,5 @@
--- Reading byte by byte and line by line, for a loop over a text: the bytes at and after a place, numbers by the tests of their bytes, one line more, sizes.
+-- Reading byte by byte and line by line, for a loop over a text: the bytes at and after a place,
+-- numbers by the tests of their bytes, one line more, sizes.
 use mathlib.Core.Path.{_≡_, refl, sym, ap, _∙_}
 use mathlib.Core.Bool.{Bool, true, false, _&&_, and-true, and-assoc, false≢true}
 use mathlib.Core.List.{List, [], _∷_, _++_}

@@ -49,11 +49,13 @@ plain-readable ss h = text-readable (plain-form ss h)
 pub plain-steps : (ss : List Step) → writable ss ≡ true → stepsRead (length ss) (plain ss) ≡ ss
 plain-steps ss h = text-steps (plain-form ss h)
 
--- equal plain forms have equal steps: plans "lead to the same plain text exactly when they name the same steps in the same order"
+-- equal plain forms have equal steps: plans "lead to the same plain text exactly when they name the
+-- same steps in the same order"
 pub plain-equal : (ss rs : List Step) → writable ss ≡ true → writable rs ≡ true → plain ss ≡ plain rs → ss ≡ rs
 plain-equal ss rs h k e = text-once (plain-form ss h) (plain-form rs k) e
 
--- Accepted plans: p steps, for a width p, k data disks and the lost disk f. "Also write an accepted plan in its one plain form"
+-- Accepted plans: p steps, for a width p, k data disks and the lost disk f. "Also write an accepted
+-- plan in its one plain form"
 module _ (p k f : ℕ) (w : isWidth p ≡ true) where
   pub accepted-readable : (ss : List Step) → accepted p k f ss ≡ true → readable p (plain ss) ≡ true
   accepted-readable ss h = ap (λ (n : ℕ). readable n (plain ss)) (sym (accepted-length p k f ss h)) ∙ plain-readable ss (accepted-writable p k f ss w h)

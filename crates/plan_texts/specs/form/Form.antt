@@ -1,4 +1,5 @@
--- The form of a plan's text, sentence by sentence (document 02, ask 14), as what a text is put together from; `readable` is the test of it from the front.
+-- The form of a plan's text, sentence by sentence (document 02, ask 14), as what a text is put
+-- together from; `readable` is the test of it from the front.
 use mathlib.Core.Path.{_≡_}
 use mathlib.Core.Bool.{Bool, true, _&&_}
 use mathlib.Core.List.{List, [], _∷_, _++_}

@@ -1,4 +1,5 @@
--- Plans as text from the host (document 02, ask 14): which bytes are a plan's text, and the steps that they name. Each test is on the bytes left, t, from the front.
+-- Plans as text from the host (document 02, ask 14): which bytes are a plan's text, and the steps
+-- that they name. Each test is on the bytes left, t, from the front.
 use mathlib.Core.Bool.{Bool, true, _&&_}
 use mathlib.Core.List.{List, [], _∷_}
 use Prim.Native.Nat.{ℕ, zero, suc, _+_, _-_, _*_}

@@ -1,4 +1,5 @@
--- Texts that are plans' texts for p = 3 and texts that are not, a row each: what the definitions read of the text, and what is to be read.
+-- Texts that are plans' texts for p = 3 and texts that are not, a row each: what the definitions
+-- read of the text, and what is to be read.
 use mathlib.Core.Bool.{Bool, true, _&&_}
 use mathlib.Core.List.{List, [], _∷_}
 use Prim.Native.Nat.{ℕ}
@@ -14,7 +15,7 @@ unfoldable pub bytes : String → List ℕ
 bytes []ˢ = []
 bytes (c ∷ˢ s) = code c ∷ bytes s
 
-pub record Row : Type 0 where
+pub record TextExample : Type 0 where
   pub read : List ℕ
   pub wanted : List ℕ
 
@@ -22,21 +23,22 @@ pub record Row : Type 0 where
 abbrev pub readOf : String → List ℕ
 readOf s = pick (readable 3 (bytes s)) (1 ∷ stepBytes (stepsRead 3 (bytes s))) (0 ∷ [])
 
-abbrev pub good : String → List ℕ → Row
+abbrev pub good : String → List ℕ → TextExample
 good s w = record { read = readOf s; wanted = 1 ∷ w }
 
-abbrev pub bad : String → Row
+abbrev pub bad : String → TextExample
 bad s = record { read = readOf s; wanted = 0 ∷ [] }
 
--- R 0 for row 0, D 0 for row 1, D 1 for row 2; and with the last number 255, for the judge to refuse
+-- R 0 for row 0, D 0 for row 1, D 1 for row 2; and with the last number 255, for the judge to
+-- refuse
 abbrev pub ours : List ℕ
 ours = 0 ∷ (0 ∷ (0 ∷ (1 ∷ (1 ∷ (0 ∷ (2 ∷ (1 ∷ (1 ∷ []))))))))
 
 abbrev pub wide : List ℕ
 wide = 0 ∷ (0 ∷ (0 ∷ (1 ∷ (1 ∷ (0 ∷ (2 ∷ (1 ∷ (255 ∷ []))))))))
 
-unfoldable pub table : List Row
-table =
+unfoldable pub textTable : List TextExample
+textTable =
     good "row,set,number\n0,R,0\n1,D,0\n2,D,1\n" ours
     -- CR LF, mixed line ends, small letters, leading zeros, 255
     ∷ (good "row,set,number\r\n0,R,0\r\n1,D,0\r\n2,D,1\r\n" ours
@@ -73,7 +75,7 @@ table =
     ∷ (bad "row,set,number\n0,R,0\n1,D,0\n2,D,1\n "
     ∷ (bad "row,set,number\n0,R,0\n1,D,0\n2,D,1\n\0"
     -- the names line: capitals, missing, not ended, cut short; nothing at all
-    ∷ (bad "Row,set,number\n0,R,0\n1,D,0\n2,D,1\n"
+    ∷ (bad "TextExample,set,number\n0,R,0\n1,D,0\n2,D,1\n"
     ∷ (bad "ROW,SET,NUMBER\n0,R,0\n1,D,0\n2,D,1\n"
     ∷ (bad "0,R,0\n1,D,0\n2,D,1\n"
     ∷ (bad "row,set,number0,R,0\n1,D,0\n2,D,1\n"
@@ -84,13 +86,13 @@ table =
     ∷ [])))))))))))))))))))))))))))))))))))))
 
 -- every row agrees
-unfoldable pub agree : List Row → Bool
+unfoldable pub agree : List TextExample → Bool
 agree [] = true
 agree (r ∷ rs) = same (r .read) (r .wanted) && agree rs
 
 -- steps, and the plain form that is to be written for them
-abbrev pub written : List Step
-written = step 0 0 0 ∷ (step 10 1 0 ∷ (step 2 1 30 ∷ []))
+abbrev pub writtenSteps : List Step
+writtenSteps = step 0 0 0 ∷ (step 10 1 0 ∷ (step 2 1 30 ∷ []))
 
 unfoldable pub form : List ℕ
 form = bytes "row,set,number\n0,R,0\n10,D,0\n2,D,30\n"

@@ -1,4 +1,5 @@
--- `finished`: the record has the plan's steps, and its read count is what marking all of them counts.
+-- `finished`: the record has the plan's steps, and its read count is what marking all of them
+-- counts.
 use mathlib.Core.Path.{_≡_, refl, sym, ap, _∙_}
 use mathlib.Core.List.{List, []}
 use Prim.Native.Nat.{ℕ, _+_, _*_, _≤_}

@@ -1,4 +1,6 @@
--- `mark_steps`: each turn marks the set of the next step. The invariant: the marks stand for the cells read so far, and with the steps still to come they give all that the plan reads, whatever rows its steps have.
+-- `mark_steps`: each turn marks the set of the next step. The invariant: the marks stand for the
+-- cells read so far, and with the steps still to come they give all that the plan reads, whatever
+-- rows its steps have.
 use mathlib.Core.Path.{_≡_, refl, ap, _∙_}
 use mathlib.Core.List.{List, []}
 use Prim.Native.Nat.{ℕ, _+_, _-_, _*_, _≤_, _<_}
@@ -9,7 +11,7 @@ use Rattle.liberation.specs.Plans.{step}
 use Rattle.liberation.specs.Records.{recorded}
 use Rattle.liberation.proofs.MarkLists.{length-marks}
 use Rattle.liberation.proofs.RecordLaws.{length-recorded, recorded-at}
-use Rattle.planner.proofs.records.HeldLaws.{held-passed}
+use Rattle.planner.proofs.HeldLaws.{held-passed}
 use Rattle.planner.proofs.MarkingLoop.{Reading, reading-start, reading-turn, reading-end}
 use borrow.Author.Needs.{needs}
 use Rattle.planner.proofs.mark_steps.Statement.{statement}

@@ -1,19 +1,19 @@
 -- `plan_disk`: refusals 1, 13 and 3, else our plan with its reads counted.
 use mathlib.Core.Path.{_≡_, sym, _∙_}
 use borrow.Author.Needs.{needs}
-use Rattle.liberation.specs.Sets.{planFault}
-use Rattle.liberation.proofs.FaultLaws.{plan-of}
-use Rattle.planner.proofs.steps.PlannedLaws.{ours-held, ours-accepted}
+use Rattle.liberation.specs.Sets.{planRefusal}
+use Rattle.liberation.proofs.RefusalLaws.{plan-of}
+use Rattle.planner.proofs.PlannedLaws.{ours-held, ours-accepted}
 use Rattle.planner.proofs.PlanAnswers.{plan-gives, plan-refused}
 use Rattle.planner.proofs.plan_disk.Statement.{statement}
 use Rattle.planner.proofs.plan_disk.Tie as tie
 
 -- past the refusals
-none : (c : tie.Else1) → let a = c .before .before .args in planFault (a .width) (a .disks) (a .lost) ≡ 0
-none c = sym (c .before .plan-fault .ensures) ∙ c .if1 .left
+none : (c : tie.Else1) → let a = c .before .before .args in planRefusal (a .width) (a .disks) (a .lost) ≡ 0
+none c = sym (c .before .plan-refusal .ensures) ∙ c .if1 .left
 
 returns : tie.Need-returns
-returns c = let t = c .before in let q = t .before in let a = q .before .args in plan-refused (a .width) (a .disks) (a .lost) (q .plan-fault .result) (planFault (a .width) (a .disks) (a .lost)) _ _ (c .refused-plan .result) (q .plan-fault .ensures) (t .if1 .taken) (c .refused-plan .ensures)
+returns c = let t = c .before in let q = t .before in let a = q .before .args in plan-refused (a .width) (a .disks) (a .lost) (q .plan-refusal .result) (planRefusal (a .width) (a .disks) (a .lost)) _ _ (c .refused-plan .result) (q .plan-refusal .ensures) (t .if1 .taken) (c .refused-plan .ensures)
 
 our-plan-requires : tie.Need-our-plan-requires
 our-plan-requires c κs = let a = c .before .before .args in plan-of (a .width) (a .disks) (a .lost) (none c)
@@ -32,7 +32,7 @@ returns-2 c =
     let z = none (o .before) in
     let w = plan-of (a .width) (a .disks) (a .lost) z in
     let q = o .our-plan in
-    plan-gives (a .width) (a .disks) (a .lost) (planFault (a .width) (a .disks) (a .lost)) _ _ (c .finished .result) (q .result) z (q .ensures .answer) (q .ensures .steps) (q .ensures .routes) (ours-held (a .width) (a .disks) (a .lost) (q .result .steps) (w .0) (w .1) (q .ensures .steps)) (c .finished .ensures)
+    plan-gives (a .width) (a .disks) (a .lost) (planRefusal (a .width) (a .disks) (a .lost)) _ _ (c .finished .result) (q .result) z (q .ensures .answer) (q .ensures .steps) (q .ensures .routes) (ours-held (a .width) (a .disks) (a .lost) (q .result .steps) (w .0) (w .1) (q .ensures .steps)) (c .finished .ensures)
 
 pub plan-disk-spec : {M : Type 1} → statement M
 plan-disk-spec = tie.close (tie.spec (λ c κs. search needs) (λ c κs. search needs) returns our-plan-requires finished-requires returns-2)

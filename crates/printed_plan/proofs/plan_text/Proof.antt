@@ -4,10 +4,10 @@ use mathlib.Core.Bool.{true}
 use native.Mathlib.Omega.{arith}
 use borrow.Author.Tests.{not-true, not-false}
 use borrow.Author.Needs.{needs}
-use Rattle.liberation.proofs.FaultLaws.{plan-of}
-use Rattle.planner.proofs.steps.PlannedLaws.{held-as, planned-is}
-use Rattle.printed_plan.specs.input.Input.{isForm}
-use Rattle.printed_plan.proofs.TextAnswers.{fault-small, says-no-form, says-refusal, says-plan}
+use Rattle.liberation.proofs.RefusalLaws.{plan-of}
+use Rattle.planner.proofs.PlannedLaws.{held-as, planned-is}
+use Rattle.printed_plan.specs.Input.{isForm}
+use Rattle.printed_plan.proofs.TextAnswers.{refusal-small, says-no-form, says-refusal, says-plan}
 use Rattle.printed_plan.proofs.plan_text.Tie as tie
 use Rattle.printed_plan.proofs.plan_text.Statement.{statement}
 
@@ -22,7 +22,7 @@ refusal-text-requires-2 : tie.Need-refusal-text-requires-2
 refusal-text-requires-2 c κs =
     let d = c .before .before .before .before in
     let e = d .before in
-    omega (arith, d .plan-disk .ensures .answer .refusal, fault-small (e .before .before .before .first-value .result) (e .before .before .second-value .result))
+    omega (arith, d .plan-disk .ensures .answer .refusal, refusal-small (e .before .before .before .first-value .result) (e .before .before .second-value .result))
 
 returns-2 : tie.Need-returns-2
 returns-2 c =

@@ -1,8 +1,9 @@
--- `put_line`: the step's index, its three fields and its number of new cells, one behind the other, are the line.
+-- `put_line`: the step's index, its three fields and its number of new cells, one behind the other,
+-- are the line.
 use native.Mathlib.Omega.{arith}
 use borrow.Author.Needs.{needs}
 use Rattle.text.proofs.WriteLaws.{wrote-more, wrote-same}
-use Rattle.text.proofs.steps.FieldLaws.{field-most, step-most}
+use Rattle.text.proofs.FieldLaws.{field-most, step-most}
 use Rattle.printed_plan.proofs.TextLaws.{line-fields}
 use Rattle.printed_plan.proofs.put_line.Tie as tie
 use Rattle.printed_plan.proofs.put_line.Statement.{statement}

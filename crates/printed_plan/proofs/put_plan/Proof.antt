@@ -1,4 +1,5 @@
--- `put_plan`: the head line and the steps' lines, one behind the other, are the plan's text; 458 bytes have room for both.
+-- `put_plan`: the head line and the steps' lines, one behind the other, are the plan's text; 458
+-- bytes have room for both.
 use mathlib.Core.Path.{_≡_, sym, ap, _∙_}
 use mathlib.Core.List.{List, []}
 use Prim.Native.Nat.{ℕ, _+_, _*_, _≤_}

@@ -1,4 +1,5 @@
--- `put_steps`: each turn marks the set of the next step and writes its line. The invariant is LineLaws' `Printing`.
+-- `put_steps`: each turn marks the set of the next step and writes its line. The invariant is
+-- LineLaws' `Printing`.
 use mathlib.Core.Path.{_≡_, sym, ap, _∙_}
 use mathlib.Core.List.{[]}
 use Prim.Native.Nat.{_+_, _-_, _*_, _≤_}
@@ -9,7 +10,7 @@ use Rattle.liberation.specs.Plans.{planOf}
 use Rattle.liberation.proofs.MarkLists.{length-marks}
 use Rattle.liberation.proofs.RecordLaws.{plan-length}
 use Rattle.text.proofs.WriteLaws.{wrote-long}
-use Rattle.parity_sets.proofs.marks.MarkLaws.{marked-few}
+use Rattle.parity_sets.proofs.MarkLaws.{marked-few}
 use Rattle.printed_plan.proofs.LineLaws.{PlanStep, plan-step, Printing, printing-start, printing-turn, printing-end}
 use Rattle.printed_plan.proofs.put_steps.Tie as tie
 use Rattle.printed_plan.proofs.put_steps.Statement.{statement}

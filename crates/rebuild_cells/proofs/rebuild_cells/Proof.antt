@@ -4,14 +4,14 @@ use mathlib.Core.Bool.{true}
 use borrow.Author.Needs.{needs}
 use Rattle.mathematics.specs.Xor.{allBytes}
 use Rattle.xor.proofs.SourceLaws.{bytes-all}
-use Rattle.rebuild_cells.specs.Says.{lentFault}
+use Rattle.rebuild_cells.specs.Says.{lentRefusal}
 use Rattle.rebuild_cells.proofs.MendRefusals.{lent-none, mend-refused, mend-done, mend-undetermined}
 use Rattle.rebuild_cells.proofs.rebuild_cells.Statement.{statement}
 use Rattle.rebuild_cells.proofs.rebuild_cells.Tie as tie
 
 -- past the first refusals
-passed : (c : tie.Else1) → let a = c .before .before .before .before .args in lentFault (a .shape .width) (a .shape .disks) (a .shape .«cell_size») (a .missing .now) (a .stripe .now) ≡ 0
-passed c = sym (c .before .lent-fault .ensures) ∙ c .if1 .left
+passed : (c : tie.Else1) → let a = c .before .before .before .before .args in lentRefusal (a .shape .width) (a .shape .disks) (a .shape .«cell_size») (a .missing .now) (a .stripe .now) ≡ 0
+passed c = sym (c .before .lent-refusal .ensures) ∙ c .if1 .left
 
 -- the lent stripe is bytes
 bytes : (c : tie.After-slice-known) → allBytes (c .before .before .args .stripe .now) ≡ true
@@ -20,7 +20,7 @@ bytes c = bytes-all (c .before .before .args .stripe .now) (c .slice-known .give
 returns : tie.Need-returns
 returns c =
     let i = c .before in
-    let f = i .before .lent-fault in
+    let f = i .before .lent-refusal in
     let a = i .before .before .before .before .args in
     mend-refused (a .shape .width) (a .shape .disks) (a .shape .«cell_size») (f .result) (a .missing .now) (a .stripe .now) (c .answered .result) (f .ensures) (i .if1 .taken) (c .answered .ensures) (bytes (i .before .before))
 

@@ -1,4 +1,5 @@
--- The mend is exact: where it refuses, two different clean stripes agree in all cells that are not missing. So missing cells can be mended exactly if the others determine them.
+-- The mend is exact: where it refuses, two different clean stripes agree in all cells that are not
+-- missing. So missing cells can be mended exactly if the others determine them.
 use mathlib.Core.Path.{_≡_, refl, sym, ap, ap₂, _∙_}
 use mathlib.Core.Bool.{Bool, true, false, _&&_, not, and-comm, and-false}
 use mathlib.Core.List.{List, [], _∷_}

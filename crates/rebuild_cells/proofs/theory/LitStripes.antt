@@ -1,4 +1,5 @@
--- A stripe whose cells are all ones or all zeros: it is clean exactly where every set holds an even number of ones.
+-- A stripe whose cells are all ones or all zeros: it is clean exactly where every set holds an even
+-- number of ones.
 use mathlib.Core.Path.{_≡_, refl, sym, ap, ap₂, _∙_}
 use mathlib.Core.Bool.{Bool, true, false}
 use mathlib.Core.List.{List, [], _∷_, _++_}

@@ -1,4 +1,5 @@
--- The mend of missing cells: all other cells stand, and survivors of a clean stripe bring it back. So the cells that are not missing determine the others.
+-- The mend of missing cells: all other cells stand, and survivors of a clean stripe bring it back.
+-- So the cells that are not missing determine the others.
 use mathlib.Core.Path.{_≡_, refl, sym, ap, ap₂, _∙_}
 use mathlib.Core.Bool.{Bool, true, false, _&&_, _||_, not, true≢false}
 use mathlib.Core.List.{List, [], _∷_}
@@ -48,7 +49,8 @@ cells-reduce p k cs = reduces (2 * p) (length cs) (given p k cs) (equations p k 
 pub mendable-few : (p k : ℕ) (cs : List ℕ) → mendable p k cs ≡ true → length cs ≤ 2 * p
 mendable-few p k cs h = ⊎-elim (λ d. d .1 .few) (λ d. let l = d .0 in let e = eqb-true (reducedCells p k cs .done) (length cs) h in absurd (omega arith)) (cells-reduce p k cs)
 
--- the words ws are such that of the missing cells the sets of word c hold cell c alone an odd number of times
+-- the words ws are such that of the missing cells the sets of word c hold cell c alone an odd
+-- number of times
 abbrev pub Alone : ℕ → ℕ → List ℕ → List ℕ → Type 0
 Alone p k cs ws = (c b : ℕ) → c < length cs → b < length cs → isIn (getD cs b 0) (oddCells p k (getD ws c 0)) ≡ eqb c b
 

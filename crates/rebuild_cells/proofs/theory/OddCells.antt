@@ -1,4 +1,5 @@
--- The cells that occur an odd number of times in the sets that a word names: they are found by the bits of the word, and in a clean stripe they XOR to zero.
+-- The cells that occur an odd number of times in the sets that a word names: they are found by the
+-- bits of the word, and in a clean stripe they XOR to zero.
 use mathlib.Core.Path.{_≡_, refl, sym, ap, ap₂, _∙_}
 use mathlib.Core.Bool.{Bool, true, false, _&&_, _||_, not}
 use mathlib.Core.List.{List, [], _∷_}
@@ -23,11 +24,11 @@ use Rattle.mathematics.proofs.bit_rows.ParityLaws.{differ-false, in-append, in-
 use Rattle.liberation.proofs.SetLaws.{set-below}
 use Rattle.liberation.proofs.DistinctLaws.{distinct-set}
 use Rattle.liberation.specs.stripes.Stripes.{cellAt, xorOver, isStripe, clean}
-use Rattle.liberation.proofs.stripes.CellLaws.{cell-fits, cell-long}
+use Rattle.liberation.proofs.stripes.StripeCellLaws.{cell-fits, cell-long}
 use Rattle.liberation.proofs.stripes.OverLaws.{Long, over-append}
 use Rattle.liberation.proofs.stripes.Solving.{cells-long, stripe-long, clean-at}
-use Rattle.stripe_cells.proofs.odd_marks.OddLaws.{flip, toggled-long, odd-over}
-use Rattle.stripe_cells.specs.odd_marks.Toggled.{isOdd, oddFrom, toggled, toggledAll}
+use Rattle.stripe_cells.proofs.OddLaws.{flip, toggled-long, odd-over}
+use Rattle.stripe_cells.specs.Toggled.{isOdd, oddFrom, toggled, toggledAll}
 use Rattle.rebuild_cells.specs.theory.Mending.{setNumbered, namedTo, oddCells}
 
 -- ---- toggled marks

@@ -1,4 +1,5 @@
--- Missing cells on at most two disks are always mended, as the theorem on two lost disks says; and then as the rebuild of the two disks does.
+-- Missing cells on at most two disks are always mended, as the theorem on two lost disks says; and
+-- then as the rebuild of the two disks does.
 use mathlib.Core.Path.{_≡_, sym, _∙_}
 use mathlib.Core.Bool.{true, false, true≢false}
 use mathlib.Core.List.{List}

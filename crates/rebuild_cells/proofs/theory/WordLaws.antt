@@ -1,4 +1,5 @@
--- The equations of the sets in the missing cells: bit b of a set's word says that the set holds cell b.
+-- The equations of the sets in the missing cells: bit b of a set's word says that the set holds
+-- cell b.
 use mathlib.Core.Path.{_≡_, refl, sym, ap, _∙_}
 use mathlib.Core.Bool.{Bool, true, false}
 use mathlib.Core.List.{List, [], _∷_}

@@ -1,4 +1,6 @@
--- Missing cells, on any disks of a stripe, are the unknowns of 2p equations over bits, one a set. Where their reduction does all unknowns, each missing cell becomes the XOR of the other cells that occur an odd number of times in the sets that its row names.
+-- Missing cells, on any disks of a stripe, are the unknowns of 2p equations over bits, one a set.
+-- Where their reduction does all unknowns, each missing cell becomes the XOR of the other cells
+-- that occur an odd number of times in the sets that its row names.
 use mathlib.Core.Path.{_≡_}
 use mathlib.Core.Bool.{Bool, true, false}
 use mathlib.Core.List.{List, [], _∷_, _++_}
@@ -11,7 +13,7 @@ use Rattle.mathematics.specs.bit_rows.Parity.{bit}
 use Rattle.mathematics.specs.bit_rows.Rows.{Rows, rows, Reduced, reducedFrom}
 use Rattle.liberation.specs.Sets.{setOf}
 use Rattle.liberation.specs.stripes.Stripes.{cellAt, isStripe, clean, solved}
-use Rattle.stripe_cells.specs.odd_marks.Toggled.{oddFrom, toggledAll}
+use Rattle.stripe_cells.specs.Toggled.{oddFrom, toggledAll}
 
 -- the places of the marks that are not 0, the first mark being that of place i
 unfoldable pub markedFrom : ℕ → List ℕ → List ℕ
@@ -49,7 +51,8 @@ reducedCells p k cs = reducedFrom (length cs) (2 * p) 0 (equations p k cs)
 abbrev pub mendable : ℕ → ℕ → List ℕ → Bool
 mendable p k cs = eqb (reducedCells p k cs .done) (length cs)
 
--- of the first n sets the cells of those that the word w names, and those of them that occur an odd number of times
+-- of the first n sets the cells of those that the word w names, and those of them that occur an odd
+-- number of times
 unfoldable pub namedTo : ℕ → ℕ → ℕ → ℕ → List ℕ
 namedTo zero p k w = []
 namedTo (suc n) p k w = pick (bit w n) (setNumbered p k n) [] ++ namedTo n p k w
@@ -69,7 +72,8 @@ mendedCells p k s cs t = mendedFrom (length cs) 0 p k s cs (reducedCells p k cs 
 abbrev pub AlikeOff : ℕ → ℕ → ℕ → List ℕ → List ℕ → List ℕ → Type 0
 AlikeOff p k s cs t u = (x : ℕ) → x < p * (k + 2) → isIn x cs ≡ false → cellAt s t x ≡ cellAt s u x
 
--- the cells that are not missing determine the missing ones: any two clean stripes that agree in them are the same
+-- the cells that are not missing determine the missing ones: any two clean stripes that agree in
+-- them are the same
 abbrev pub Determined : ℕ → ℕ → ℕ → List ℕ → Type 0
 Determined p k s cs = (t u : List ℕ) → isStripe p k s t ≡ true → isStripe p k s u ≡ true → clean p k s t ≡ true → clean p k s u ≡ true → AlikeOff p k s cs t u → t ≡ u
 

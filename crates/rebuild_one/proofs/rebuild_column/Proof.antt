@@ -4,19 +4,19 @@ use mathlib.Core.List.{List}
 use Prim.Native.Nat.{_+_, _*_, _≤_}
 use lib.ListN.{length}
 use Rattle.liberation.specs.Plans.{Step, planOf}
-use Rattle.liberation.proofs.FaultLaws.{plan-none}
+use Rattle.liberation.proofs.RefusalLaws.{plan-none}
 use Rattle.liberation.specs.stripes.Stripes.{rebuiltBy, rebuilt}
-use Rattle.liberation.specs.stripes.Limits.{Sized}
-use Rattle.planner.specs.records.Records.{Holds}
-use Rattle.planner.proofs.steps.PlannedLaws.{held-as, ours-held, ours-accepted, planned-is}
-use Rattle.rebuild_one.proofs.OneRefusals.{fault-none}
+use Rattle.liberation.specs.stripes.StripeLimits.{Sized}
+use Rattle.planner.specs.StepRecords.{Holds}
+use Rattle.planner.proofs.PlannedLaws.{held-as, ours-held, ours-accepted, planned-is}
+use Rattle.rebuild_one.proofs.OneRefusals.{refusal-none}
 use borrow.Author.Needs.{needs}
 use Rattle.rebuild_one.proofs.rebuild_column.Statement.{statement}
 use Rattle.rebuild_one.proofs.rebuild_column.Tie as tie
 
 -- no refusal
 within : (c : tie.After-plan-steps) → let a = c .before .before .before .args in Sized (a .width) (a .disks) (a .size) (a .stripe .now) × (a .disk ≤ a .disks + 1) × (length (a .column .now) ≡ a .width * a .size)
-within c = let z = c .before .before .before in let a = z .args in fault-none (a .width) (a .disks) (a .size) (a .disk) (length (a .column .now)) (a .stripe .now) (z .pre)
+within c = let z = c .before .before .before in let a = z .args in refusal-none (a .width) (a .disks) (a .size) (a .disk) (length (a .column .now)) (a .stripe .now) (z .pre)
 
 -- the record holds our plan
 ours : (c : tie.After-plan-steps) → let a = c .before .before .before .args in Holds (planOf (a .width) (a .disks) (a .disk)) (c .plan-steps .result .steps)

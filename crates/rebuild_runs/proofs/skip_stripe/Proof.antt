@@ -1,20 +1,21 @@
--- `skip_stripe`: a refusal leaves the record; else next and skipped move on by one, and skipped stays below the stripes.
+-- `skip_stripe`: a refusal leaves the record; else next and skipped move on by one, and skipped
+-- stays below the stripes.
 use mathlib.Core.Path.{_≡_, sym, _∙_}
 use native.Mathlib.Omega.{arith}
 use borrow.Author.Needs.{needs}
-use Rattle.rebuild_runs.specs.Runs.{skipFault}
+use Rattle.rebuild_runs.specs.Runs.{skipRefusal}
 use Rattle.rebuild_runs.proofs.RunRefusals.{skip-passed, skip-refused, skip-done}
 use Rattle.rebuild_runs.proofs.skip_stripe.Statement.{statement}
 use Rattle.rebuild_runs.proofs.skip_stripe.Tie as tie
 
 -- past the refusals
-passed : (c : tie.Else1) → let a = c .before .before .args in skipFault (a .run) (a .which) ≡ 0
-passed c = sym (c .before .skip-fault .ensures) ∙ c .if1 .left
+passed : (c : tie.Else1) → let a = c .before .before .args in skipRefusal (a .run) (a .which) ≡ 0
+passed c = sym (c .before .skip-refusal .ensures) ∙ c .if1 .left
 
 returns : tie.Need-returns
 returns c =
     let i = c .before in
-    let f = i .before .skip-fault in
+    let f = i .before .skip-refusal in
     let a = i .before .before .args in
     skip-refused (a .run) (a .which) (f .result) (c .answered .result) (f .ensures) (i .if1 .taken) (c .answered .ensures)
 

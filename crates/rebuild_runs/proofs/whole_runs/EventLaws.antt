@@ -1,4 +1,6 @@
--- One event of a run: an accepted one is for the next stripe, and moves next on by one, a skip skipped too; a refused one leaves the record; one in turn, on slices of the lengths required, is accepted.
+-- One event of a run: an accepted one is for the next stripe, and moves next on by one, a skip
+-- skipped too; a refused one leaves the record; one in turn, on slices of the lengths required, is
+-- accepted.
 use mathlib.Core.Path.{_≡_, refl, sym, ap, ap₂, _∙_}
 use mathlib.Core.Bool.{Bool, true, false, _||_, not}
 use mathlib.Core.List.{List, _∷_}
@@ -12,11 +14,11 @@ use Rattle.mathematics.proofs.Flags.{and-l, and-r}
 use Rattle.liberation.specs.stripes.Stripes.{stripeLong}
 use Rattle.refusals.proofs.AnswerLaws.{answers-none}
 use Rattle.rebuild_runs.specs.declared.Run.{Run}
-use Rattle.rebuild_runs.specs.Runs.{runFault, readFault, nextFault, skipFault, movedBy, SkipSays}
-use Rattle.rebuild_runs.specs.steps.Says.{runStepFault, runColumn, StepSays}
+use Rattle.rebuild_runs.specs.Runs.{runRefusal, readRefusal, nextRefusal, skipRefusal, movedBy, SkipSays}
+use Rattle.rebuild_runs.specs.StepSays.{runStepRefusal, runColumn, StepSays}
 use Rattle.rebuild_runs.proofs.RunRefusals.{skipped-few, read-passed, skip-passed}
-use Rattle.rebuild_runs.proofs.steps.StepRefusals.{step-passed}
-use Rattle.rebuild_runs.specs.whole_runs.Claims.{MadeStep, MadeSkip, Event, step-of, skip-of, whichOf, refusalOf, runOf, isLong, stepsAmong, skipsAmong, columnsOf, rebuiltEach}
+use Rattle.rebuild_runs.proofs.StepRefusals.{step-passed}
+use Rattle.rebuild_runs.specs.whole_runs.EventSeries.{MadeStep, MadeSkip, Event, step-of, skip-of, whichOf, refusalOf, runOf, isLong, stepsAmong, skipsAmong, columnsOf, rebuiltEach}
 
 -- what an event counts, as a step and as a skip
 abbrev pub asStep : Event → ℕ
@@ -60,24 +62,24 @@ pub record Accepted (x : Run) (e : Event) : Type 0 where
 pub record Turn (x : Run) (e : Event) : Type 0 where
   pub taken : refusalOf e ≡ 0 → Accepted x e
   pub stood : eqb (refusalOf e) 0 ≡ false → runOf e ≡ x
-  pub goes : readFault x ≡ 0 → isLong (x .shape .width) (x .shape .disks) (x .shape .«cell_size») e ≡ true → eqb (whichOf e) (x .next) ≡ true → x .next < x .stripes → refusalOf e ≡ 0
+  pub goes : readRefusal x ≡ 0 → isLong (x .shape .width) (x .shape .disks) (x .shape .«cell_size») e ≡ true → eqb (whichOf e) (x .next) ≡ true → x .next < x .stripes → refusalOf e ≡ 0
 
 -- a record whose numbers are accepted can be read
-pub readable : (x : Run) → runFault x ≡ 0 → x .skipped ≤ x .next → readFault x ≡ 0
+pub readable : (x : Run) → runRefusal x ≡ 0 → x .skipped ≤ x .next → readRefusal x ≡ 0
 readable x r l = ap₂ firstOf r (skipped-few x l)
 
 -- the next stripe's number is accepted
-in-turn : (x : Run) (i : ℕ) → eqb i (x .next) ≡ true → x .next < x .stripes → nextFault x i ≡ 0
+in-turn : (x : Run) (i : ℕ) → eqb i (x .next) ≡ true → x .next < x .stripes → nextRefusal x i ≡ 0
 in-turn x i w l = ap₂ (λ (a b : Bool). when (a || not b) 10) (lt-leb (x .stripes) (x .next) l) w
 
 pub step-turn : (x : Run) (c : MadeStep) → StepSays x (c .run) (c .which) (c .stripe) (c .column) (c .left) (c .answer) → Turn x (step-of c)
 unfolding stepsAmong columnsOf rebuiltEach
 step-turn x c k =
-    let fault = runStepFault x (c .which) (c .stripe) (c .column) in
+    let refusal = runStepRefusal x (c .which) (c .stripe) (c .column) in
     let next : (n : ℕ) → Run = λ n. pick (eqb n 0) (movedBy x 0) x in
     record {
       taken = λ z.
-          let e : fault ≡ 0 = answers-none fault (c .answer) (k .answer) z in
+          let e : refusal ≡ 0 = answers-none refusal (c .answer) (k .answer) z in
           let q = step-passed x (c .which) (c .stripe) (c .column) e in
           record {
             run = k .run ∙ ap next e;
@@ -98,10 +100,10 @@ step-turn x c k =
 pub skip-turn : (x : Run) (c : MadeSkip) → SkipSays x (c .run) (c .which) (c .answer) → Turn x (skip-of c)
 unfolding stepsAmong
 skip-turn x c k =
-    let fault = skipFault x (c .which) in
+    let refusal = skipRefusal x (c .which) in
     record {
       taken = λ z.
-          let e : fault ≡ 0 = answers-none fault (c .answer) (k .answer) z in
+          let e : refusal ≡ 0 = answers-none refusal (c .answer) (k .answer) z in
           let q = skip-passed x (c .which) e in
           record {
             run = k .run ∙ ap (λ (n : ℕ). pick (eqb n 0) (movedBy x 1) x) e;

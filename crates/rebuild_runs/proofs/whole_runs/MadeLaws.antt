@@ -1,4 +1,5 @@
--- Whole runs: by induction over events made one after another, next grows by the number of accepted ones and skipped by that of accepted skips. So the record is known, and what reading it answers.
+-- Whole runs: by induction over events made one after another, next grows by the number of accepted
+-- ones and skipped by that of accepted skips. So the record is known, and what reading it answers.
 use mathlib.Core.Path.{_≡_, refl, sym, ap, ap₂, subst, _∙_}
 use mathlib.Core.Bool.{Bool, true, _&&_}
 use mathlib.Core.List.{List, [], _∷_}
@@ -12,21 +13,21 @@ use borrow.Author.Tests.{eqb-true, eq-eqb}
 use Rattle.mathematics.specs.Choice.{pick}
 use Rattle.mathematics.proofs.Flags.{and-l, and-r, and-i, flag}
 use Rattle.mathematics.proofs.ChoiceLaws.{pick-done}
-use Rattle.liberation.specs.Sets.{numbersFault}
+use Rattle.liberation.specs.Sets.{numbersRefusal}
 use Rattle.liberation.specs.Plans.{planOf, readCount}
 use Rattle.refusals.proofs.AnswerLaws.{answers-none}
 use Rattle.rebuild_runs.specs.declared.Run.{Run}
 use Rattle.rebuild_runs.specs.declared.RunAnswer.{RunAnswer}
 use Rattle.rebuild_runs.specs.declared.progress.Progress.{Progress}
-use Rattle.rebuild_runs.specs.Runs.{readFault}
-use Rattle.rebuild_runs.specs.starts.Starts.{opened, noRun, OpenSays}
-use Rattle.rebuild_runs.specs.progress.Says.{isOver, readsOf, cellsSoFar, ProgressSays}
+use Rattle.rebuild_runs.specs.Runs.{readRefusal}
+use Rattle.rebuild_runs.specs.Starts.{opened, noRun, OpenSays}
+use Rattle.rebuild_runs.specs.ProgressSays.{isOver, readsOf, cellsSoFar, ProgressSays}
 use Rattle.rebuild_runs.proofs.RunRefusals.{read-passed}
-use Rattle.rebuild_runs.specs.whole_runs.Claims.{Event, whichOf, refusalOf, runOf, Made, step-made, skip-made, lastRun, acceptedIn, stepsAmong, skipsAmong, stepped, skipped, inOrder, isLong, allLong, columnsOf, rebuiltEach, RunMade, RunOn, RunRead, RunReadOn, Calls-right, Calls-on, Calls-go, Calls-go-on, Progress-right, Progress-on}
+use Rattle.rebuild_runs.specs.whole_runs.EventSeries.{Event, whichOf, refusalOf, runOf, EventsMade, step-made, skip-made, lastRun, acceptedIn, stepsAmong, skipsAmong, stepped, skipped, inOrder, isLong, allLong, columnsOf, rebuiltEach, RunMade, RunOn, RunRead, RunReadOn, Calls-right, Calls-on, Calls-go, Calls-go-on, Progress-right, Progress-on}
 use Rattle.rebuild_runs.proofs.whole_runs.EventLaws.{asSkip, one-event, steps-first, skips-first, at, each, Accepted, Turn, readable, step-turn, skip-turn}
 
 -- the first event, and those after it
-first-made : (x : Run) (e : Event) (es : List Event) → Made x (e ∷ es) → Turn x e × Made (runOf e) es
+first-made : (x : Run) (e : Event) (es : List Event) → EventsMade x (e ∷ es) → Turn x e × EventsMade (runOf e) es
 first-made x _ _ (step-made _ c es k m) = (step-turn x c k, m)
 first-made x _ _ (skip-made _ c es k m) = (skip-turn x c k, m)
 
@@ -51,7 +52,7 @@ ahead es x = at (x .next + (stepped es + skipped es)) (x .skipped + skipped es) 
 uncounted : (e : Event) (es : List Event) (x : Run) → acceptedIn (e ∷ es) ≡ acceptedIn es → ahead es x ≡ ahead (e ∷ es) x
 uncounted e es x q = ap (λ (l : List Event). at (x .next + (length (stepsAmong l) + length (skipsAmong l))) (x .skipped + length (skipsAmong l)) x) (sym q)
 
-made-run : (x : Run) (es : List Event) → Made x es → lastRun x es ≡ ahead es x
+made-run : (x : Run) (es : List Event) → EventsMade x es → lastRun x es ≡ ahead es x
 unfolding lastRun acceptedIn stepsAmong skipsAmong
 made-run x [] m = let z : (n : ℕ) → n ≡ n + 0 = λ n. omega arith in ap₂ (λ (n j : ℕ). at n j x) (z (x .next)) (z (x .skipped))
 made-run x (e ∷ es) m =
@@ -64,7 +65,7 @@ made-run x (e ∷ es) m =
     rest ∙ ap (ahead es) (a .run) ∙ ap₂ (λ (n j : ℕ). at n j x) u v)
     (λ a c. rest ∙ ap (ahead es) a ∙ uncounted e es x c)
 
-made-few : (x : Run) (es : List Event) → Made x es → x .next ≤ x .stripes → x .next + (stepped es + skipped es) ≤ x .stripes
+made-few : (x : Run) (es : List Event) → EventsMade x es → x .next ≤ x .stripes → x .next + (stepped es + skipped es) ≤ x .stripes
 unfolding acceptedIn stepsAmong skipsAmong
 made-few x [] m l = omega arith
 made-few x (e ∷ es) m l =
@@ -78,7 +79,7 @@ made-few x (e ∷ es) m l =
     let i = ap (λ (l : List Event). length (stepsAmong l) + length (skipsAmong l)) c in
     omega (arith, made-few (runOf e) es (q .1) (omega (arith, n, s)), n, s, i))
 
-made-order : (x : Run) (es : List Event) → Made x es → inOrder (x .next) (acceptedIn es) ≡ true
+made-order : (x : Run) (es : List Event) → EventsMade x es → inOrder (x .next) (acceptedIn es) ≡ true
 unfolding acceptedIn inOrder
 made-order x [] m = refl
 made-order x (e ∷ es) m =
@@ -90,7 +91,7 @@ made-order x (e ∷ es) m =
     ∙ and-i (eqb (whichOf e) (x .next)) (inOrder (suc (x .next)) (acceptedIn es)) (eq-eqb (whichOf e) (x .next) (a .which)) (ap (λ (i : ℕ). inOrder i (acceptedIn es)) z ∙ rest))
     (λ a c. ap (inOrder (x .next)) c ∙ ap (λ (y : Run). inOrder (y .next) (acceptedIn es)) (sym a) ∙ rest)
 
-made-columns : (x : Run) (es : List Event) → Made x es → columnsOf (stepsAmong (acceptedIn es)) ≡ each x (stepsAmong (acceptedIn es))
+made-columns : (x : Run) (es : List Event) → EventsMade x es → columnsOf (stepsAmong (acceptedIn es)) ≡ each x (stepsAmong (acceptedIn es))
 unfolding acceptedIn stepsAmong columnsOf rebuiltEach
 made-columns x [] m = refl
 made-columns x (e ∷ es) m =
@@ -103,7 +104,7 @@ made-columns x (e ∷ es) m =
     (λ a c. subst Right (sym c) (rest ∙ ap same a))
 
 -- events in turn are accepted, and the record can be read then too
-made-go : (x : Run) (es : List Event) → Made x es → readFault x ≡ 0 → inOrder (x .next) es ≡ true → allLong (x .shape .width) (x .shape .disks) (x .shape .«cell_size») es ≡ true → x .next + length es ≤ x .stripes → acceptedIn es ≡ es
+made-go : (x : Run) (es : List Event) → EventsMade x es → readRefusal x ≡ 0 → inOrder (x .next) es ≡ true → allLong (x .shape .width) (x .shape .disks) (x .shape .«cell_size») es ≡ true → x .next + length es ≤ x .stripes → acceptedIn es ≡ es
 unfolding acceptedIn inOrder allLong
 made-go x [] m r o l n = refl
 made-go x (e ∷ es) m r o l n =
@@ -115,7 +116,7 @@ made-go x (e ∷ es) m r o l n =
     let a = q .0 .taken z in
     let y : Run = at (x .next + 1) (x .skipped + asSkip e) x in
     let few : y .skipped ≤ y .next = omega (arith, a .few, one-event e) in
-    let fine : readFault (runOf e) ≡ 0 = ap readFault (a .run) ∙ readable y (read-passed x r .0) few in
+    let fine : readRefusal (runOf e) ≡ 0 = ap readRefusal (a .run) ∙ readable y (read-passed x r .0) few in
     let i : runOf e .next ≡ suc (x .next) = ap (λ (v : Run). v .next) (a .run) ∙ omega arith in
     let room : runOf e .next + length es ≤ runOf e .stripes = omega (arith, i, ap (λ (v : Run). v .stripes) (a .run)) in
     let rest = made-go (runOf e) es (q .1) fine (ap (λ (n : ℕ). inOrder n es) i ∙ and-r w (inOrder (suc (x .next)) es) o) (ap later (a .run) ∙ and-r here (later x) l) room in
@@ -137,24 +138,24 @@ calls-on x es l m =
     }
 
 -- from a record on that was read without refusal
-module _ (x : Run) (es : List Event) (h : Progress) (k : ProgressSays x h) (z : h .answer .refusal ≡ 0) (m : Made x es) where
-  fine : readFault x ≡ 0
-  fine = answers-none (readFault x) (h .answer) (k .answer) z
+module _ (x : Run) (es : List Event) (h : Progress) (k : ProgressSays x h) (z : h .answer .refusal ≡ 0) (m : EventsMade x es) where
+  fine : readRefusal x ≡ 0
+  fine = answers-none (readRefusal x) (h .answer) (k .answer) z
 
   on : RunOn x es
   on = calls-on x es (read-passed x fine .1) m
 
   -- events leave shape and lost disk, so it can be read then too
-  still : readFault (lastRun x es) ≡ 0
+  still : readRefusal (lastRun x es) ≡ 0
   still =
       let q = read-passed x fine in
       let l : ahead es x .skipped ≤ ahead es x .next = omega (arith, q .1) in
-      ap readFault (made-run x es m) ∙ readable (ahead es x) (q .0) l
+      ap readRefusal (made-run x es m) ∙ readable (ahead es x) (q .0) l
 
   read : (g : Progress) → ProgressSays (lastRun x es) g → RunReadOn x es h g
   read g y =
       let v : Run = lastRun x es in
-      let was : h .cells ≡ cellsSoFar x = k .cells ∙ sym (pick-done (readFault x) (cellsSoFar x) 0 fine) in
+      let was : h .cells ≡ cellsSoFar x = k .cells ∙ sym (pick-done (readRefusal x) (cellsSoFar x) 0 fine) in
       record {
         refusal = y .answer .refusal ∙ still;
         over = y .over ∙ ap (λ (i : ℕ). eqb i 0 && isOver v) still ∙ on .over;
@@ -168,20 +169,20 @@ pub calls-go-on : Calls-go-on
 calls-go-on x es h k z m o l n = made-go x es m (fine x es h k z m) o l n
 
 -- from an opening on that was not refused
-module _ (p k s f n : ℕ) (r : RunAnswer) (es : List Event) (o : OpenSays p k s f n r) (z : r .answer .refusal ≡ 0) (m : Made (r .run) es) where
+module _ (p k s f n : ℕ) (r : RunAnswer) (es : List Event) (o : OpenSays p k s f n r) (z : r .answer .refusal ≡ 0) (m : EventsMade (r .run) es) where
   abbrev x : Run
   x = opened p k s f n
 
-  accepted : numbersFault p k s f ≡ 0
-  accepted = answers-none (numbersFault p k s f) (r .answer) (o .answer) z
+  accepted : numbersRefusal p k s f ≡ 0
+  accepted = answers-none (numbersRefusal p k s f) (r .answer) (o .answer) z
 
   start : r .run ≡ x
-  start = o .run ∙ sym (pick-done (numbersFault p k s f) x noRun accepted)
+  start = o .run ∙ sym (pick-done (numbersRefusal p k s f) x noRun accepted)
 
-  made : Made x es
-  made = subst (λ (y : Run). Made y es) start m
+  made : EventsMade x es
+  made = subst (λ (y : Run). EventsMade y es) start m
 
-  none : readFault x ≡ 0
+  none : readRefusal x ≡ 0
   none = readable x accepted (omega arith)
 
   opened-right : RunMade p k s f n (r .run) es
@@ -206,7 +207,7 @@ module _ (p k s f n : ℕ) (r : RunAnswer) (es : List Event) (o : OpenSays p k s
       let v : Run = lastRun (r .run) es in
       let d = opened-right in
       let l : ahead es x .skipped ≤ ahead es x .next = omega arith in
-      let e : readFault v ≡ 0 = ap readFault (ap (λ (y : Run). lastRun y es) start ∙ made-run x es made) ∙ readable (ahead es x) accepted l in
+      let e : readRefusal v ≡ 0 = ap readRefusal (ap (λ (y : Run). lastRun y es) start ∙ made-run x es made) ∙ readable (ahead es x) accepted l in
       record {
         refusal = y .answer .refusal ∙ e;
         over = y .over ∙ ap (λ (i : ℕ). eqb i 0 && isOver v) e ∙ d .over;

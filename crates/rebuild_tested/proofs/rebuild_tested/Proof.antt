@@ -1,17 +1,18 @@
--- `rebuild_tested`: a refusal leaves the column as it was; else the survivors fit, and the disk is rebuilt.
+-- `rebuild_tested`: a refusal leaves the column as it was; else the survivors fit, and the disk is
+-- rebuilt.
 use mathlib.Core.Path.{_≡_, sym, _∙_}
 use mathlib.Core.Bool.{true}
 use Rattle.mathematics.specs.Xor.{allBytes}
 use Rattle.xor.proofs.SourceLaws.{bytes-all}
-use Rattle.rebuild_tested.specs.Says.{testedFault}
+use Rattle.rebuild_tested.specs.Says.{testedRefusal}
 use Rattle.rebuild_tested.proofs.TestedRefusals.{tested, refused, accepted}
 use borrow.Author.Needs.{needs}
 use Rattle.rebuild_tested.proofs.rebuild_tested.Statement.{statement}
 use Rattle.rebuild_tested.proofs.rebuild_tested.Tie as tie
 
 -- past the refusals
-passed : (c : tie.Else1) → let a = c .before .before .before .before .args in testedFault (a .shape .width) (a .shape .disks) (a .shape .«cell_size») (a .lost) (a .stripe .now) (a .column .now) ≡ 0
-passed c = sym (c .before .tested-fault .ensures) ∙ c .if1 .left
+passed : (c : tie.Else1) → let a = c .before .before .before .before .args in testedRefusal (a .shape .width) (a .shape .disks) (a .shape .«cell_size») (a .lost) (a .stripe .now) (a .column .now) ≡ 0
+passed c = sym (c .before .tested-refusal .ensures) ∙ c .if1 .left
 
 -- the lent stripe is bytes
 bytes : (c : tie.After-shared-slice-known) → allBytes (c .before .args .stripe .now) ≡ true
@@ -20,7 +21,7 @@ bytes c = bytes-all (c .before .args .stripe .now) (c .shared-slice-known .given
 returns : tie.Need-returns
 returns c =
     let i = c .before in
-    let f = i .before .tested-fault in
+    let f = i .before .tested-refusal in
     let a = i .before .before .before .before .args in
     refused (a .shape .width) (a .shape .disks) (a .shape .«cell_size») (a .lost) (f .result) (a .stripe .now) (a .column .now) (c .answered .result) (f .ensures) (i .if1 .taken) (c .answered .ensures) (bytes (i .before .before .before))
 

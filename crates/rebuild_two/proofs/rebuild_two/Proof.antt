@@ -4,14 +4,14 @@ use mathlib.Core.Bool.{true}
 use borrow.Author.Needs.{needs}
 use Rattle.mathematics.specs.Xor.{allBytes}
 use Rattle.xor.proofs.SourceLaws.{bytes-all}
-use Rattle.rebuild_two.specs.Says.{twoFault}
-use Rattle.rebuild_two.proofs.TwoRefusals.{fault-none, two-refused, two-done}
+use Rattle.rebuild_two.specs.Says.{twoRefusal}
+use Rattle.rebuild_two.proofs.TwoRefusals.{refusal-none, two-refused, two-done}
 use Rattle.rebuild_two.proofs.rebuild_two.Statement.{statement}
 use Rattle.rebuild_two.proofs.rebuild_two.Tie as tie
 
 -- past the refusals
-passed : (c : tie.Else1) → let a = c .before .before .before .args in twoFault (a .shape .width) (a .shape .disks) (a .shape .«cell_size») (a .first) (a .second) (a .stripe .now) ≡ 0
-passed c = sym (c .before .two-fault .ensures) ∙ c .if1 .left
+passed : (c : tie.Else1) → let a = c .before .before .before .args in twoRefusal (a .shape .width) (a .shape .disks) (a .shape .«cell_size») (a .first) (a .second) (a .stripe .now) ≡ 0
+passed c = sym (c .before .two-refusal .ensures) ∙ c .if1 .left
 
 -- the lent stripe is bytes
 bytes : (c : tie.After-slice-known) → allBytes (c .before .args .stripe .now) ≡ true
@@ -20,7 +20,7 @@ bytes c = bytes-all (c .before .args .stripe .now) (c .slice-known .given)
 returns : tie.Need-returns
 returns c =
     let i = c .before in
-    let f = i .before .two-fault in
+    let f = i .before .two-refusal in
     let a = i .before .before .before .args in
     two-refused (a .shape .width) (a .shape .disks) (a .shape .«cell_size») (a .first) (a .second) (f .result) (a .stripe .now) (c .answered .result) (f .ensures) (i .if1 .taken) (c .answered .ensures) (bytes (i .before .before))
 
@@ -28,7 +28,7 @@ solve-pair-requires : tie.Need-solve-pair-requires
 solve-pair-requires c κs =
     let i = c .before in
     let a = i .before .before .before .args in
-    let q = fault-none (a .shape .width) (a .shape .disks) (a .shape .«cell_size») (a .first) (a .second) (a .stripe .now) (passed i) in
+    let q = refusal-none (a .shape .width) (a .shape .disks) (a .shape .«cell_size») (a .first) (a .second) (a .stripe .now) (passed i) in
     (q .0, (q .1, q .2, q .3))
 
 returns-2 : tie.Need-returns-2

@@ -1,20 +1,21 @@
--- `scrub_stripe`: the check's refusals and its clean stripes; of a dirty stripe, the first disk that fits.
+-- `scrub_stripe`: the check's refusals and its clean stripes; of a dirty stripe, the first disk
+-- that fits.
 use mathlib.Core.Path.{_≡_, sym, _∙_}
 use native.Mathlib.Omega.{arith}
 use borrow.Author.Needs.{needs}
-use Rattle.liberation.specs.stripes.Limits.{Sized}
-use Rattle.refusals.specs.stripe.Says.{stripeFault}
-use Rattle.refusals.proofs.stripe.StripeRefusals.{fault-none}
+use Rattle.liberation.specs.stripes.StripeLimits.{Sized}
+use Rattle.refusals.specs.StripeSays.{stripeRefusal}
+use Rattle.refusals.proofs.StripeRefusals.{refusal-none}
 use Rattle.scrub.proofs.ScrubRefusals.{scrub-refused, scrub-clean, scrub-one, scrub-more}
 use Rattle.scrub.proofs.scrub_stripe.Statement.{statement}
 use Rattle.scrub.proofs.scrub_stripe.Tie as tie
 
 -- past the refusals
-passed : (c : tie.Else1) → let a = c .before .before .before .before .args in stripeFault (a .shape .width) (a .shape .disks) (a .shape .«cell_size») (a .stripe .now) ≡ 0
+passed : (c : tie.Else1) → let a = c .before .before .before .before .args in stripeRefusal (a .shape .width) (a .shape .disks) (a .shape .«cell_size») (a .stripe .now) ≡ 0
 passed c = sym (c .before .before .check-stripe .ensures .answer .refusal) ∙ c .if1 .left
 
 sized : (c : tie.Else1) → let a = c .before .before .before .before .args in Sized (a .shape .width) (a .shape .disks) (a .shape .«cell_size») (a .stripe .now)
-sized c = let a = c .before .before .before .before .args in fault-none (a .shape .width) (a .shape .disks) (a .shape .«cell_size») (a .stripe .now) (passed c)
+sized c = let a = c .before .before .before .before .args in refusal-none (a .shape .width) (a .shape .disks) (a .shape .«cell_size») (a .stripe .now) (passed c)
 
 returns : tie.Need-returns
 returns c =

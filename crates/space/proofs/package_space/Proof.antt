@@ -1,16 +1,17 @@
--- `package_space`: a refusal, else the stripes of the files and the bytes of a disk for them, which do not wrap.
+-- `package_space`: a refusal, else the stripes of the files and the bytes of a disk for them, which
+-- do not wrap.
 use mathlib.Core.Path.{_≡_, sym, ap, _∙_}
 use Prim.Native.Nat.{ℕ, _*_}
 use native.Mathlib.Omega.{arith}
 use borrow.Author.Needs.{needs}
-use Rattle.space.specs.limits.Faults.{spaceFault}
+use Rattle.space.specs.Refusals.{spaceRefusal}
 use Rattle.space.proofs.SpaceLaws.{Bounds, small, refusal-says, space-says}
 use Rattle.space.proofs.package_space.Statement.{statement}
 use Rattle.space.proofs.package_space.Tie as tie
 
 -- past the refusals
-none : (c : tie.Else1) → let a = c .before .before .before .args in spaceFault (a .shape .width) (a .shape .disks) (a .shape .«cell_size») (a .lengths .now) ≡ 0
-none c = sym (c .before .space-fault .ensures) ∙ c .if1 .left
+none : (c : tie.Else1) → let a = c .before .before .before .args in spaceRefusal (a .shape .width) (a .shape .disks) (a .shape .«cell_size») (a .lengths .now) ≡ 0
+none c = sym (c .before .space-refusal .ensures) ∙ c .if1 .left
 
 -- so the numbers are small
 bound : (c : tie.Else1) → let a = c .before .before .before .args in Bounds (a .shape .width) (a .shape .disks) (a .shape .«cell_size») (a .lengths .now)
@@ -20,7 +21,7 @@ returns : tie.Need-returns
 returns c =
     let q = c .before .before in
     let a = q .before .before .args in
-    refusal-says (a .shape .width) (a .shape .disks) (a .shape .«cell_size») (a .lengths .now) (a .free) (q .space-fault .result) (c .refused-space .result) (q .space-fault .ensures) (c .before .if1 .taken) (c .refused-space .ensures)
+    refusal-says (a .shape .width) (a .shape .disks) (a .shape .«cell_size») (a .lengths .now) (a .free) (q .space-refusal .result) (c .refused-space .result) (q .space-refusal .ensures) (c .before .if1 .taken) (c .refused-space .ensures)
 
 mul-gives : tie.Need-mul-gives
 mul-gives c = omega (arith, bound c .gives)

@@ -1,11 +1,12 @@
--- `sum_stripes`: the stripes so far and those of the files that are left make up the whole, whose stripes hold less than 2^49 bytes, so no sum wraps.
+-- `sum_stripes`: the stripes so far and those of the files that are left make up the whole, whose
+-- stripes hold less than 2^49 bytes, so no sum wraps.
 use mathlib.Core.Path.{_≡_}
 use Prim.Native.Nat.{_+_, _-_, _≤_}
 use native.Mathlib.Omega.{arith}
 use lib.ListN.{length, drop}
 use Rattle.mathematics.specs.Sums.{total}
 use Rattle.space.specs.Says.{upEach}
-use Rattle.space.proofs.limits.LeftLaws.{left-next}
+use Rattle.space.proofs.LeftLaws.{left-next}
 use Rattle.space.proofs.FilesLaws.{left-each, each-none, stripes-small}
 use Rattle.space.proofs.sum_stripes.Statement.{statement}
 use Rattle.space.proofs.sum_stripes.Tie as tie

@@ -1,4 +1,5 @@
--- `solve_by`: the other cells of the set are pushed, and their XOR is put at the cell, apart from which they lie.
+-- `solve_by`: the other cells of the set are pushed, and their XOR is put at the cell, apart from
+-- which they lie.
 use mathlib.Core.Path.{_≡_, sym}
 use Prim.Native.Nat.{_*_, _≤_}
 use native.Mathlib.Nat.{mul-le-mul}

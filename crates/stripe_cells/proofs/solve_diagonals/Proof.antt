@@ -1,4 +1,5 @@
--- `solve_diagonals`: each turn does the next step. The invariant: the steps still to come, done to the stripe as it is, give what all steps give to the stripe as it was.
+-- `solve_diagonals`: each turn does the next step. The invariant: the steps still to come, done to
+-- the stripe as it is, give what all steps give to the stripe as it was.
 use mathlib.Core.Path.{_≡_, refl, sym, _∙_}
 use Prim.Native.Nat.{_+_, _-_, _≤_}
 use native.Mathlib.Omega.{arith}

@@ -1,4 +1,5 @@
--- `solve_rows`: the columns before and after the disk are pushed, and their XOR is put in place of the disk's column.
+-- `solve_rows`: the columns before and after the disk are pushed, and their XOR is put in place of
+-- the disk's column.
 use mathlib.Core.Path.{_≡_, sym, subst}
 use Prim.Native.Nat.{_*_, _-_}
 use native.Mathlib.Omega.{arith}
@@ -8,8 +9,8 @@ use borrow.Author.Needs.{needs}
 use Rattle.liberation.specs.Sets.{rowSet, survivingIn}
 use Rattle.xor.specs.Reach.{Reached}
 use Rattle.xor_in_place.specs.Beside.{Apart}
-use Rattle.stripe_cells.specs.offsets.Offsets.{scaled}
-use Rattle.stripe_cells.proofs.ordinary.OrdinaryLists.{data-count}
+use Rattle.stripe_cells.specs.Offsets.{scaled}
+use Rattle.stripe_cells.proofs.OrdinaryLists.{data-count}
 use Rattle.stripe_cells.proofs.ColumnLaws.{row-pushed, columns-apart, rows-solved}
 use Rattle.stripe_cells.proofs.solve_rows.Statement.{statement}
 use Rattle.stripe_cells.proofs.solve_rows.Tie as tie

@@ -1,4 +1,5 @@
--- `put`: a copy byte by byte. The invariant: the first i bytes of the text are there, and all else is as it was.
+-- `put`: a copy byte by byte. The invariant: the first i bytes of the text are there, and all else
+-- is as it was.
 use mathlib.Core.Path.{_≡_, ap, _∙_}
 use Prim.Native.Nat.{ℕ, _-_, _≤_}
 use native.Mathlib.Omega.{arith}

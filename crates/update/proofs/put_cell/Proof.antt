@@ -1,4 +1,5 @@
--- `put_cell`: the new bytes are added to the cell, which then holds the change, the cell to its parity cells, and the new bytes are copied in.
+-- `put_cell`: the new bytes are added to the cell, which then holds the change, the cell to its
+-- parity cells, and the new bytes are copied in.
 use mathlib.Core.Path.{_≡_, ap, _∙_}
 use mathlib.Core.List.{List}
 use Prim.Native.Nat.{ℕ, _+_, _-_, _*_, _≤_}
@@ -12,7 +13,7 @@ use Rattle.liberation.specs.stripes.Stripes.{withCell}
 use Rattle.xor.specs.Parts.{part}
 use Rattle.xor.proofs.PartLaws.{put-part}
 use Rattle.xor.proofs.SourceLaws.{bytes-all}
-use Rattle.update.proofs.parity.CellPlaces.{places-small, own-fits}
+use Rattle.update.proofs.CellPlaces.{places-small, own-fits}
 use Rattle.update.proofs.PutLaws.{change-put, cell-put}
 use Rattle.update.proofs.put_cell.Statement.{statement}
 use Rattle.update.proofs.put_cell.Tie as tie

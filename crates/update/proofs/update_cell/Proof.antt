@@ -1,17 +1,18 @@
--- `update_cell`: a refusal leaves the stripe as it was; else the cell is put in, with its parity cells.
+-- `update_cell`: a refusal leaves the stripe as it was; else the cell is put in, with its parity
+-- cells.
 use mathlib.Core.Path.{_≡_, sym, _∙_}
 use mathlib.Core.Bool.{true}
 use borrow.Author.Needs.{needs}
 use Rattle.mathematics.specs.Xor.{allBytes}
 use Rattle.xor.proofs.SourceLaws.{bytes-all}
-use Rattle.update.specs.Says.{updateFault}
-use Rattle.update.proofs.UpdateRefusals.{fault-none, refused, accepted}
+use Rattle.update.specs.Says.{updateRefusal}
+use Rattle.update.proofs.UpdateRefusals.{refusal-none, refused, accepted}
 use Rattle.update.proofs.update_cell.Statement.{statement}
 use Rattle.update.proofs.update_cell.Tie as tie
 
 -- past the refusals
-passed : (c : tie.Else1) → let a = c .before .before .before .before .args in updateFault (a .shape .width) (a .shape .disks) (a .shape .«cell_size») (a .row) (a .disk) (a .stripe .now) (a .cell .now) ≡ 0
-passed c = sym (c .before .update-fault .ensures) ∙ c .if1 .left
+passed : (c : tie.Else1) → let a = c .before .before .before .before .args in updateRefusal (a .shape .width) (a .shape .disks) (a .shape .«cell_size») (a .row) (a .disk) (a .stripe .now) (a .cell .now) ≡ 0
+passed c = sym (c .before .update-refusal .ensures) ∙ c .if1 .left
 
 -- what was lent are bytes
 bytes : (c : tie.After-shared-slice-known) → let a = c .before .before .args in (allBytes (a .stripe .now) ≡ true) × (allBytes (a .cell .now) ≡ true)
@@ -22,13 +23,13 @@ returns c =
     let f = c .before .before in
     let b = bytes (f .before) in
     let a = f .before .before .before .args in
-    refused (a .shape .width) (a .shape .disks) (a .shape .«cell_size») (a .row) (a .disk) (f .update-fault .result) (a .stripe .now) (a .cell .now) (c .answered .result) (f .update-fault .ensures) (c .before .if1 .taken) (c .answered .ensures) (b .0) (b .1)
+    refused (a .shape .width) (a .shape .disks) (a .shape .«cell_size») (a .row) (a .disk) (f .update-refusal .result) (a .stripe .now) (a .cell .now) (c .answered .result) (f .update-refusal .ensures) (c .before .if1 .taken) (c .answered .ensures) (b .0) (b .1)
 
 put-cell-requires : tie.Need-put-cell-requires
 put-cell-requires c κs =
     let e = c .before in
     let a = e .before .before .before .before .args in
-    let q = fault-none (a .shape .width) (a .shape .disks) (a .shape .«cell_size») (a .row) (a .disk) (a .stripe .now) (a .cell .now) (passed e) in
+    let q = refusal-none (a .shape .width) (a .shape .disks) (a .shape .«cell_size») (a .row) (a .disk) (a .stripe .now) (a .cell .now) (passed e) in
     (q .0, q .1)
 
 returns-2 : tie.Need-returns-2

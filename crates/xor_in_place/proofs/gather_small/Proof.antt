@@ -1,4 +1,5 @@
--- `gather_small`: block after block of 64 bytes, then the rest, if there is one. The invariant: the first b bytes from d on are new.
+-- `gather_small`: block after block of 64 bytes, then the rest, if there is one. The invariant: the
+-- first b bytes from d on are new.
 use mathlib.Core.Path.{_≡_, refl}
 use Prim.Native.Nat.{_+_, _-_, _≤_}
 use native.Mathlib.Omega.{arith}

@@ -1,4 +1,5 @@
--- `gather_within`: block after block of 128 bytes, then what is left. The invariant: the first b bytes from d on are new.
+-- `gather_within`: block after block of 128 bytes, then what is left. The invariant: the first b
+-- bytes from d on are new.
 use mathlib.Core.Path.{_≡_, refl}
 use mathlib.Core.List.{_++_}
 use Prim.Native.Nat.{_+_, _-_, _≤_}

@@ -10,7 +10,7 @@ use borrow.Author.Tests.{not-true, not-false}
 use Rattle.mathematics.specs.Lists.{same}
 use Rattle.xor.specs.Parts.{xorOffsets}
 use Rattle.xor.proofs.BlockLaws.{tail-is, tail-long, reach-tail}
-use Rattle.xor.proofs.slices.ZeroLaws.{zeroFrom, zero-split}
+use Rattle.xor.proofs.ZeroLaws.{zeroFrom, zero-split}
 use Rattle.xor_is_zero.proofs.long_is_zero.Statement.{statement}
 use Rattle.xor_is_zero.proofs.long_is_zero.Tie as tie
 

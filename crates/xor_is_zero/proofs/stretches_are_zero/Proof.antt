@@ -1,4 +1,5 @@
--- `stretches_are_zero`: stretch after stretch, in one buffer. The invariant: whole stretches are done, and the answer is that of what is left; what the buffer holds plays no part.
+-- `stretches_are_zero`: stretch after stretch, in one buffer. The invariant: whole stretches are
+-- done, and the answer is that of what is left; what the buffer holds plays no part.
 use mathlib.Core.Path.{_≡_, refl, sym, ap, _∙_}
 use mathlib.Core.Bool.{Bool, true, false, _&&_}
 use mathlib.Core.List.{List}
@@ -10,7 +11,7 @@ use borrow.Author.Tests.{not-true, not-false}
 use Rattle.mathematics.specs.Lists.{same}
 use Rattle.xor.specs.Parts.{xorOffsets}
 use Rattle.xor.proofs.BlockLaws.{tail-is, tail-long, reach-tail}
-use Rattle.xor.proofs.slices.ZeroLaws.{zeroFrom, zero-all, zero-next, zero-none}
+use Rattle.xor.proofs.ZeroLaws.{zeroFrom, zero-all, zero-next, zero-none}
 use Rattle.xor_is_zero.proofs.stretches_are_zero.Statement.{statement}
 use Rattle.xor_is_zero.proofs.stretches_are_zero.Tie as tie
 

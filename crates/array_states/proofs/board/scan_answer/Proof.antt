@@ -4,8 +4,8 @@ use Rattle.mathematics.proofs.ChoiceLaws.{pick-refused, pick-done}
 use Rattle.refusals.specs.declared.Answer.{Answer}
 use Rattle.refusals.proofs.AnswerLaws.{answers-as, answer-is}
 use Rattle.array_states.specs.declared.totals.Totals.{Totals}
-use Rattle.array_states.specs.totals.Scanning.{noTotals}
-use Rattle.array_states.specs.board.Reports.{scanFault, scanAnswer}
+use Rattle.array_states.specs.Scanning.{noTotals}
+use Rattle.array_states.specs.Reports.{scanRefusal, scanAnswer}
 use borrow.Author.Needs.{needs}
 use Rattle.array_states.proofs.board.scan_answer.Statement.{statement}
 use Rattle.array_states.proofs.board.scan_answer.Tie as tie
@@ -15,21 +15,21 @@ unfolding scanAnswer
 returns c =
     let q = c .before .before .before in
     let a = q .before .args in
-    let e = q .scan-fault .ensures in
+    let e = q .scan-refusal .ensures in
     let b = c .before .answered .result in
     ap₂ (λ (x : Answer) (t : Totals). record { answer = x; totals = t })
-    (answer-is (scanFault (a .s) (a .n) (a .which)) b (answers-as _ _ b e (c .before .answered .ensures)))
-    (c .no-totals .ensures ∙ pick-refused (q .scan-fault .result) (scanFault (a .s) (a .n) (a .which)) (a .s .totals) noTotals e (c .before .before .if1 .taken))
+    (answer-is (scanRefusal (a .s) (a .n) (a .which)) b (answers-as _ _ b e (c .before .answered .ensures)))
+    (c .no-totals .ensures ∙ pick-refused (q .scan-refusal .result) (scanRefusal (a .s) (a .n) (a .which)) (a .s .totals) noTotals e (c .before .before .if1 .taken))
 
 returns-2 : tie.Need-returns-2
 unfolding scanAnswer
 returns-2 c =
     let q = c .before .before .before in
     let a = q .before .args in
-    let none = sym (q .scan-fault .ensures) ∙ c .before .before .if1 .left in
+    let none = sym (q .scan-refusal .ensures) ∙ c .before .before .if1 .left in
     ap₂ (λ (x : Answer) (t : Totals). record { answer = x; totals = t })
-    (answer-is (scanFault (a .s) (a .n) (a .which)) (c .answered2 .result) (answers-as 0 _ (c .answered2 .result) (sym none) (c .answered2 .ensures)))
-    (pick-done (scanFault (a .s) (a .n) (a .which)) (a .s .totals) noTotals none)
+    (answer-is (scanRefusal (a .s) (a .n) (a .which)) (c .answered2 .result) (answers-as 0 _ (c .answered2 .result) (sym none) (c .answered2 .ensures)))
+    (pick-done (scanRefusal (a .s) (a .n) (a .which)) (a .s .totals) noTotals none)
 
 pub scan-answer-spec : {M : Type 1} → statement M
 scan-answer-spec =

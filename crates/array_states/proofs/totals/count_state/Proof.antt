@@ -1,7 +1,8 @@
--- `count_state`: the number of lost disks is the number of ones of the word, and one total is one more.
+-- `count_state`: the number of lost disks is the number of ones of the word, and one total is one
+-- more.
 use lib.Count.{ones}
 use borrow.Author.Needs.{needs}
-use Rattle.array_states.proofs.totals.CountLaws.{count-none, count-one, count-two, count-more}
+use Rattle.array_states.proofs.CountLaws.{count-none, count-one, count-two, count-more}
 use Rattle.array_states.proofs.totals.count_state.Statement.{statement}
 use Rattle.array_states.proofs.totals.count_state.Tie as tie
 

@@ -1,6 +1,6 @@
 -- `scan_length`: the length, unless it is over 64.
 use borrow.Author.Tests.{lt-ltb, le-ltb}
-use Rattle.array_states.specs.totals.Scanning.{scanLength}
+use Rattle.array_states.specs.Scanning.{scanLength}
 use Rattle.array_states.proofs.totals.scan_length.Statement.{statement}
 use Rattle.array_states.proofs.totals.scan_length.Tie as tie
 

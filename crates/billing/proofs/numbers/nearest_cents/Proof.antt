@@ -1,4 +1,5 @@
--- `nearest_cents`: the rest above the whole cents is more than half a cent, less, or just half, where the even one is taken.
+-- `nearest_cents`: the rest above the whole cents is more than half a cent, less, or just half,
+-- where the even one is taken.
 use mathlib.Core.Path.{_≡_, sym, ap, _∙_}
 use mathlib.Core.Bool.{Bool}
 use Prim.Native.Nat.{_+_, _/_, _%_}
@@ -6,8 +7,8 @@ use native.Mathlib.Omega.{arith}
 use borrow.Author.Tests.{eq-eqb, ne-eqb}
 use borrow.Author.Needs.{needs}
 use Rattle.mathematics.specs.Choice.{pick}
-use Rattle.billing.specs.numbers.Cents.{gib, evenOf, nearest}
-use Rattle.billing.proofs.numbers.CentsLaws.{rounded-up, rounded-down, rounded-half}
+use Rattle.billing.specs.Cents.{gib, evenOf, nearest}
+use Rattle.billing.proofs.CentsLaws.{rounded-up, rounded-down, rounded-half}
 use Rattle.billing.proofs.numbers.nearest_cents.Statement.{statement}
 use Rattle.billing.proofs.numbers.nearest_cents.Tie as tie
 

@@ -1,4 +1,6 @@
--- `encode_groups`: each turn adds the next group to all parity cells. The invariant: they hold the sums over the data disks below lo, and data cells are as they were. After the last group every set is clean.
+-- `encode_groups`: each turn adds the next group to all parity cells. The invariant: they hold the
+-- sums over the data disks below lo, and data cells are as they were. After the last group every
+-- set is clean.
 use mathlib.Core.Path.{_≡_, refl, _∙_}
 use mathlib.Core.Bool.{true}
 use Prim.Native.Nat.{_-_, _≤_}
@@ -8,7 +10,7 @@ use borrow.Author.Needs.{needs}
 use Rattle.mathematics.specs.Xor.{allBytes}
 use Rattle.xor.proofs.SourceLaws.{bytes-all}
 use Rattle.liberation.proofs.stripes.SizedLaws.{sized-kept, sized-long}
-use Rattle.encode.proofs.groups.GroupLoops.{Summed, summed-none, summed-turn, summed-all}
+use Rattle.encode.proofs.GroupLoops.{Summed, summed-none, summed-turn, summed-all}
 use Rattle.encode.proofs.groups.encode_groups.Statement.{statement}
 use Rattle.encode.proofs.groups.encode_groups.Tie as tie
 

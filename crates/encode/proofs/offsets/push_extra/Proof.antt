@@ -6,9 +6,9 @@ use native.Mathlib.Nat.{mul-le-mul}
 use native.Mathlib.Omega.{arith}
 use borrow.Author.Needs.{needs}
 use Rattle.liberation.specs.Sets.{place, extraRow}
-use Rattle.stripe_cells.proofs.ordinary.OrdinaryLists.{none-pushed, one-pushed}
-use Rattle.stripe_cells.proofs.in_set.SetLists.{extra-first, extra-absent, extra-some}
-use Rattle.encode.proofs.offsets.ExtraLists.{extra-before, extra-from, extra-none}
+use Rattle.stripe_cells.proofs.OrdinaryLists.{none-pushed, one-pushed}
+use Rattle.stripe_cells.proofs.SetLists.{extra-first, extra-absent, extra-some}
+use Rattle.encode.proofs.ExtraLists.{extra-before, extra-from, extra-none}
 use Rattle.encode.proofs.offsets.push_extra.Statement.{statement}
 use Rattle.encode.proofs.offsets.push_extra.Tie as tie
 

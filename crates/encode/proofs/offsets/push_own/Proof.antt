@@ -7,8 +7,8 @@ use lib.ListN.{set}
 use borrow.Author.Needs.{needs}
 use borrow.Author.Tests.{eq-eqb, ne-eqb}
 use Rattle.mathematics.specs.Choice.{pick}
-use Rattle.stripe_cells.specs.offsets.Offsets.{Pushed}
-use Rattle.stripe_cells.proofs.offsets.PushLaws.{pushed-none, pushed-one}
+use Rattle.stripe_cells.specs.Offsets.{Pushed}
+use Rattle.stripe_cells.proofs.PushLaws.{pushed-none, pushed-one}
 use Rattle.encode.proofs.offsets.push_own.Statement.{statement}
 use Rattle.encode.proofs.offsets.push_own.Tie as tie
 

@@ -1,4 +1,5 @@
--- `add_diagonal`: Q's cell, but in the first group, the diagonal's cells of the group and its extra cell, if it is there, are pushed, and their XOR is put at Q's cell.
+-- `add_diagonal`: Q's cell, but in the first group, the diagonal's cells of the group and its extra
+-- cell, if it is there, are pushed, and their XOR is put at Q's cell.
 use mathlib.Core.Path.{_≡_, sym}
 use Prim.Native.Nat.{_+_, _-_, _*_, _≤_}
 use native.Mathlib.Nat.{mul-le-mul}
@@ -9,10 +10,10 @@ use lib.Seq.{length-take-le}
 use borrow.Author.Needs.{needs}
 use Rattle.liberation.specs.Sets.{place}
 use Rattle.xor_in_place.specs.Beside.{Beside}
-use Rattle.stripe_cells.specs.offsets.Offsets.{scaled, Pushed}
-use Rattle.stripe_cells.proofs.ordinary.OrdinaryLists.{data-count}
-use Rattle.encode.specs.sets.Groups.{groupSources}
-use Rattle.encode.proofs.sets.GroupLists.{own-few, sources-pushed, group-beside, group-added}
+use Rattle.stripe_cells.specs.Offsets.{scaled, Pushed}
+use Rattle.stripe_cells.proofs.OrdinaryLists.{data-count}
+use Rattle.encode.specs.Groups.{groupSources}
+use Rattle.encode.proofs.GroupLists.{own-few, sources-pushed, group-beside, group-added}
 use Rattle.encode.proofs.sets.add_diagonal.Statement.{statement}
 use Rattle.encode.proofs.sets.add_diagonal.Tie as tie
 

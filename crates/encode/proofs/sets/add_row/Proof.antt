@@ -1,4 +1,5 @@
--- `add_row`: P's cell, but in the first group, and the row's cells of the group are pushed, and their XOR is put at P's cell.
+-- `add_row`: P's cell, but in the first group, and the row's cells of the group are pushed, and
+-- their XOR is put at P's cell.
 use mathlib.Core.Path.{_≡_, refl, sym}
 use Prim.Native.Nat.{_+_, _*_, _≤_}
 use native.Mathlib.Nat.{mul-le-mul}
@@ -8,9 +9,9 @@ use lib.Seq.{length-take-le}
 use borrow.Author.Needs.{needs}
 use Rattle.liberation.specs.Sets.{place}
 use Rattle.xor_in_place.specs.Beside.{Beside}
-use Rattle.stripe_cells.specs.offsets.Offsets.{scaled, Pushed}
-use Rattle.encode.specs.sets.Groups.{groupSources}
-use Rattle.encode.proofs.sets.GroupLists.{own-few, row-pushed, group-beside, group-added}
+use Rattle.stripe_cells.specs.Offsets.{scaled, Pushed}
+use Rattle.encode.specs.Groups.{groupSources}
+use Rattle.encode.proofs.GroupLists.{own-few, row-pushed, group-beside, group-added}
 use Rattle.encode.proofs.sets.add_row.Statement.{statement}
 use Rattle.encode.proofs.sets.add_row.Tie as tie
 

@@ -1,10 +1,11 @@
--- `add_group`: the rows from `first` on go with the diagonals from 0 on, then the rows from 0 on with the diagonals that are left, so every set is added once.
+-- `add_group`: the rows from `first` on go with the diagonals from 0 on, then the rows from 0 on
+-- with the diagonals that are left, so every set is added once.
 use Prim.Native.Nat.{_-_, _<_}
 use native.Mathlib.Omega.{arith}
 use borrow.Author.Needs.{needs}
 use Rattle.liberation.proofs.Widths.{width-least}
 use Rattle.parity_sets.proofs.NumberLaws.{next-below}
-use Rattle.encode.proofs.sums.SetLoops.{still-group, sets-both}
+use Rattle.encode.proofs.SetLoops.{still-group, sets-both}
 use Rattle.encode.proofs.sums.add_group.Statement.{statement}
 use Rattle.encode.proofs.sums.add_group.Tie as tie
 

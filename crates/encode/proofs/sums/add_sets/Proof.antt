@@ -1,12 +1,13 @@
--- `add_sets`: each turn adds the next row set and the next diagonal set. The invariant: of each kind, as many sets as turns have the group added.
+-- `add_sets`: each turn adds the next row set and the next diagonal set. The invariant: of each
+-- kind, as many sets as turns have the group added.
 use mathlib.Core.Path.{_≡_, refl, _∙_}
 use Prim.Native.Nat.{_+_, _-_, _≤_, _<_}
 use native.Mathlib.Omega.{arith}
 use lib.ListN.{length}
 use borrow.Author.Needs.{needs}
-use Rattle.encode.specs.sums.Added.{SetsAdded}
+use Rattle.encode.specs.Added.{SetsAdded}
 use Rattle.liberation.proofs.stripes.SizedLaws.{sized-long}
-use Rattle.encode.proofs.sums.SetLoops.{still-group, sets-none, sets-turn, sets-end}
+use Rattle.encode.proofs.SetLoops.{still-group, sets-none, sets-turn, sets-end}
 use Rattle.encode.proofs.sums.add_sets.Statement.{statement}
 use Rattle.encode.proofs.sums.add_sets.Tie as tie
 

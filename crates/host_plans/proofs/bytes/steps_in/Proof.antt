@@ -4,7 +4,7 @@ use Prim.Native.Nat.{ℕ, _+_, _-_, _*_, _≤_, _<_}
 use native.Mathlib.Omega.{arith}
 use lib.ListN.{getD, length-replicate}
 use borrow.Author.Needs.{needs}
-use Rattle.host_plans.proofs.bytes.FillLaws.{Has, has-none, has-next, all-steps}
+use Rattle.host_plans.proofs.FillLaws.{Has, has-none, has-next, all-steps}
 use Rattle.host_plans.proofs.bytes.steps_in.Statement.{statement}
 use Rattle.host_plans.proofs.bytes.steps_in.Tie as tie
 

@@ -1,16 +1,17 @@
--- `plan_list`: refusals 1, 13, 3 and 5, then the judge's, leave the list as it was; else it is written.
+-- `plan_list`: refusals 1, 13, 3 and 5, then the judge's, leave the list as it was; else it is
+-- written.
 use mathlib.Core.Path.{_≡_, sym, _∙_}
 use borrow.Author.Needs.{needs}
 use Rattle.judge.proofs.FormRefusals.{after-refused, after-step, after-done}
 use Rattle.judge.proofs.AcceptLaws.{zero-accepts}
-use Rattle.host_plans.specs.reads.Says.{listsFault}
-use Rattle.host_plans.proofs.reads.PlanListLaws.{Passed, passed}
+use Rattle.host_plans.specs.PlanListSays.{listsRefusal}
+use Rattle.host_plans.proofs.PlanListLaws.{Passed, passed}
 use Rattle.host_plans.proofs.reads.plan_list.Statement.{statement}
 use Rattle.host_plans.proofs.reads.plan_list.Tie as tie
 
 -- past the refusals that come before any step
-none : (c : tie.Else1) → let a = c .before .before .before .before .args in listsFault (a .width) (a .disks) (a .lost) (a .plan .now) (a .list .now) ≡ 0
-none c = sym (c .before .lengths-fault .ensures) ∙ c .if1 .left
+none : (c : tie.Else1) → let a = c .before .before .before .before .args in listsRefusal (a .width) (a .disks) (a .lost) (a .plan .now) (a .list .now) ≡ 0
+none c = sym (c .before .lengths-refusal .ensures) ∙ c .if1 .left
 
 within : (c : tie.Else1) → let a = c .before .before .before .before .args in Passed (a .width) (a .disks) (a .lost) (a .plan .now) (a .list .now)
 within c = passed _ _ _ _ _ (none c)
@@ -20,7 +21,7 @@ returns c =
     let t = c .before in
     let q = t .before in
     let a = q .before .before .before .args in
-    after-refused (a .width) (a .disks) (a .lost) (q .lengths-fault .result) _ (a .plan .now) _ (a .list .now) (c .answered .result) (q .lengths-fault .ensures) (t .if1 .taken) (c .answered .ensures)
+    after-refused (a .width) (a .disks) (a .lost) (q .lengths-refusal .result) _ (a .plan .now) _ (a .list .now) (c .answered .result) (q .lengths-refusal .ensures) (t .if1 .taken) (c .answered .ensures)
 
 returns-2 : tie.Need-returns-2
 returns-2 c =

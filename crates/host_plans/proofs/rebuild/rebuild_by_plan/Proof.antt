@@ -1,4 +1,5 @@
--- `rebuild_by_plan`: refusals 1, 13, 2, 3 and 5, then the judge's, leave the column as it was; else the plan is followed.
+-- `rebuild_by_plan`: refusals 1, 13, 2, 3 and 5, then the judge's, leave the column as it was; else
+-- the plan is followed.
 use mathlib.Core.Path.{_≡_, sym, _∙_}
 use mathlib.Core.Bool.{true}
 use borrow.Author.Needs.{needs}
@@ -6,14 +7,14 @@ use Rattle.mathematics.specs.Xor.{allBytes}
 use Rattle.xor.proofs.SourceLaws.{bytes-all}
 use Rattle.judge.proofs.FormRefusals.{after-refused, after-step, after-done}
 use Rattle.judge.proofs.AcceptLaws.{zero-accepts}
-use Rattle.host_plans.specs.rebuild.Says.{callFault}
-use Rattle.host_plans.proofs.rebuild.ByPlanLaws.{Passed, passed}
+use Rattle.host_plans.specs.RebuildByPlanSays.{callRefusal}
+use Rattle.host_plans.proofs.ByPlanLaws.{Passed, passed}
 use Rattle.host_plans.proofs.rebuild.rebuild_by_plan.Statement.{statement}
 use Rattle.host_plans.proofs.rebuild.rebuild_by_plan.Tie as tie
 
 -- past the refusals that come before any step
-none : (c : tie.Else1) → let a = c .before .before .before .before .before .args in callFault (a .shape .width) (a .shape .disks) (a .shape .«cell_size») (a .lost) (a .plan .now) (a .stripe .now) (a .column .now) ≡ 0
-none c = sym (c .before .call-fault .ensures) ∙ c .if1 .left
+none : (c : tie.Else1) → let a = c .before .before .before .before .before .args in callRefusal (a .shape .width) (a .shape .disks) (a .shape .«cell_size») (a .lost) (a .plan .now) (a .stripe .now) (a .column .now) ≡ 0
+none c = sym (c .before .call-refusal .ensures) ∙ c .if1 .left
 
 within : (c : tie.Else1) → let a = c .before .before .before .before .before .args in Passed (a .shape .width) (a .shape .disks) (a .shape .«cell_size») (a .lost) (a .plan .now) (a .stripe .now) (a .column .now)
 within c = passed _ _ _ _ _ _ _ (none c)
@@ -28,7 +29,7 @@ returns c =
     let q = t .before in
     let a = q .before .before .before .before .args in
     record {
-      decides = after-refused (a .shape .width) (a .shape .disks) (a .lost) (q .call-fault .result) _ (a .plan .now) _ (a .column .now) (c .answered .result) (q .call-fault .ensures) (t .if1 .taken) (c .answered .ensures);
+      decides = after-refused (a .shape .width) (a .shape .disks) (a .lost) (q .call-refusal .result) _ (a .plan .now) _ (a .column .now) (c .answered .result) (q .call-refusal .ensures) (t .if1 .taken) (c .answered .ensures);
       bytes = bytes (q .before .before);
     }
 

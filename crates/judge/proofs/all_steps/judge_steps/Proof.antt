@@ -1,4 +1,6 @@
--- `judge_steps`: each turn reads three bytes, refuses the step or marks its row and the cells of its set. The invariant: the rows rebuilt and the cells read so far, with the steps still to come, give the answer of the whole plan.
+-- `judge_steps`: each turn reads three bytes, refuses the step or marks its row and the cells of
+-- its set. The invariant: the rows rebuilt and the cells read so far, with the steps still to come,
+-- give the answer of the whole plan.
 use mathlib.Core.Path.{_≡_, refl, ap, _∙_}
 use mathlib.Core.List.{[]}
 use Prim.Native.Nat.{_+_, _-_, _*_}
@@ -7,7 +9,7 @@ use lib.ListN.{length, set, replicate}
 use borrow.Author.Needs.{needs}
 use Rattle.liberation.specs.Plans.{Step, step, marksFrom}
 use Rattle.liberation.proofs.MarkLists.{length-marks}
-use Rattle.judge.proofs.all_steps.JudgingLoop.{InForm, BytesOf, Halfway, halfway-start, halfway-long, halfway-form, halfway-turn, halfway-refused, halfway-end}
+use Rattle.judge.proofs.JudgingLoop.{InForm, BytesOf, Halfway, halfway-start, halfway-long, halfway-form, halfway-turn, halfway-refused, halfway-end}
 use Rattle.judge.proofs.all_steps.judge_steps.Statement.{statement}
 use Rattle.judge.proofs.all_steps.judge_steps.Tie as tie
 
@@ -26,10 +28,10 @@ loop-holds : tie.Need-loop-holds Inv-loop μ-loop
 loop-holds c = let a = c .before .before .args in halfway-start (a .width) (a .disks) (a .lost) (a .plan .now) _ (a .marks .now) no-rows (c .before .before .pre .1 .1)
 
 -- the step that was read
-abbrev read : (c : tie.After-step-fault Inv-loop μ-loop) → Step
+abbrev read : (c : tie.After-step-refusal Inv-loop μ-loop) → Step
 read c = step (c .before .before .before .before .before .wide .result) (c .before .before .before .wide2 .result) (c .before .wide3 .result)
 
-bytes : (c : tie.After-step-fault Inv-loop μ-loop) → BytesOf (c .before .before .before .before .before .before .before .before .before .before .before .args .plan .now) (c .before .before .before .before .before .before .before .before .loop .i) (read c)
+bytes : (c : tie.After-step-refusal Inv-loop μ-loop) → BytesOf (c .before .before .before .before .before .before .before .before .before .before .before .args .plan .now) (c .before .before .before .before .before .before .before .before .loop .i) (read c)
 bytes c = record { row = c .before .before .before .before .before .wide .ensures; kind = c .before .before .before .wide2 .ensures; number = c .before .wide3 .ensures }
 
 same-length : tie.Need-same-length Inv-loop μ-loop
@@ -43,14 +45,14 @@ returns : tie.Need-returns Inv-loop μ-loop
 returns c =
     let a = c .before .before .before .before .before .before .before .before .before .before .before .before .args in
     let l = c .before .before .before .before .before .before .before .before .before .loop in
-    halfway-refused (a .width) (a .disks) (a .lost) (a .plan .now) (l .done) (l .marks) (read (c .before)) (l .reads) (l .i) (c .before .step-fault .result) (c .before .before .before .before .before .before .before .before .loop-test .taken) (bytes (c .before)) (c .before .step-fault .ensures) (c .if1 .taken) (l .inv)
+    halfway-refused (a .width) (a .disks) (a .lost) (a .plan .now) (l .done) (l .marks) (read (c .before)) (l .reads) (l .i) (c .before .step-refusal .result) (c .before .before .before .before .before .before .before .before .loop-test .taken) (bytes (c .before)) (c .before .step-refusal .ensures) (c .if1 .taken) (l .inv)
 
 -- a step that is not refused is in form
 form : (c : tie.Else1 Inv-loop μ-loop) → InForm (c .before .before .before .before .before .before .before .before .before .before .before .before .args .width) (read (c .before))
 form c =
     let a = c .before .before .before .before .before .before .before .before .before .before .before .before .args in
     let l = c .before .before .before .before .before .before .before .before .before .loop in
-    halfway-form (a .width) (a .disks) (a .lost) (a .plan .now) (l .done) (l .marks) (read (c .before)) (l .reads) (l .i) (c .before .step-fault .result) (l .inv) (c .before .step-fault .ensures) (c .if1 .left)
+    halfway-form (a .width) (a .disks) (a .lost) (a .plan .now) (l .done) (l .marks) (read (c .before)) (l .reads) (l .i) (c .before .step-refusal .result) (l .inv) (c .before .step-refusal .ensures) (c .if1 .left)
 
 array-write-done : tie.Need-array-write-done Inv-loop μ-loop
 array-write-done c = omega (arith, form c .row, c .before .before .before .before .before .before .before .before .before .before .before .before .pre .0 .0 .widest)
@@ -70,7 +72,7 @@ turned c =
     let l = c .before .before .before .before .before .before .before .before .before .before .before .before .before .loop in
     let e = c .before .before .before .before in
     let m = c .before .before .mark-set in
-    halfway-turn (a .width) (a .disks) (a .lost) (a .plan .now) (l .done) (l .marks) (m .last .1 .1 .1 .1 .1 .0) (read (e .before)) (l .reads) (l .i) (e .before .step-fault .result) (m .result) (q .0 .0 .widest) (q .0 .0 .disks) (c .before .before .before .before .before .before .before .before .before .before .before .before .loop-test .taken) (bytes (e .before)) (e .before .step-fault .ensures) (e .if1 .left) (l .inv) (m .ensures)
+    halfway-turn (a .width) (a .disks) (a .lost) (a .plan .now) (l .done) (l .marks) (m .last .1 .1 .1 .1 .1 .0) (read (e .before)) (l .reads) (l .i) (e .before .step-refusal .result) (m .result) (q .0 .0 .widest) (q .0 .0 .disks) (c .before .before .before .before .before .before .before .before .before .before .before .before .loop-test .taken) (bytes (e .before)) (e .before .step-refusal .ensures) (e .if1 .left) (l .inv) (m .ensures)
 
 add-reads : tie.Need-add-reads Inv-loop μ-loop
 add-reads c = omega (arith, turned c .few, turned c .within, c .before .before .before .before .before .before .before .before .before .before .before .before .before .before .before .before .pre .0 .0 .widest)

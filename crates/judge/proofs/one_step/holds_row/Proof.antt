@@ -1,4 +1,5 @@
--- `holds_row`: the cells of the set come one by one and are compared with the row's lost cell. The invariant: the cells still to come answer for all.
+-- `holds_row`: the cells of the set come one by one and are compared with the row's lost cell. The
+-- invariant: the cells still to come answer for all.
 use mathlib.Core.Path.{_≡_, refl, sym, _∙_}
 use Prim.Native.Nat.{_+_, _-_, _%_}
 use native.Mathlib.Omega.{arith}

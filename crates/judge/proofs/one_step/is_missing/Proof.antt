@@ -1,4 +1,5 @@
--- `is_missing`: a cell on another disk or of the row itself is not missing; any other is there exactly if its row's byte is not 0.
+-- `is_missing`: a cell on another disk or of the row itself is not missing; any other is there
+-- exactly if its row's byte is not 0.
 use mathlib.Core.Path.{_≡_, sym, ap, _∙_}
 use mathlib.Core.Bool.{not}
 use Prim.Native.Nat.{ℕ, _*_, _-_, _%_, _<_, _≤_}
@@ -10,7 +11,7 @@ use borrow.Author.Needs.{needs}
 use borrow.Author.Tests.{eqb-true, eqb-false, not-true, not-false}
 use Rattle.liberation.specs.Sets.{diskAt}
 use Rattle.parity_sets.proofs.NumberLaws.{row-of}
-use Rattle.judge.proofs.one_step.StepRefusals.{there-elsewhere, there-itself, there-other, byte-none}
+use Rattle.judge.proofs.StepRefusals.{there-elsewhere, there-itself, there-other, byte-none}
 use Rattle.judge.proofs.one_step.is_missing.Statement.{statement}
 use Rattle.judge.proofs.one_step.is_missing.Tie as tie
 

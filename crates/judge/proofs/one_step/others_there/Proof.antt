@@ -1,4 +1,5 @@
--- `others_there`: the cells of the set come one by one, and the first that is missing ends the loop. The invariant: the cells still to come answer for all.
+-- `others_there`: the cells of the set come one by one, and the first that is missing ends the
+-- loop. The invariant: the cells still to come answer for all.
 use mathlib.Core.Path.{_≡_, refl}
 use mathlib.Core.List.{List}
 use Prim.Native.Nat.{ℕ, _+_, _-_, _%_}
@@ -9,7 +10,7 @@ use Rattle.liberation.specs.Sets.{setOf}
 use Rattle.liberation.specs.Plans.{marksFrom}
 use Rattle.liberation.proofs.DiagonalRows.{row-below, row-on}
 use Rattle.parity_sets.proofs.NumberLaws.{row-first}
-use Rattle.judge.proofs.one_step.StepRefusals.{there, there-turn, there-stop, there-end}
+use Rattle.judge.proofs.StepRefusals.{there, there-turn, there-stop, there-end}
 use Rattle.judge.proofs.one_step.others_there.Statement.{statement}
 use Rattle.judge.proofs.one_step.others_there.Tie as tie
 

@@ -1,10 +1,11 @@
--- `mend_all`: each turn mends the next server. The invariant: the slice is as long as before, and the servers passed are mended in it.
+-- `mend_all`: each turn mends the next server. The invariant: the slice is as long as before, and
+-- the servers passed are mended in it.
 use mathlib.Core.Path.{_≡_, refl, ap, _∙_}
 use Prim.Native.Nat.{ℕ, _+_, _-_, _≤_}
 use native.Mathlib.Omega.{arith}
 use lib.ListN.{length}
 use Rattle.liberation.specs.parity_server.Servers.{mendedAll}
-use Rattle.parity_server.proofs.mends.Turning.{turn-of, turns-none, turns-more}
+use Rattle.parity_server.proofs.Turning.{turn-of, turns-none, turns-more}
 use Rattle.parity_server.proofs.mends.mend_all.Statement.{statement}
 use Rattle.parity_server.proofs.mends.mend_all.Tie as tie
 

@@ -1,7 +1,8 @@
--- `mend_server`: the one lost disk by our plan; where there is no such one, two by the walk, or none. A disk that is lost is one of the array.
+-- `mend_server`: the one lost disk by our plan; where there is no such one, two by the walk, or
+-- none. A disk that is lost is one of the array.
 use mathlib.Core.Path.{_≡_}
 use borrow.Author.Needs.{needs}
-use Rattle.parity_server.proofs.mends.Turning.{none-lost, both-lost, second-none, second-too, only-disk, only-mended, both-disks}
+use Rattle.parity_server.proofs.Turning.{none-lost, both-lost, second-none, second-too, only-disk, only-mended, both-disks}
 use Rattle.parity_server.proofs.mends.mend_server.Statement.{statement}
 use Rattle.parity_server.proofs.mends.mend_server.Tie as tie
 

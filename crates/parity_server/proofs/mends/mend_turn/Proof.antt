@@ -1,14 +1,15 @@
--- `mend_turn`: the lost server is passed over; of any other the part of the slice that is its stripe is mended, and the rest stands.
+-- `mend_turn`: the lost server is passed over; of any other the part of the slice that is its
+-- stripe is mended, and the rest stands.
 use mathlib.Core.Path.{_≡_, ap, _∙_}
 use Prim.Native.Nat.{ℕ, _+_, _-_, _*_}
 use native.Mathlib.Omega.{arith}
 use lib.ListN.{length, take, drop}
 use borrow.Author.Needs.{needs}
 use Rattle.liberation.specs.stripes.Stripes.{stripeLong}
-use Rattle.liberation.proofs.stripes.CellLaws.{cell-long}
+use Rattle.liberation.proofs.stripes.StripeCellLaws.{cell-long}
 use Rattle.liberation.specs.parity_server.Servers.{firstLoss, secondLoss, mended}
 use Rattle.xor.proofs.PartLaws.{put-part}
-use Rattle.parity_server.proofs.mends.Turning.{turn-lost, turn-other}
+use Rattle.parity_server.proofs.Turning.{turn-lost, turn-other}
 use Rattle.parity_server.proofs.mends.mend_turn.Statement.{statement}
 use Rattle.parity_server.proofs.mends.mend_turn.Tie as tie
 

@@ -1,5 +1,5 @@
 -- `only_loss`: the two bytes tested one after the other.
-use Rattle.parity_server.proofs.mends.Turning.{only-second, only-first, only-none}
+use Rattle.parity_server.proofs.Turning.{only-second, only-first, only-none}
 use Rattle.parity_server.proofs.mends.only_loss.Statement.{statement}
 use Rattle.parity_server.proofs.mends.only_loss.Tie as tie
 

@@ -1,12 +1,13 @@
--- `push_others`: each turn pushes the next server's offset, or none. The invariant: the offsets of the servers passed are in the list, but that of the server left out.
+-- `push_others`: each turn pushes the next server's offset, or none. The invariant: the offsets of
+-- the servers passed are in the list, but that of the server left out.
 use mathlib.Core.Path.{_≡_, refl, subst, _∙_}
 use Prim.Native.Nat.{ℕ, _+_, _-_, _≤_}
 use native.Mathlib.Omega.{arith}
 use lib.ListN.{length}
 use Rattle.liberation.specs.stripes.Stripes.{without}
 use Rattle.liberation.specs.parity_server.Servers.{upTo}
-use Rattle.stripe_cells.specs.offsets.Offsets.{scaled, Pushed}
-use Rattle.parity_server.proofs.sums.OtherServers.{others-none, others-more, others-few}
+use Rattle.stripe_cells.specs.Offsets.{scaled, Pushed}
+use Rattle.parity_server.proofs.OtherServers.{others-none, others-more, others-few}
 use Rattle.parity_server.proofs.sums.push_others.Statement.{statement}
 use Rattle.parity_server.proofs.sums.push_others.Tie as tie
 

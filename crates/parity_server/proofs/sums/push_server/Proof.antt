@@ -2,7 +2,7 @@
 use native.Mathlib.Nat.{mul-le-mul}
 use native.Mathlib.Omega.{arith}
 use borrow.Author.Needs.{needs}
-use Rattle.parity_server.proofs.sums.OtherServers.{turn-out, turn-in}
+use Rattle.parity_server.proofs.OtherServers.{turn-out, turn-in}
 use Rattle.parity_server.proofs.sums.push_server.Statement.{statement}
 use Rattle.parity_server.proofs.sums.push_server.Tie as tie
 

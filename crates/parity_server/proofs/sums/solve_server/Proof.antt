@@ -1,4 +1,5 @@
--- `solve_server`: the offsets of the other stripes are pushed, and their XOR is put in the place of this one, apart from which they lie.
+-- `solve_server`: the offsets of the other stripes are pushed, and their XOR is put in the place of
+-- this one, apart from which they lie.
 use mathlib.Core.Path.{sym}
 use Prim.Native.Nat.{_*_}
 use native.Mathlib.Omega.{arith}
@@ -6,7 +7,7 @@ use lib.ListN.{length, take}
 use lib.Seq.{length-take-le}
 use borrow.Author.Needs.{needs}
 use Rattle.xor_in_place.specs.Beside.{Apart}
-use Rattle.parity_server.proofs.sums.OtherServers.{others-apart, others-solve}
+use Rattle.parity_server.proofs.OtherServers.{others-apart, others-solve}
 use Rattle.parity_server.proofs.sums.solve_server.Statement.{statement}
 use Rattle.parity_server.proofs.sums.solve_server.Tie as tie
 

@@ -1,10 +1,11 @@
--- `mark_cell`: a cell on the lost disk is none of the surviving ones; any other is marked, and was fresh where its mark was 0.
+-- `mark_cell`: a cell on the lost disk is none of the surviving ones; any other is marked, and was
+-- fresh where its mark was 0.
 use mathlib.Core.Path.{_≡_, sym, ap, _∙_}
 use mathlib.Core.Bool.{Bool}
 use borrow.Author.Tests.{eq-eqb, ne-eqb, eqb-true, eqb-false}
 use Rattle.mathematics.specs.Choice.{when}
 use Rattle.liberation.specs.Sets.{diskAt}
-use Rattle.parity_sets.proofs.marks.MarkLaws.{lost-one, surviving-one, marked-none, marked-one}
+use Rattle.parity_sets.proofs.MarkLaws.{lost-one, surviving-one, marked-none, marked-one}
 use borrow.Author.Needs.{needs}
 use Rattle.parity_sets.proofs.marks.mark_cell.Statement.{statement}
 use Rattle.parity_sets.proofs.marks.mark_cell.Tie as tie

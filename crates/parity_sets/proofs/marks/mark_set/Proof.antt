@@ -1,4 +1,6 @@
--- `mark_set`: the cells of the set come one by one, and each turn marks the next. The invariant: what is marked so far, with the cells still to come, gives the marks and the count of the whole set; the row is that of a diagonal's cell on the disk that is next.
+-- `mark_set`: the cells of the set come one by one, and each turn marks the next. The invariant:
+-- what is marked so far, with the cells still to come, gives the marks and the count of the whole
+-- set; the row is that of a diagonal's cell on the disk that is next.
 use mathlib.Core.Path.{_≡_}
 use Prim.Native.Nat.{_+_, _-_, _*_, _%_, _<_}
 use native.Mathlib.Omega.{arith}
@@ -10,7 +12,7 @@ use Rattle.liberation.proofs.DiagonalRows.{row-below, row-on}
 use Rattle.liberation.proofs.SetLaws.{set-below}
 use Rattle.liberation.proofs.SetSizes.{size-most}
 use Rattle.parity_sets.proofs.NumberLaws.{row-first}
-use Rattle.parity_sets.proofs.marks.MarkLaws.{Halfway, halfway-start, halfway-turn, halfway-end}
+use Rattle.parity_sets.proofs.MarkLaws.{Halfway, halfway-start, halfway-turn, halfway-end}
 use Rattle.parity_sets.proofs.marks.mark_set.Statement.{statement}
 use Rattle.parity_sets.proofs.marks.mark_set.Tie as tie
 

@@ -1,4 +1,5 @@
--- `judge_text`: refusals 1, 13 and 3, then 22, then the judge on the bytes of the steps that were read.
+-- `judge_text`: refusals 1, 13 and 3, then 22, then the judge on the bytes of the steps that were
+-- read.
 use mathlib.Core.Path.{_≡_, refl, sym, _∙_}
 use Prim.Native.Nat.{_*_, _≤_}
 use native.Mathlib.Omega.{arith}
@@ -7,16 +8,16 @@ use lib.Seq.{length-take-le}
 use borrow.Author.Tests.{not-true, not-false}
 use borrow.Author.Needs.{needs}
 use Rattle.mathematics.proofs.ChoiceLaws.{first-kept, first-next}
-use Rattle.liberation.specs.Sets.{planFault}
+use Rattle.liberation.specs.Sets.{planRefusal}
 use Rattle.plan_texts.specs.form.Reading.{stepsRead}
-use Rattle.plan_texts.specs.judged.Says.{textFault, judgeFirst}
-use Rattle.plan_texts.proofs.judged.JudgeTextLaws.{not-read, is-read, read-steps, plan-small, judges-refused, judges-steps}
+use Rattle.plan_texts.specs.JudgeTextSays.{textRefusal, judgeFirst}
+use Rattle.plan_texts.proofs.JudgeTextLaws.{not-read, is-read, read-steps, plan-small, judges-refused, judges-steps}
 use Rattle.plan_texts.proofs.judged.judge_text.Statement.{statement}
 use Rattle.plan_texts.proofs.judged.judge_text.Tie as tie
 
 -- past the refusals of the numbers
-numbers : (c : tie.Else1) → let a = c .before .before .before .args in planFault (a .width) (a .disks) (a .lost) ≡ 0
-numbers c = sym (c .before .plan-fault .ensures) ∙ c .if1 .left
+numbers : (c : tie.Else1) → let a = c .before .before .before .args in planRefusal (a .width) (a .disks) (a .lost) ≡ 0
+numbers c = sym (c .before .plan-refusal .ensures) ∙ c .if1 .left
 
 small : (c : tie.Else1) → c .before .before .before .args .width ≤ 31
 small c = let a = c .before .before .before .args in plan-small (a .width) (a .disks) (a .lost) (numbers c)
@@ -33,8 +34,8 @@ returns c =
     let t = c .before in
     let q = t .before in
     let a = q .before .before .args in
-    judges-refused (judgeFirst (a .width) (a .disks) (a .lost) (a .text .now)) (a .width) (a .disks) (a .lost) (stepsRead (a .width) (a .text .now)) (q .plan-fault .result) _
-    (first-kept _ _ (textFault (a .width) (a .text .now)) (q .plan-fault .ensures) (t .if1 .taken)) (t .if1 .taken) (c .answered .ensures) refl
+    judges-refused (judgeFirst (a .width) (a .disks) (a .lost) (a .text .now)) (a .width) (a .disks) (a .lost) (stepsRead (a .width) (a .text .now)) (q .plan-refusal .result) _
+    (first-kept _ _ (textRefusal (a .width) (a .text .now)) (q .plan-refusal .ensures) (t .if1 .taken)) (t .if1 .taken) (c .answered .ensures) refl
 
 parse-requires : tie.Need-parse-requires
 parse-requires c κs = small c
@@ -45,7 +46,7 @@ returns-2 c =
     let r = t .before .before in
     let a = r .before .before .before .before .args in
     judges-refused (judgeFirst (a .width) (a .disks) (a .lost) (a .text .now)) (a .width) (a .disks) (a .lost) (stepsRead (a .width) (a .text .now)) 22 _
-    (first-next 22 (planFault (a .width) (a .disks) (a .lost)) (textFault (a .width) (a .text .now)) (numbers (r .before)) (sym (not-read (a .width) (a .text .now) (r .parse .result) (r .parse .ensures) (not-true (r .parse .result .ok) (t .if2 .taken)))))
+    (first-next 22 (planRefusal (a .width) (a .disks) (a .lost)) (textRefusal (a .width) (a .text .now)) (numbers (r .before)) (sym (not-read (a .width) (a .text .now) (r .parse .result) (r .parse .ensures) (not-true (r .parse .result .ok) (t .if2 .taken)))))
     (λ e. omega arith) (c .answered2 .ensures) refl
 
 mul-plan : tie.Need-mul-plan
@@ -65,7 +66,7 @@ returns-3 c =
     let n = 3 * a .width in
     let o = not-false (r .parse .result .ok) (e .if2 .left) in
     judges-steps (judgeFirst (a .width) (a .disks) (a .lost) (a .text .now)) (a .width) (a .disks) (a .lost) (stepsRead (a .width) (a .text .now)) (take n (r .parse .result .plan)) (c .judge-plan .result)
-    (sym (first-next 0 (planFault (a .width) (a .disks) (a .lost)) (textFault (a .width) (a .text .now)) (numbers (r .before)) (sym (is-read (a .width) (a .text .now) (r .parse .result) (r .parse .ensures) o))))
+    (sym (first-next 0 (planRefusal (a .width) (a .disks) (a .lost)) (textRefusal (a .width) (a .text .now)) (numbers (r .before)) (sym (is-read (a .width) (a .text .now) (r .parse .result) (r .parse .ensures) o))))
     (numbers (r .before)) (length-take-le n (r .parse .result .plan) (fits r)) (read-steps (a .width) (a .text .now) (r .parse .result) (r .parse .ensures) o) (c .judge-plan .ensures)
 
 pub judge-text-spec : {M : Type 1} → statement M

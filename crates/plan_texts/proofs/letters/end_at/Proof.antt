@@ -1,6 +1,6 @@
 -- `end_at`: the byte at the place, and after CR the one behind it.
 use borrow.Author.Needs.{needs}
-use Rattle.plan_texts.proofs.letters.TestLaws.{end-lf, end-none, end-cr-lf, end-cr}
+use Rattle.plan_texts.proofs.LetterTests.{end-lf, end-none, end-cr-lf, end-cr}
 use Rattle.plan_texts.proofs.letters.end_at.Statement.{statement}
 use Rattle.plan_texts.proofs.letters.end_at.Tie as tie
 

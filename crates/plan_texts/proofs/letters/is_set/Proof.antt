@@ -2,7 +2,7 @@
 use mathlib.Core.Path.{sym, _∙_}
 use borrow.Author.Tests.{not-true, not-false}
 use borrow.Author.Needs.{needs}
-use Rattle.plan_texts.proofs.letters.TestLaws.{set-no-comma, set-no-letter, set-last}
+use Rattle.plan_texts.proofs.LetterTests.{set-no-comma, set-no-letter, set-last}
 use Rattle.plan_texts.proofs.letters.is_set.Statement.{statement}
 use Rattle.plan_texts.proofs.letters.is_set.Tie as tie
 

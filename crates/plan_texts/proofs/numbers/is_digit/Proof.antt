@@ -1,5 +1,5 @@
 -- `is_digit`: 48 to 57.
-use Rattle.plan_texts.proofs.numbers.NumberLaws.{digit-low, digit-high}
+use Rattle.plan_texts.proofs.NumberReading.{digit-low, digit-high}
 use Rattle.plan_texts.proofs.numbers.is_digit.Statement.{statement}
 use Rattle.plan_texts.proofs.numbers.is_digit.Tie as tie
 

@@ -3,7 +3,7 @@ use mathlib.Core.Path.{refl, sym, ap₂, _∙_}
 use Prim.Native.Nat.{ℕ, _+_, _*_}
 use borrow.Author.Tests.{not-true, not-false}
 use borrow.Author.Needs.{needs}
-use Rattle.plan_texts.proofs.numbers.NumberLaws.{no-number, one-digit, two-digits, three-digits}
+use Rattle.plan_texts.proofs.NumberReading.{no-number, one-digit, two-digits, three-digits}
 use Rattle.plan_texts.proofs.numbers.number_at.Statement.{statement}
 use Rattle.plan_texts.proofs.numbers.number_at.Tie as tie
 

@@ -1,11 +1,12 @@
--- `write_steps`: the judge decides; an accepted plan has numbers of at most two digits, and 263 bytes have room for its plain form.
+-- `write_steps`: the judge decides; an accepted plan has numbers of at most two digits, and 263
+-- bytes have room for its plain form.
 use mathlib.Core.Path.{refl}
 use native.Mathlib.Omega.{arith}
 use borrow.Author.Needs.{needs}
 use Rattle.liberation.specs.Judging.{stepsIn}
-use Rattle.plan_texts.specs.judged.Says.{Judges}
-use Rattle.plan_texts.proofs.judged.JudgeTextLaws.{plan-small, judges-steps}
-use Rattle.plan_texts.proofs.plain.FileLaws.{steps-refused, steps-accepted, steps-written, writable-steps}
+use Rattle.plan_texts.specs.JudgeTextSays.{Judges}
+use Rattle.plan_texts.proofs.JudgeTextLaws.{plan-small, judges-steps}
+use Rattle.plan_texts.proofs.FileLaws.{steps-refused, steps-accepted, steps-written, writable-steps}
 use Rattle.plan_texts.proofs.plain.write_steps.Statement.{statement}
 use Rattle.plan_texts.proofs.plain.write_steps.Tie as tie
 

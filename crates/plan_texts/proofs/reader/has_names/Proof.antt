@@ -2,7 +2,7 @@
 use mathlib.Core.Path.{sym}
 use lib.Seq.{length-take-le}
 use borrow.Author.Needs.{needs}
-use Rattle.plan_texts.proofs.reader.LineLaws.{names-short, names-same}
+use Rattle.plan_texts.proofs.LineLaws.{names-short, names-same}
 use Rattle.plan_texts.proofs.reader.has_names.Statement.{statement}
 use Rattle.plan_texts.proofs.reader.has_names.Tie as tie
 

@@ -4,7 +4,7 @@ use native.Mathlib.Omega.{arith}
 use lib.ListN.{drop}
 use borrow.Author.Needs.{needs}
 use Rattle.plan_texts.proofs.form.StepwiseLaws.{end-few}
-use Rattle.plan_texts.proofs.reader.LineLaws.{number-ends, line-is}
+use Rattle.plan_texts.proofs.LineLaws.{number-ends, line-is}
 use Rattle.plan_texts.proofs.reader.line_at.Statement.{statement}
 use Rattle.plan_texts.proofs.reader.line_at.Tie as tie
 

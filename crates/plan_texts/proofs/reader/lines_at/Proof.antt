@@ -1,4 +1,5 @@
--- `lines_at`: each turn reads a line and puts its step into the plan. The invariant: the lines so far are lines, their steps are the plan's bytes, and the next line begins behind them.
+-- `lines_at`: each turn reads a line and puts its step into the plan. The invariant: the lines so
+-- far are lines, their steps are the plan's bytes, and the next line begins behind them.
 use mathlib.Core.Path.{_≡_, refl}
 use mathlib.Core.Bool.{true}
 use Prim.Native.Nat.{_-_}
@@ -7,7 +8,7 @@ use borrow.Author.Tests.{not-true, not-false}
 use borrow.Author.Needs.{needs}
 use Rattle.liberation.specs.Plans.{step}
 use Rattle.plan_texts.proofs.form.StepwiseLaws.{SmallStep}
-use Rattle.plan_texts.proofs.reader.LineLaws.{small-at, Halfway, halfway-start, halfway-place, halfway-turn, halfway-bad, halfway-more, halfway-end}
+use Rattle.plan_texts.proofs.LineLaws.{small-at, Halfway, halfway-start, halfway-place, halfway-turn, halfway-bad, halfway-more, halfway-end}
 use Rattle.plan_texts.proofs.reader.lines_at.Statement.{statement}
 use Rattle.plan_texts.proofs.reader.lines_at.Tie as tie
 

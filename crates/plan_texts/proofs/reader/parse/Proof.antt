@@ -6,8 +6,8 @@ use lib.ListN.{drop}
 use borrow.Author.Tests.{not-true, not-false}
 use borrow.Author.Needs.{needs}
 use Rattle.plan_texts.proofs.form.StepwiseLaws.{end-few}
-use Rattle.plan_texts.specs.reader.Says.{LinesSay}
-use Rattle.plan_texts.proofs.reader.LineLaws.{no-names, no-end, all-read}
+use Rattle.plan_texts.specs.ReaderSays.{LinesSay}
+use Rattle.plan_texts.proofs.LineLaws.{no-names, no-end, all-read}
 use Rattle.plan_texts.proofs.reader.parse.Statement.{statement}
 use Rattle.plan_texts.proofs.reader.parse.Tie as tie
 

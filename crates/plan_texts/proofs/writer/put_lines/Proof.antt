@@ -1,11 +1,12 @@
--- `put_lines`: each turn reads the three bytes of a step and writes its line behind the others. The invariant: what is written and the lines still to come are the lines of the whole plan.
+-- `put_lines`: each turn reads the three bytes of a step and writes its line behind the others. The
+-- invariant: what is written and the lines still to come are the lines of the whole plan.
 use Prim.Native.Nat.{_-_}
 use native.Mathlib.Omega.{arith}
 use borrow.Author.Needs.{needs}
 use Rattle.liberation.specs.Plans.{step}
-use Rattle.judge.proofs.all_steps.JudgingLoop.{BytesOf}
+use Rattle.judge.proofs.JudgingLoop.{BytesOf}
 use Rattle.text.proofs.WriteLaws.{wrote-long}
-use Rattle.plan_texts.proofs.writer.PlainLoop.{Halfway, halfway-start, two-digits, halfway-turn, halfway-end}
+use Rattle.plan_texts.proofs.PlainLoop.{Halfway, halfway-start, two-digits, halfway-turn, halfway-end}
 use Rattle.plan_texts.proofs.writer.put_lines.Statement.{statement}
 use Rattle.plan_texts.proofs.writer.put_lines.Tie as tie
 

@@ -1,7 +1,7 @@
 -- `balanced_steps`: P and Q as ours; a data disk takes the steps of its routes, and their word.
 use native.Mathlib.Omega.{arith}
 use borrow.Author.Needs.{needs}
-use Rattle.planner.proofs.balanced_record.BalancedLaws.{data-held, data-word, parity-planned}
+use Rattle.planner.proofs.BalancedLaws.{data-held, data-word, parity-planned}
 use Rattle.planner.proofs.balanced_record.balanced_steps.Statement.{statement}
 use Rattle.planner.proofs.balanced_record.balanced_steps.Tie as tie
 

@@ -2,7 +2,7 @@
 use native.Mathlib.Omega.{arith}
 use borrow.Author.Needs.{needs}
 use Rattle.liberation.proofs.balanced_plan.BalancedPlan.{start-below}
-use Rattle.planner.proofs.balanced_routes.SquareSteps.{balanced-are}
+use Rattle.planner.proofs.SquareSteps.{balanced-are}
 use Rattle.planner.proofs.balanced_routes.balanced_routes.Statement.{statement}
 use Rattle.planner.proofs.balanced_routes.balanced_routes.Tie as tie
 

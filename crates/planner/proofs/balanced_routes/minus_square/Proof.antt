@@ -3,7 +3,7 @@ use mathlib.Core.Path.{sym, ap, _∙_}
 use mathlib.Core.Bool.{Bool}
 use borrow.Author.Tests.{eq-eqb, ne-eqb}
 use Rattle.mathematics.specs.Choice.{when}
-use Rattle.planner.proofs.balanced_routes.SquareSteps.{minus-is}
+use Rattle.planner.proofs.SquareSteps.{minus-is}
 use Rattle.planner.proofs.balanced_routes.minus_square.Statement.{statement}
 use Rattle.planner.proofs.balanced_routes.minus_square.Tie as tie
 

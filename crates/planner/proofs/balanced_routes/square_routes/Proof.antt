@@ -4,7 +4,7 @@ use Prim.Native.Nat.{_+_, _-_, _*_, _/_}
 use native.Mathlib.Nat.{mod-lt}
 use native.Mathlib.Omega.{arith}
 use borrow.Author.Needs.{needs}
-use Rattle.planner.proofs.balanced_routes.SquareSteps.{After, after-none, after-below, after-next, after-all}
+use Rattle.planner.proofs.SquareSteps.{After, after-none, after-below, after-next, after-all}
 use Rattle.planner.proofs.balanced_routes.square_routes.Statement.{statement}
 use Rattle.planner.proofs.balanced_routes.square_routes.Tie as tie
 

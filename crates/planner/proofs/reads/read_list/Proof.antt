@@ -1,22 +1,23 @@
--- `read_list`: refusals 1, 13, 3 and 5 in this order leave the list as it was; else it is cleared, and the cells that our plan reads are marked.
+-- `read_list`: refusals 1, 13, 3 and 5 in this order leave the list as it was; else it is cleared,
+-- and the cells that our plan reads are marked.
 use mathlib.Core.Path.{_≡_, sym, ap, _∙_}
 use Prim.Native.Nat.{ℕ, _+_, _≤_}
 use native.Mathlib.Omega.{arith}
 use lib.ListN.{replicate}
 use Rattle.liberation.specs.Limits.{InArray}
-use Rattle.liberation.specs.Sets.{planFault}
+use Rattle.liberation.specs.Sets.{planRefusal}
 use Rattle.liberation.specs.Plans.{listOf}
-use Rattle.liberation.proofs.FaultLaws.{plan-of}
+use Rattle.liberation.proofs.RefusalLaws.{plan-of}
 use Rattle.liberation.proofs.MarkLists.{no-cells, cells-most}
-use Rattle.planner.proofs.steps.PlannedLaws.{ours-held, ours-accepted}
-use Rattle.planner.proofs.reads.ListAnswers.{list-refused, list-first, list-long, list-says}
+use Rattle.planner.proofs.PlannedLaws.{ours-held, ours-accepted}
+use Rattle.planner.proofs.ListAnswers.{list-refused, list-first, list-long, list-says}
 use borrow.Author.Needs.{needs}
 use Rattle.planner.proofs.reads.read_list.Statement.{statement}
 use Rattle.planner.proofs.reads.read_list.Tie as tie
 
 -- past refusals 1, 13 and 3
-none : (c : tie.Else1) → let a = c .before .before .before .args in planFault (a .width) (a .disks) (a .lost) ≡ 0
-none c = sym (c .before .plan-fault .ensures) ∙ c .if1 .left
+none : (c : tie.Else1) → let a = c .before .before .before .args in planRefusal (a .width) (a .disks) (a .lost) ≡ 0
+none c = sym (c .before .plan-refusal .ensures) ∙ c .if1 .left
 
 wide : (c : tie.Else1) → let a = c .before .before .before .args in InArray (a .width) (a .disks) × (a .lost ≤ a .disks + 1)
 wide c = let a = c .before .before .before .args in plan-of (a .width) (a .disks) (a .lost) (none c)
@@ -26,7 +27,7 @@ returns c =
     let t = c .before in
     let q = t .before in
     let a = q .before .before .args in
-    let f = q .plan-fault in
+    let f = q .plan-refusal in
     list-refused (a .width) (a .disks) (a .lost) (f .result) (a .list .now) (c .answered .result) (list-first (a .width) (a .disks) (a .lost) (f .result) (a .list .now) (f .ensures) (t .if1 .taken)) (t .if1 .taken) (c .answered .ensures)
 
 add-if2 : tie.Need-add-if2

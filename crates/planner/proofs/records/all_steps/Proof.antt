@@ -1,10 +1,11 @@
--- `all_steps`: each turn adds the next set of the kind. The invariant: the steps so far, with those still to come, are all; a set has its row's number.
+-- `all_steps`: each turn adds the next set of the kind. The invariant: the steps so far, with those
+-- still to come, are all; a set has its row's number.
 use mathlib.Core.Path.{_≡_, ap}
 use Prim.Native.Nat.{ℕ, _+_, _-_, _≤_}
 use native.Mathlib.Omega.{arith}
 use lib.ListN.{replicate}
 use Rattle.liberation.specs.Plans.{step, allOf}
-use Rattle.planner.proofs.records.StepRecord.{Collected, collect-start, collect-push, collect-skip, collect-end, all-some, all-last}
+use Rattle.planner.proofs.StepRecord.{Collected, collect-start, collect-push, collect-skip, collect-end, all-some, all-last}
 use borrow.Author.Needs.{needs}
 use Rattle.planner.proofs.records.all_steps.Statement.{statement}
 use Rattle.planner.proofs.records.all_steps.Tie as tie

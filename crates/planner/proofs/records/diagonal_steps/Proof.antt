@@ -1,4 +1,5 @@
--- `diagonal_steps`: each turn adds the diagonal of a row that takes one. The invariant: the steps so far, with those of the rows still to come, are all.
+-- `diagonal_steps`: each turn adds the diagonal of a row that takes one. The invariant: the steps
+-- so far, with those of the rows still to come, are all.
 use mathlib.Core.Path.{_≡_, refl, sym, _∙_}
 use mathlib.Core.List.{_++_}
 use mathlib.Core.Logic.{⊎-elim}
@@ -9,7 +10,7 @@ use lib.Seq.{length-take-le, getD-take}
 use Rattle.liberation.specs.Plans.{step, diagonalOf, rowSteps, diagonalSteps}
 use Rattle.liberation.proofs.RowSteps.{steps-long}
 use Rattle.parity_sets.proofs.NumberLaws.{numbered}
-use Rattle.planner.proofs.records.StepRecord.{Collected, collect-push, collect-skip, collect-end, collect-room, diagonal-some, diagonal-none, diagonal-last}
+use Rattle.planner.proofs.StepRecord.{Collected, collect-push, collect-skip, collect-end, collect-room, diagonal-some, diagonal-none, diagonal-last}
 use borrow.Author.Needs.{needs}
 use Rattle.planner.proofs.records.diagonal_steps.Statement.{statement}
 use Rattle.planner.proofs.records.diagonal_steps.Tie as tie

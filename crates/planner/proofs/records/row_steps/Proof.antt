@@ -1,4 +1,6 @@
--- `row_steps`: each turn adds the row set of a row that takes no diagonal. The invariant: the steps so far, with those of the rows still to come, are all; kinds are zeros, and a row set has its row's number.
+-- `row_steps`: each turn adds the row set of a row that takes no diagonal. The invariant: the steps
+-- so far, with those of the rows still to come, are all; kinds are zeros, and a row set has its
+-- row's number.
 use mathlib.Core.Path.{_≡_, sym, subst, _∙_}
 use mathlib.Core.List.{List}
 use mathlib.Core.Logic.{⊎-elim}
@@ -8,7 +10,7 @@ use lib.ListN.{length, getD, take, drop, set, replicate}
 use lib.Seq.{length-take-le, getD-take}
 use Rattle.liberation.specs.Plans.{step, rowSteps}
 use Rattle.liberation.proofs.RowSteps.{steps-long}
-use Rattle.planner.proofs.records.StepRecord.{Collected, collect-start, collect-push, collect-skip, collect-end, collect-room, zero-again, row-some, row-none, row-last}
+use Rattle.planner.proofs.StepRecord.{Collected, collect-start, collect-push, collect-skip, collect-end, collect-room, zero-again, row-some, row-none, row-last}
 use borrow.Author.Needs.{needs}
 use Rattle.planner.proofs.records.row_steps.Statement.{statement}
 use Rattle.planner.proofs.records.row_steps.Tie as tie

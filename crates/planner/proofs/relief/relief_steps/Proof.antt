@@ -1,6 +1,6 @@
 -- `relief_steps`: P and Q as ours, a data disk by the plan that relieves the named one.
 use borrow.Author.Needs.{needs}
-use Rattle.planner.proofs.relief.ReliefLaws.{data-given, parity-given}
+use Rattle.planner.proofs.ReliefLaws.{data-given, parity-given}
 use Rattle.planner.proofs.relief.relief_steps.Statement.{statement}
 use Rattle.planner.proofs.relief.relief_steps.Tie as tie
 

@@ -1,7 +1,7 @@
 -- `relief_plan`: the steps of its routes, and their word.
 use native.Mathlib.Omega.{arith}
 use borrow.Author.Needs.{needs}
-use Rattle.planner.proofs.relief_record.PlanLaws.{plan-held}
+use Rattle.planner.proofs.ReliefStepLaws.{plan-held}
 use Rattle.liberation.proofs.Widths.{width-odd}
 use Rattle.planner.proofs.relief_record.relief_plan.Statement.{statement}
 use Rattle.planner.proofs.relief_record.relief_plan.Tie as tie

@@ -3,9 +3,9 @@ use mathlib.Core.Path.{subst}
 use Prim.Native.Nat.{ℕ, _+_, _-_}
 use native.Mathlib.Omega.{arith}
 use Rattle.liberation.specs.relief_plan.Relief.{progressionRoutes}
-use Rattle.planner.specs.routes.Records.{RoutesAre}
+use Rattle.planner.specs.RouteRecords.{RoutesAre}
 use Rattle.parity_sets.proofs.NumberLaws.{numbered, next-below}
-use Rattle.planner.proofs.relief_routes.StepLaws.{step-is}
+use Rattle.planner.proofs.ProgressionSteps.{step-is}
 use Rattle.planner.proofs.relief_routes.relief_routes.Statement.{statement}
 use Rattle.planner.proofs.relief_routes.relief_routes.Tie as tie
 

@@ -1,9 +1,11 @@
--- `all_routes`: each turn does one row of the definition, until the ones of the word, which are the diagonals, are enough. The invariant: the definition, gone on with from the routes so far, ends in our routes.
+-- `all_routes`: each turn does one row of the definition, until the ones of the word, which are the
+-- diagonals, are enough. The invariant: the definition, gone on with from the routes so far, ends
+-- in our routes.
 use mathlib.Core.Path.{_≡_, refl}
 use Prim.Native.Nat.{_-_, _/_}
 use native.Mathlib.Omega.{arith}
 use borrow.Author.Needs.{needs}
-use Rattle.planner.proofs.routes.RouteLaws.{Under, ones-few, under-start, under-stop, under-turn, under-end}
+use Rattle.planner.proofs.RouteLaws.{Under, ones-few, under-start, under-stop, under-turn, under-end}
 use Rattle.planner.proofs.routes.all_routes.Statement.{statement}
 use Rattle.planner.proofs.routes.all_routes.Tie as tie
 

@@ -1,11 +1,12 @@
--- `decide`: the two tests are those of the definition, and the partner is another row where both fail.
+-- `decide`: the two tests are those of the definition, and the partner is another row where both
+-- fail.
 use mathlib.Core.Path.{_≡_, sym, ap, _∙_}
 use Prim.Native.Nat.{ℕ, _-_, _<_}
 use native.Mathlib.Omega.{arith}
 use lib.ListN.{getD}
 use Rattle.liberation.specs.Plans.{partner}
 use Rattle.parity_sets.proofs.NumberLaws.{numbered}
-use Rattle.planner.proofs.routes.RouteLaws.{self-are, taken-are, diagonal-are}
+use Rattle.planner.proofs.RouteLaws.{self-are, taken-are, diagonal-are}
 use borrow.Author.Needs.{needs}
 use Rattle.planner.proofs.routes.decide.Statement.{statement}
 use Rattle.planner.proofs.routes.decide.Tie as tie

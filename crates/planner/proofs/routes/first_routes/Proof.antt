@@ -2,7 +2,7 @@
 use Prim.Native.Nat.{_+_, _*_, _/_, _<_}
 use native.Mathlib.Nat.{mod-lt}
 use native.Mathlib.Omega.{arith}
-use Rattle.planner.proofs.routes.RouteLaws.{first-are, second-are}
+use Rattle.planner.proofs.RouteLaws.{first-are, second-are}
 use borrow.Author.Needs.{needs}
 use Rattle.planner.proofs.routes.first_routes.Statement.{statement}
 use Rattle.planner.proofs.routes.first_routes.Tie as tie

@@ -1,5 +1,5 @@
 -- `turn`: the test of the definition; a decided row leaves the routes as they are.
-use Rattle.planner.proofs.routes.RouteLaws.{turn-decides, turn-skips}
+use Rattle.planner.proofs.RouteLaws.{turn-decides, turn-skips}
 use borrow.Author.Needs.{needs}
 use Rattle.planner.proofs.routes.turn.Statement.{statement}
 use Rattle.planner.proofs.routes.turn.Tie as tie

@@ -2,7 +2,7 @@
 use mathlib.Core.Path.{_∙_}
 use native.Mathlib.Omega.{arith}
 use borrow.Author.Needs.{needs}
-use Rattle.planner.proofs.steps.PlannedLaws.{data-steps-are, data-word, parity-steps, row-parity-word, diagonal-parity-word, our-plan-is}
+use Rattle.planner.proofs.PlannedLaws.{data-steps-are, data-word, parity-steps, row-parity-word, diagonal-parity-word, our-plan-is}
 use Rattle.liberation.proofs.Widths.{width-odd}
 use Rattle.planner.proofs.steps.our_plan.Statement.{statement}
 use Rattle.planner.proofs.steps.our_plan.Tie as tie

@@ -1,18 +1,18 @@
 -- `plan_steps`: refusals 1, 13 and 3, else our plan.
 use mathlib.Core.Path.{_≡_, sym, _∙_}
 use borrow.Author.Needs.{needs}
-use Rattle.liberation.specs.Sets.{planFault}
-use Rattle.liberation.proofs.FaultLaws.{plan-of}
-use Rattle.planner.proofs.steps.PlannedLaws.{refusal-says, planned-says}
+use Rattle.liberation.specs.Sets.{planRefusal}
+use Rattle.liberation.proofs.RefusalLaws.{plan-of}
+use Rattle.planner.proofs.PlannedLaws.{refusal-says, planned-says}
 use Rattle.planner.proofs.steps.plan_steps.Statement.{statement}
 use Rattle.planner.proofs.steps.plan_steps.Tie as tie
 
 -- past the refusals
-none : (c : tie.Else1) → let a = c .before .before .args in planFault (a .width) (a .disks) (a .lost) ≡ 0
-none c = sym (c .before .plan-fault .ensures) ∙ c .if1 .left
+none : (c : tie.Else1) → let a = c .before .before .args in planRefusal (a .width) (a .disks) (a .lost) ≡ 0
+none c = sym (c .before .plan-refusal .ensures) ∙ c .if1 .left
 
 returns : tie.Need-returns
-returns c = let t = c .before in let q = t .before in let a = q .before .args in refusal-says (a .width) (a .disks) (a .lost) (q .plan-fault .result) (c .refused-plan .result) (q .plan-fault .ensures) (t .if1 .taken) (c .refused-plan .ensures)
+returns c = let t = c .before in let q = t .before in let a = q .before .args in refusal-says (a .width) (a .disks) (a .lost) (q .plan-refusal .result) (c .refused-plan .result) (q .plan-refusal .ensures) (t .if1 .taken) (c .refused-plan .ensures)
 
 our-plan-requires : tie.Need-our-plan-requires
 our-plan-requires c κs = let a = c .before .before .args in plan-of (a .width) (a .disks) (a .lost) (none c)

@@ -1,12 +1,13 @@
--- `is_form`: a number of 100 or more has no place in the form; else the input is compared with that of its two numbers.
+-- `is_form`: a number of 100 or more has no place in the form; else the input is compared with that
+-- of its two numbers.
 use mathlib.Core.Path.{sym, ap₂, _∙_}
 use native.Mathlib.Omega.{arith}
 use lib.ListN.{take}
 use lib.Seq.{length-take-le}
 use borrow.Author.Needs.{needs}
-use Rattle.printed_plan.specs.input.Input.{inputOf}
+use Rattle.printed_plan.specs.Input.{inputOf}
 use Rattle.text.proofs.WriteLaws.{wrote-long, wrote-front}
-use Rattle.printed_plan.proofs.input.FormLaws.{no-form-first, no-form-second, form-same}
+use Rattle.printed_plan.proofs.FormLaws.{no-form-first, no-form-second, form-same}
 use Rattle.printed_plan.proofs.input.is_form.Tie as tie
 use Rattle.printed_plan.proofs.input.is_form.Statement.{statement}
 

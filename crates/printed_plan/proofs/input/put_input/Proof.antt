@@ -2,8 +2,8 @@
 use native.Mathlib.Omega.{arith}
 use borrow.Author.Needs.{needs}
 use Rattle.text.proofs.WriteLaws.{wrote-more, wrote-same}
-use Rattle.text.proofs.steps.FieldLaws.{field-most}
-use Rattle.printed_plan.proofs.input.InputLaws.{input-fields}
+use Rattle.text.proofs.FieldLaws.{field-most}
+use Rattle.printed_plan.proofs.InputLaws.{input-fields}
 use Rattle.printed_plan.proofs.input.put_input.Tie as tie
 use Rattle.printed_plan.proofs.input.put_input.Statement.{statement}
 

@@ -1,7 +1,8 @@
--- `second_value`: the number begins behind the first comma, which is the second or the third byte of the values line.
+-- `second_value`: the number begins behind the first comma, which is the second or the third byte
+-- of the values line.
 use mathlib.Core.Path.{sym, _∙_}
 use borrow.Author.Needs.{needs}
-use Rattle.printed_plan.proofs.input.InputLaws.{second-near, second-far}
+use Rattle.printed_plan.proofs.InputLaws.{second-near, second-far}
 use Rattle.printed_plan.proofs.input.second_value.Tie as tie
 use Rattle.printed_plan.proofs.input.second_value.Statement.{statement}
 

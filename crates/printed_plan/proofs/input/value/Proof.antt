@@ -2,7 +2,7 @@
 use mathlib.Core.Path.{sym, ap, ap₂, _∙_}
 use Prim.Native.Nat.{ℕ, _+_, _-_, _*_}
 use borrow.Author.Needs.{needs}
-use Rattle.printed_plan.proofs.input.InputLaws.{value-one, value-two}
+use Rattle.printed_plan.proofs.InputLaws.{value-one, value-two}
 use Rattle.printed_plan.proofs.input.value.Tie as tie
 use Rattle.printed_plan.proofs.input.value.Statement.{statement}
 

@@ -5,7 +5,7 @@ use Prim.Native.Nat.{_+_, _-_, _≤_}
 use native.Mathlib.Omega.{arith}
 use lib.ListN.{length, getD}
 use Rattle.rebuild_cells.specs.theory.Mending.{missingCells}
-use Rattle.rebuild_cells.proofs.equations.MarkLoops.{restFrom, count-turn, count-end}
+use Rattle.rebuild_cells.proofs.MarkLoops.{restFrom, count-turn, count-end}
 use Rattle.rebuild_cells.proofs.equations.count_missing.Statement.{statement}
 use Rattle.rebuild_cells.proofs.equations.count_missing.Tie as tie
 

@@ -1,8 +1,9 @@
--- `fill_rows`: each turn puts in the row of a set. The invariant: the rows put in, with those still to come, are all.
+-- `fill_rows`: each turn puts in the row of a set. The invariant: the rows put in, with those still
+-- to come, are all.
 use mathlib.Core.Path.{sym, _∙_}
 use Prim.Native.Nat.{_*_, _-_, _<_}
 use native.Mathlib.Omega.{arith}
-use Rattle.rebuild_cells.proofs.equations.WordLoops.{Filling, fill-start, fill-turn, fill-end}
+use Rattle.rebuild_cells.proofs.WordLoops.{Filling, fill-start, fill-turn, fill-end}
 use Rattle.rebuild_cells.proofs.equations.fill_rows.Statement.{statement}
 use Rattle.rebuild_cells.proofs.equations.fill_rows.Tie as tie
 

@@ -4,8 +4,8 @@ use Prim.Native.Nat.{ℕ, _+_, _*_, _-_, _%_, _^_, _≤_, _<_}
 use native.Mathlib.Omega.{arith}
 use lib.Bits.{bitAnd, and-mask}
 use lib.ListN.{length, getD, drop}
-use Rattle.rebuild_cells.specs.equations.Words.{marksWord}
-use Rattle.rebuild_cells.proofs.equations.WordLoops.{word-none, word-turn, word-end, word-room}
+use Rattle.rebuild_cells.specs.Words.{marksWord}
+use Rattle.rebuild_cells.proofs.WordLoops.{word-none, word-turn, word-end, word-room}
 use Rattle.rebuild_cells.proofs.equations.marks_word.Statement.{statement}
 use Rattle.rebuild_cells.proofs.equations.marks_word.Tie as tie
 

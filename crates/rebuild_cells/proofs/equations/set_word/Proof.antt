@@ -7,9 +7,9 @@ use lib.ListN.{length, take, drop, replicate, length-replicate, length-append}
 use lib.Seq.{take-at, length-take-le}
 use borrow.Author.Needs.{needs}
 use Rattle.liberation.proofs.MarkLists.{take-marks, no-cells, cells-most}
-use Rattle.stripe_cells.specs.odd_marks.Toggled.{toggledAll}
+use Rattle.stripe_cells.specs.Toggled.{toggledAll}
 use Rattle.rebuild_cells.specs.theory.Mending.{setNumbered}
-use Rattle.rebuild_cells.proofs.equations.WordLoops.{set-word-is}
+use Rattle.rebuild_cells.proofs.WordLoops.{set-word-is}
 use Rattle.rebuild_cells.proofs.equations.set_word.Statement.{statement}
 use Rattle.rebuild_cells.proofs.equations.set_word.Tie as tie
 

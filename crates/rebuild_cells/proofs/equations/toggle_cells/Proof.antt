@@ -1,4 +1,6 @@
--- `toggle_cells`: each turn toggles the mark of the next cell of the set. The invariant: the cells still to come, toggled in the marks as they are, give what all give in the marks as they were; the row is that of a diagonal's cell on the disk that is next.
+-- `toggle_cells`: each turn toggles the mark of the next cell of the set. The invariant: the cells
+-- still to come, toggled in the marks as they are, give what all give in the marks as they were;
+-- the row is that of a diagonal's cell on the disk that is next.
 use mathlib.Core.Path.{_≡_, refl, _∙_}
 use Prim.Native.Nat.{_+_, _*_, _-_, _%_, _<_}
 use native.Mathlib.Omega.{arith}
@@ -9,8 +11,8 @@ use Rattle.liberation.specs.Sets.{setOf}
 use Rattle.liberation.proofs.DiagonalRows.{row-below, row-on}
 use Rattle.liberation.proofs.SetLaws.{set-below}
 use Rattle.parity_sets.proofs.NumberLaws.{row-first}
-use Rattle.stripe_cells.specs.odd_marks.Toggled.{toggledAll}
-use Rattle.stripe_cells.proofs.odd_marks.OddLaws.{toggled-next, toggled-end}
+use Rattle.stripe_cells.specs.Toggled.{toggledAll}
+use Rattle.stripe_cells.proofs.OddLaws.{toggled-next, toggled-end}
 use Rattle.rebuild_cells.proofs.equations.toggle_cells.Statement.{statement}
 use Rattle.rebuild_cells.proofs.equations.toggle_cells.Tie as tie
 

@@ -1,11 +1,12 @@
--- `toggle_set`: below the width a number is that of a row set, and from there on the width more than a diagonal's.
+-- `toggle_set`: below the width a number is that of a row set, and from there on the width more
+-- than a diagonal's.
 use mathlib.Core.Path.{sym, ap, _∙_}
 use mathlib.Core.List.{List}
 use Prim.Native.Nat.{ℕ}
 use native.Mathlib.Omega.{arith}
 use borrow.Author.Needs.{needs}
-use Rattle.stripe_cells.specs.odd_marks.Toggled.{toggledAll}
-use Rattle.rebuild_cells.proofs.equations.NumberedLaws.{numbered-row, numbered-diagonal}
+use Rattle.stripe_cells.specs.Toggled.{toggledAll}
+use Rattle.rebuild_cells.proofs.NumberedLaws.{numbered-row, numbered-diagonal}
 use Rattle.rebuild_cells.proofs.equations.toggle_set.Statement.{statement}
 use Rattle.rebuild_cells.proofs.equations.toggle_set.Tie as tie
 

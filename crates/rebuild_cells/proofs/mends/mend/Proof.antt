@@ -10,8 +10,8 @@ use borrow.Author.Needs.{needs}
 use Rattle.mathematics.specs.Lists.{allBelow}
 use Rattle.rebuild_cells.specs.theory.Mending.{missingCells, mendedCells}
 use Rattle.rebuild_cells.proofs.theory.Marked.{missing-below}
-use Rattle.rebuild_cells.specs.mends.Listed.{ListedCells}
-use Rattle.rebuild_cells.proofs.mends.NamedLaws.{too-many, as-listed}
+use Rattle.rebuild_cells.specs.Listed.{ListedCells}
+use Rattle.rebuild_cells.proofs.NamedLaws.{too-many, as-listed}
 use Rattle.rebuild_cells.proofs.mends.mend.Statement.{statement}
 use Rattle.rebuild_cells.proofs.mends.mend.Tie as tie
 

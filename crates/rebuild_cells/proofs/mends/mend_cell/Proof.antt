@@ -1,4 +1,5 @@
--- `mend_cell`: the marks of the named sets' cells are toggled from no mark at all, the cell's own is cleared, and the odd ones are gathered.
+-- `mend_cell`: the marks of the named sets' cells are toggled from no mark at all, the cell's own
+-- is cleared, and the odd ones are gathered.
 use mathlib.Core.Path.{_≡_, sym, ap, _∙_}
 use mathlib.Core.List.{List, [], _++_}
 use Prim.Native.Nat.{ℕ, _+_, _*_, _≤_}
@@ -7,9 +8,9 @@ use lib.ListN.{length, take, drop, set, replicate, length-replicate, length-appe
 use lib.Seq.{take-at, length-take-le}
 use borrow.Author.Needs.{needs}
 use Rattle.liberation.proofs.MarkLists.{take-marks, no-cells, cells-most}
-use Rattle.stripe_cells.specs.odd_marks.Toggled.{toggledAll}
+use Rattle.stripe_cells.specs.Toggled.{toggledAll}
 use Rattle.rebuild_cells.specs.theory.Mending.{namedTo}
-use Rattle.rebuild_cells.proofs.mends.NamedLaws.{mend-marked, mend-done}
+use Rattle.rebuild_cells.proofs.NamedLaws.{mend-marked, mend-done}
 use Rattle.rebuild_cells.proofs.mends.mend_cell.Statement.{statement}
 use Rattle.rebuild_cells.proofs.mends.mend_cell.Tie as tie
 

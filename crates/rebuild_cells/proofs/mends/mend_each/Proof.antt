@@ -1,4 +1,5 @@
--- `mend_each`: each turn mends a cell. The invariant: the cells still to come, mended in the stripe as it is, give what all give in the stripe as it was.
+-- `mend_each`: each turn mends a cell. The invariant: the cells still to come, mended in the stripe
+-- as it is, give what all give in the stripe as it was.
 use mathlib.Core.Path.{_≡_, refl, _∙_}
 use Prim.Native.Nat.{_+_, _*_, _-_, _≤_}
 use native.Mathlib.Omega.{arith}
@@ -6,7 +7,7 @@ use lib.ListN.{length}
 use Rattle.mathematics.proofs.ListLaws.{below-at}
 use Rattle.liberation.proofs.stripes.SizedLaws.{sized-kept}
 use Rattle.rebuild_cells.specs.theory.Mending.{mendedFrom}
-use Rattle.rebuild_cells.proofs.mends.NamedLaws.{mend-start, mend-turn, mend-end}
+use Rattle.rebuild_cells.proofs.NamedLaws.{mend-start, mend-turn, mend-end}
 use Rattle.rebuild_cells.proofs.mends.mend_each.Statement.{statement}
 use Rattle.rebuild_cells.proofs.mends.mend_each.Tie as tie
 

@@ -7,7 +7,7 @@ use lib.ListN.{length, take, drop, length-append}
 use lib.Seq.{take-at, length-take-le}
 use borrow.Author.Needs.{needs}
 use Rattle.rebuild_cells.specs.theory.Mending.{mendable, mendedCells}
-use Rattle.rebuild_cells.proofs.mends.NamedLaws.{list-refused, list-done}
+use Rattle.rebuild_cells.proofs.NamedLaws.{list-refused, list-done}
 use Rattle.rebuild_cells.proofs.mends.mend_list.Statement.{statement}
 use Rattle.rebuild_cells.proofs.mends.mend_list.Tie as tie
 

@@ -2,7 +2,7 @@
 use Prim.Native.Nat.{_+_, _*_}
 use borrow.Author.Needs.{needs}
 use Rattle.mathematics.proofs.ListLaws.{below-at}
-use Rattle.rebuild_cells.proofs.mends.NamedLaws.{cells-reduced}
+use Rattle.rebuild_cells.proofs.NamedLaws.{cells-reduced}
 use Rattle.rebuild_cells.proofs.mends.reduce_cells.Statement.{statement}
 use Rattle.rebuild_cells.proofs.mends.reduce_cells.Tie as tie
 

@@ -1,7 +1,7 @@
 -- `toggle_if`: two ways out, by the test.
 use borrow.Author.Needs.{needs}
 use Rattle.rebuild_cells.specs.theory.Mending.{setNumbered}
-use Rattle.rebuild_cells.proofs.mends.NamedLaws.{if-named, if-none}
+use Rattle.rebuild_cells.proofs.NamedLaws.{if-named, if-none}
 use Rattle.rebuild_cells.proofs.mends.toggle_if.Statement.{statement}
 use Rattle.rebuild_cells.proofs.mends.toggle_if.Tie as tie
 

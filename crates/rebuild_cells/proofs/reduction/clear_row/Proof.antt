@@ -2,7 +2,7 @@
 use borrow.Author.Needs.{needs}
 use borrow.Author.Tests.{eq-eqb, ne-eqb}
 use Rattle.mathematics.specs.bit_rows.Rows.{rows}
-use Rattle.rebuild_cells.proofs.reduction.RowLoops.{row-same, row-kept, row-added}
+use Rattle.rebuild_cells.proofs.RowLoops.{row-same, row-kept, row-added}
 use Rattle.rebuild_cells.proofs.reduction.clear_row.Statement.{statement}
 use Rattle.rebuild_cells.proofs.reduction.clear_row.Tie as tie
 

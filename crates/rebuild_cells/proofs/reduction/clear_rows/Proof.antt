@@ -1,10 +1,11 @@
--- `clear_rows`: each turn clears a row. The invariant: the rows still to come, cleared from the rows as they are, give what all give from the rows as they were.
+-- `clear_rows`: each turn clears a row. The invariant: the rows still to come, cleared from the
+-- rows as they are, give what all give from the rows as they were.
 use mathlib.Core.Path.{_≡_, refl, sym, _∙_}
 use Prim.Native.Nat.{_-_, _≤_}
 use native.Mathlib.Omega.{arith}
 use lib.ListN.{length}
 use Rattle.mathematics.specs.bit_rows.Rows.{rows, clearedFrom}
-use Rattle.rebuild_cells.proofs.reduction.RowLoops.{clear-start, clear-turn, clear-end}
+use Rattle.rebuild_cells.proofs.RowLoops.{clear-start, clear-turn, clear-end}
 use Rattle.rebuild_cells.proofs.reduction.clear_rows.Statement.{statement}
 use Rattle.rebuild_cells.proofs.reduction.clear_rows.Tie as tie
 

@@ -5,7 +5,7 @@ use native.Mathlib.Omega.{arith}
 use lib.ListN.{length, getD}
 use Rattle.mathematics.specs.Sums.{firstFrom}
 use Rattle.mathematics.specs.bit_rows.Parity.{bit}
-use Rattle.rebuild_cells.proofs.reduction.RowLoops.{seek-here, seek-turn, seek-end}
+use Rattle.rebuild_cells.proofs.RowLoops.{seek-here, seek-turn, seek-end}
 use Rattle.rebuild_cells.proofs.reduction.pivot_row.Statement.{statement}
 use Rattle.rebuild_cells.proofs.reduction.pivot_row.Tie as tie
 

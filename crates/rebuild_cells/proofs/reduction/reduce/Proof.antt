@@ -1,4 +1,5 @@
--- `reduce`: each turn does an unknown. The invariant: the unknowns still to come, reduced from the rows as they are, give what all give from the rows as they were.
+-- `reduce`: each turn does an unknown. The invariant: the unknowns still to come, reduced from the
+-- rows as they are, give what all give from the rows as they were.
 use mathlib.Core.Path.{_≡_, refl, sym, ap, _∙_}
 use Prim.Native.Nat.{ℕ, _-_, _≤_}
 use native.Mathlib.Omega.{arith}
@@ -7,7 +8,7 @@ use Rattle.mathematics.specs.Sums.{firstFrom}
 use Rattle.mathematics.specs.bit_rows.Parity.{bit}
 use Rattle.mathematics.specs.bit_rows.Rows.{rows, pivot, columnDone, reducedFrom}
 use Rattle.mathematics.proofs.bit_rows.Reducing.{first-low}
-use Rattle.rebuild_cells.proofs.reduction.RowLoops.{reduce-start, reduce-turn, reduce-stop, reduce-end}
+use Rattle.rebuild_cells.proofs.RowLoops.{reduce-start, reduce-turn, reduce-stop, reduce-end}
 use Rattle.rebuild_cells.proofs.reduction.reduce.Statement.{statement}
 use Rattle.rebuild_cells.proofs.reduction.reduce.Tie as tie
 

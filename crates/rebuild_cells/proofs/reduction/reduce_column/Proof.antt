@@ -2,7 +2,7 @@
 use borrow.Author.Needs.{needs}
 use lib.ListN.{length}
 use Rattle.mathematics.specs.bit_rows.Rows.{rows}
-use Rattle.rebuild_cells.proofs.reduction.RowLoops.{column-is}
+use Rattle.rebuild_cells.proofs.RowLoops.{column-is}
 use Rattle.rebuild_cells.proofs.reduction.reduce_column.Statement.{statement}
 use Rattle.rebuild_cells.proofs.reduction.reduce_column.Tie as tie
 

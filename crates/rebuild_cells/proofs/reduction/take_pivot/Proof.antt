@@ -2,7 +2,7 @@
 use borrow.Author.Needs.{needs}
 use borrow.Author.Tests.{eq-eqb, ne-eqb}
 use Rattle.mathematics.specs.bit_rows.Rows.{rows}
-use Rattle.rebuild_cells.proofs.reduction.RowLoops.{pivot-same, pivot-added}
+use Rattle.rebuild_cells.proofs.RowLoops.{pivot-same, pivot-added}
 use Rattle.rebuild_cells.proofs.reduction.take_pivot.Statement.{statement}
 use Rattle.rebuild_cells.proofs.reduction.take_pivot.Tie as tie
 

@@ -5,16 +5,16 @@ use Prim.Native.Nat.{_+_, _*_, _≤_}
 use lib.ListN.{length}
 use Rattle.liberation.specs.Plans.{Step}
 use Rattle.liberation.specs.stripes.Stripes.{rebuiltBy}
-use Rattle.liberation.specs.stripes.Limits.{Sized}
-use Rattle.planner.proofs.balanced_record.BalancedLaws.{balanced-held, held-accepted}
-use Rattle.rebuild_one.proofs.OneRefusals.{fault-none}
+use Rattle.liberation.specs.stripes.StripeLimits.{Sized}
+use Rattle.planner.proofs.BalancedLaws.{balanced-held, held-accepted}
+use Rattle.rebuild_one.proofs.OneRefusals.{refusal-none}
 use borrow.Author.Needs.{needs}
 use Rattle.rebuild_one.proofs.balanced.balanced_column.Statement.{statement}
 use Rattle.rebuild_one.proofs.balanced.balanced_column.Tie as tie
 
 -- no refusal
 within : (c : tie.Start) → let a = c .args in Sized (a .width) (a .disks) (a .size) (a .stripe .now) × (a .disk ≤ a .disks + 1) × (length (a .column .now) ≡ a .width * a .size)
-within c = let a = c .args in fault-none (a .width) (a .disks) (a .size) (a .disk) (length (a .column .now)) (a .stripe .now) (c .pre)
+within c = let a = c .args in refusal-none (a .width) (a .disks) (a .size) (a .disk) (length (a .column .now)) (a .stripe .now) (c .pre)
 
 balanced-steps-requires : tie.Need-balanced-steps-requires
 balanced-steps-requires c κs = let w = within (c .before .before) in (w .0 .array, w .1)

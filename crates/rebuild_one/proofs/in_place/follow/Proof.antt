@@ -1,4 +1,6 @@
--- `follow`: each turn does the next step of our plan, which solves an ordinary cell. The invariant: the steps still to come, done to the stripe as it is, give what all steps give to the stripe as it was.
+-- `follow`: each turn does the next step of our plan, which solves an ordinary cell. The invariant:
+-- the steps still to come, done to the stripe as it is, give what all steps give to the stripe as
+-- it was.
 use mathlib.Core.Path.{_≡_, refl, sym, ap, _∙_}
 use mathlib.Core.List.{List}
 use Prim.Native.Nat.{ℕ, _-_, _≤_}
@@ -8,7 +10,7 @@ use borrow.Author.Needs.{needs}
 use Rattle.liberation.specs.Plans.{planOf}
 use Rattle.liberation.proofs.RecordLaws.{StepAt, step-at, plan-length}
 use Rattle.liberation.specs.stripes.Stripes.{followed}
-use Rattle.rebuild_one.proofs.in_place.StepLaws.{plan-ordinary, stepsRest, steps-turn, steps-last}
+use Rattle.rebuild_one.proofs.InPlaceSteps.{plan-ordinary, stepsRest, steps-turn, steps-last}
 use Rattle.liberation.proofs.stripes.SizedLaws.{sized-kept}
 use Rattle.rebuild_one.proofs.in_place.follow.Statement.{statement}
 use Rattle.rebuild_one.proofs.in_place.follow.Tie as tie

@@ -3,10 +3,10 @@ use mathlib.Core.Path.{sym, subst}
 use mathlib.Core.List.{List, []}
 use borrow.Author.Needs.{needs}
 use Rattle.mathematics.proofs.ChoiceLaws.{pick-done}
-use Rattle.liberation.specs.Sets.{planFault}
+use Rattle.liberation.specs.Sets.{planRefusal}
 use Rattle.liberation.specs.Plans.{Step, planOf}
-use Rattle.liberation.proofs.FaultLaws.{plan-none}
-use Rattle.planner.specs.records.Records.{Holds}
+use Rattle.liberation.proofs.RefusalLaws.{plan-none}
+use Rattle.planner.specs.StepRecords.{Holds}
 use Rattle.rebuild_one.proofs.in_place.rebuild_within.Statement.{statement}
 use Rattle.rebuild_one.proofs.in_place.rebuild_within.Tie as tie
 
@@ -16,7 +16,7 @@ follow-requires c κs =
     let z = d .before .before in
     let a = z .args in
     let ours : List Step = planOf (a .width) (a .disks) (a .disk) in
-    let planned = sym (pick-done (planFault (a .width) (a .disks) (a .disk)) ours [] (plan-none (a .width) (a .disks) (a .disk) (z .pre .0 .array) (z .pre .1))) in
+    let planned = sym (pick-done (planRefusal (a .width) (a .disks) (a .disk)) ours [] (plan-none (a .width) (a .disks) (a .disk) (z .pre .0 .array) (z .pre .1))) in
     (z .pre .0, (z .pre .1, subst (λ (ss : List Step). Holds ss (d .plan-steps .result .steps)) planned (d .plan-steps .ensures .steps)))
 
 pub rebuild-within-spec : {M : Type 1} → statement M

@@ -1,13 +1,14 @@
--- `follow`: each turn does the next step of the plan. The invariant: the steps still to come, on the stripe with the column as it stands, give what all steps give.
+-- `follow`: each turn does the next step of the plan. The invariant: the steps still to come, on
+-- the stripe with the column as it stands, give what all steps give.
 use mathlib.Core.Path.{sym, _∙_}
 use Prim.Native.Nat.{_-_, _≤_}
 use native.Mathlib.Omega.{arith}
 use borrow.Author.Needs.{needs}
 use Rattle.liberation.specs.Records.{recorded}
-use Rattle.planner.specs.records.Records.{held}
-use Rattle.planner.proofs.records.HeldLaws.{stepAt, held-at, held-passed}
+use Rattle.planner.specs.StepRecords.{held}
+use Rattle.planner.proofs.HeldLaws.{stepAt, held-at, held-passed}
 use Rattle.xor.proofs.SourceLaws.{bytes-all}
-use Rattle.rebuild_one.proofs.into_column.FollowLaws.{Stepping, stepping-start, stepping-turn, stepping-end}
+use Rattle.rebuild_one.proofs.FollowLaws.{Stepping, stepping-start, stepping-turn, stepping-end}
 use Rattle.rebuild_one.proofs.into_column.follow.Statement.{statement}
 use Rattle.rebuild_one.proofs.into_column.follow.Tie as tie
 

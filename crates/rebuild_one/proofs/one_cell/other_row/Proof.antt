@@ -1,9 +1,10 @@
--- `other_row`: a row set has one cell on the disk, and so has a diagonal set whose extra cell is elsewhere or absent. Of two cells there, one is that of the row.
+-- `other_row`: a row set has one cell on the disk, and so has a diagonal set whose extra cell is
+-- elsewhere or absent. Of two cells there, one is that of the row.
 use mathlib.Core.Path.{_≡_, sym, _∙_}
 use native.Mathlib.Omega.{arith}
 use borrow.Author.Needs.{needs}
 use Rattle.liberation.specs.Sets.{extraDisk}
-use Rattle.rebuild_one.proofs.one_cell.LostLaws.{alone-row, alone-first, alone-parity, alone-off, other-extra, other-ordinary}
+use Rattle.rebuild_one.proofs.LostLaws.{alone-row, alone-first, alone-parity, alone-off, other-extra, other-ordinary}
 use Rattle.rebuild_one.proofs.one_cell.other_row.Statement.{statement}
 use Rattle.rebuild_one.proofs.one_cell.other_row.Tie as tie
 

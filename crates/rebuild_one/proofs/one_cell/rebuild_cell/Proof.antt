@@ -1,12 +1,14 @@
--- `rebuild_cell`: the surviving cells are gathered into the row's part of the column, then the other lost cell, if there is one, is added by a gather that has the row's cell too. Both together are the step.
+-- `rebuild_cell`: the surviving cells are gathered into the row's part of the column, then the
+-- other lost cell, if there is one, is added by a gather that has the row's cell too. Both together
+-- are the step.
 use mathlib.Core.Path.{_≡_, sym, ap}
 use Prim.Native.Nat.{_+_, _*_, _≤_}
 use native.Mathlib.Omega.{arith}
 use lib.ListN.{length, set, take, length-set}
 use lib.Seq.{length-take-le}
 use borrow.Author.Needs.{needs}
-use Rattle.liberation.proofs.stripes.CellLaws.{cell-fits}
-use Rattle.rebuild_one.proofs.one_cell.OneStep.{row-fits, sources-fit, step-alone, pair-beside, step-added, two-put}
+use Rattle.liberation.proofs.stripes.StripeCellLaws.{cell-fits}
+use Rattle.rebuild_one.proofs.OneStep.{row-fits, sources-fit, step-alone, pair-beside, step-added, two-put}
 use Rattle.rebuild_one.proofs.one_cell.rebuild_cell.Statement.{statement}
 use Rattle.rebuild_one.proofs.one_cell.rebuild_cell.Tie as tie
 

@@ -1,22 +1,23 @@
--- `run_progress`: a refusal, else whether the run is over and the rebuilt stripes × our plan's count, a product that fits.
+-- `run_progress`: a refusal, else whether the run is over and the rebuilt stripes × our plan's
+-- count, a product that fits.
 use mathlib.Core.Path.{_≡_, refl, sym, ap, _∙_}
 use Prim.Native.Nat.{ℕ, _-_, _*_, _^_, _<_}
 use native.Mathlib.Omega.{arith}
 use borrow.Author.Needs.{needs}
-use Rattle.rebuild_runs.specs.Runs.{readFault}
+use Rattle.rebuild_runs.specs.Runs.{readRefusal}
 use Rattle.rebuild_runs.proofs.RunRefusals.{read-passed}
-use Rattle.rebuild_runs.proofs.progress.ProgressLaws.{progress-refused, reads-are, progress-done, product-fits}
+use Rattle.rebuild_runs.proofs.ProgressLaws.{progress-refused, reads-are, progress-done, product-fits}
 use Rattle.rebuild_runs.proofs.progress.run_progress.Statement.{statement}
 use Rattle.rebuild_runs.proofs.progress.run_progress.Tie as tie
 
 -- past the refusals
-passed : (c : tie.Else1) → readFault (c .before .before .args .run) ≡ 0
-passed c = sym (c .before .read-fault .ensures) ∙ c .if1 .left
+passed : (c : tie.Else1) → readRefusal (c .before .before .args .run) ≡ 0
+passed c = sym (c .before .read-refusal .ensures) ∙ c .if1 .left
 
 returns : tie.Need-returns
 returns c =
     let t = c .before in
-    let f = t .before .read-fault in
+    let f = t .before .read-refusal in
     progress-refused (t .before .before .args .run) (f .result) (c .answered .result) (f .ensures) (t .if1 .taken) (c .answered .ensures)
 
 -- no more stripes are skipped than are past
@@ -42,7 +43,7 @@ returns-2 c =
     let e = i .before .before in
     let x = e .before .before .args .run in
     let r = i .plan-disk .result in
-    let z : readFault x ≡ 0 = passed e in
+    let z : readRefusal x ≡ 0 = passed e in
     progress-done x (n .answered2 .result) _ ((x .next - x .skipped) * r .reads) z (n .answered2 .ensures) (small c) refl (ap (λ (n : ℕ). (x .next - x .skipped) * n) (reads-are x r (read-passed x z .0) (i .plan-disk .ensures)))
 
 pub run-progress-spec : {M : Type 1} → statement M

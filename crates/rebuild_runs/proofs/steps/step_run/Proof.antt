@@ -1,21 +1,22 @@
--- `step_run`: a refusal leaves record and column; else the stripe is rebuilt into the column and the record moves on by one.
+-- `step_run`: a refusal leaves record and column; else the stripe is rebuilt into the column and
+-- the record moves on by one.
 use mathlib.Core.Path.{_≡_, sym, _∙_}
 use native.Mathlib.Omega.{arith}
 use borrow.Author.Needs.{needs}
 use Rattle.xor.proofs.SourceLaws.{bytes-all}
-use Rattle.rebuild_runs.specs.steps.Says.{runStepFault}
-use Rattle.rebuild_runs.proofs.steps.StepRefusals.{step-passed, step-refused, step-done}
+use Rattle.rebuild_runs.specs.StepSays.{runStepRefusal}
+use Rattle.rebuild_runs.proofs.StepRefusals.{step-passed, step-refused, step-done}
 use Rattle.rebuild_runs.proofs.steps.step_run.Statement.{statement}
 use Rattle.rebuild_runs.proofs.steps.step_run.Tie as tie
 
 -- past the refusals
-passed : (c : tie.Else1) → let a = c .before .before .before .before .args in runStepFault (a .run) (a .which) (a .stripe .now) (a .column .now) ≡ 0
-passed c = sym (c .before .step-fault .ensures) ∙ c .if1 .left
+passed : (c : tie.Else1) → let a = c .before .before .before .before .args in runStepRefusal (a .run) (a .which) (a .stripe .now) (a .column .now) ≡ 0
+passed c = sym (c .before .step-refusal .ensures) ∙ c .if1 .left
 
 returns : tie.Need-returns
 returns c =
     let i = c .before in
-    let f = i .before .step-fault in
+    let f = i .before .step-refusal in
     let a = i .before .before .before .before .args in
     step-refused (a .run) (a .which) (f .result) (a .stripe .now) (a .column .now) (c .answered .result) (f .ensures) (i .if1 .taken) (c .answered .ensures) (bytes-all (a .stripe .now) (i .before .before .before .shared-slice-known .given))
 

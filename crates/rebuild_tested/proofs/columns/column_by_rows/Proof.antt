@@ -1,4 +1,5 @@
--- `column_by_rows`: the columns before and after the disk are pushed, and their XOR becomes the column.
+-- `column_by_rows`: the columns before and after the disk are pushed, and their XOR becomes the
+-- column.
 use mathlib.Core.Path.{_≡_, sym}
 use Prim.Native.Nat.{_+_, _-_, _*_, _≤_, _<_}
 use native.Mathlib.Omega.{arith}
@@ -6,11 +7,11 @@ use lib.ListN.{length, take}
 use lib.Seq.{length-take-le}
 use borrow.Author.Needs.{needs}
 use Rattle.liberation.specs.Sets.{rowSet, survivingIn}
-use Rattle.liberation.proofs.stripes.CellLaws.{cell-fits}
-use Rattle.stripe_cells.specs.offsets.Offsets.{scaled}
-use Rattle.stripe_cells.proofs.ordinary.OrdinaryLists.{data-count}
+use Rattle.liberation.proofs.stripes.StripeCellLaws.{cell-fits}
+use Rattle.stripe_cells.specs.Offsets.{scaled}
+use Rattle.stripe_cells.proofs.OrdinaryLists.{data-count}
 use Rattle.stripe_cells.proofs.ColumnLaws.{row-pushed}
-use Rattle.rebuild_tested.proofs.columns.TestedRows.{others-reached, rows-gathered}
+use Rattle.rebuild_tested.proofs.TestedRows.{others-reached, rows-gathered}
 use Rattle.rebuild_tested.proofs.columns.column_by_rows.Statement.{statement}
 use Rattle.rebuild_tested.proofs.columns.column_by_rows.Tie as tie
 

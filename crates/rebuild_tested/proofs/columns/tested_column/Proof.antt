@@ -1,7 +1,8 @@
--- `tested_column`: a data disk or P by the row sets, which give the rebuilt column since the disk fits; Q by our plan.
+-- `tested_column`: a data disk or P by the row sets, which give the rebuilt column since the disk
+-- fits; Q by our plan.
 use borrow.Author.Needs.{needs}
 use Rattle.xor.proofs.SourceLaws.{bytes-all}
-use Rattle.rebuild_tested.proofs.columns.TestedRows.{rows-ask, rows-tested}
+use Rattle.rebuild_tested.proofs.TestedRows.{rows-ask, rows-tested}
 use Rattle.rebuild_tested.proofs.columns.tested_column.Statement.{statement}
 use Rattle.rebuild_tested.proofs.columns.tested_column.Tie as tie
 

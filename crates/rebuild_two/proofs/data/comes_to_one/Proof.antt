@@ -1,11 +1,12 @@
--- `comes_to_one`: each turn tries one multiple. The invariant: 1 is among those still to come exactly if it is among all.
+-- `comes_to_one`: each turn tries one multiple. The invariant: 1 is among those still to come
+-- exactly if it is among all.
 use mathlib.Core.Path.{_≡_, refl, sym, _∙_}
 use Prim.Native.Nat.{_-_, _/_, _<_}
 use native.Mathlib.Omega.{arith}
 use borrow.Author.Needs.{needs}
 use Rattle.liberation.specs.two_disks.Pairs.{comesToOne}
 use Rattle.parity_sets.proofs.NumberLaws.{next-below}
-use Rattle.rebuild_two.proofs.data.RoleLaws.{one-found, one-turn, one-none}
+use Rattle.rebuild_two.proofs.RoleLaws.{one-found, one-turn, one-none}
 use Rattle.rebuild_two.proofs.data.comes_to_one.Statement.{statement}
 use Rattle.rebuild_two.proofs.data.comes_to_one.Tie as tie
 

@@ -1,7 +1,7 @@
 -- `goes_forward`: never from disk 0; else by the multiples of the gap.
 use mathlib.Core.Path.{sym, _∙_}
 use borrow.Author.Needs.{needs}
-use Rattle.rebuild_two.proofs.data.RoleLaws.{forward-zero, forward-other}
+use Rattle.rebuild_two.proofs.RoleLaws.{forward-zero, forward-other}
 use Rattle.rebuild_two.proofs.data.goes_forward.Statement.{statement}
 use Rattle.rebuild_two.proofs.data.goes_forward.Tie as tie
 

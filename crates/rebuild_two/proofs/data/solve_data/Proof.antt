@@ -1,4 +1,5 @@
--- `solve_data`: the walk goes from a to b, or from b to a: from sums, which is the walk as the disks are those of a width and the stripe is bytes; to disk 0 on the stripe with the first cell.
+-- `solve_data`: the walk goes from a to b, or from b to a: from sums, which is the walk as the
+-- disks are those of a width and the stripe is bytes; to disk 0 on the stripe with the first cell.
 use mathlib.Core.Path.{_≡_}
 use mathlib.Core.Bool.{true}
 use Prim.Native.Nat.{ℕ, _<_}
@@ -6,9 +7,9 @@ use native.Mathlib.Omega.{arith}
 use borrow.Author.Needs.{needs}
 use Rattle.mathematics.specs.Xor.{allBytes}
 use Rattle.xor.proofs.SourceLaws.{bytes-all}
-use Rattle.two_disk_walk.specs.first_cell.Disks.{Walked}
-use Rattle.two_disk_walk.proofs.walk.WalkLaws.{walk-started}
-use Rattle.rebuild_two.proofs.data.DataLaws.{data-zero, sums-forward, sums-back, walked-forward, walked-back}
+use Rattle.two_disk_walk.specs.WalkDisks.{Walked}
+use Rattle.two_disk_walk.proofs.WalkLaws.{walk-started}
+use Rattle.rebuild_two.proofs.DataLaws.{data-zero, sums-forward, sums-back, walked-forward, walked-back}
 use Rattle.rebuild_two.proofs.data.solve_data.Statement.{statement}
 use Rattle.rebuild_two.proofs.data.solve_data.Tie as tie
 

@@ -1,7 +1,7 @@
 -- `solve_ordered`: by the higher disk, which is a data disk, P or Q.
 use native.Mathlib.Omega.{arith}
 use borrow.Author.Needs.{needs}
-use Rattle.rebuild_two.proofs.pair.DiskLaws.{ordered-data, ordered-row, ordered-diagonal}
+use Rattle.rebuild_two.proofs.DiskLaws.{ordered-data, ordered-row, ordered-diagonal}
 use Rattle.rebuild_two.proofs.pair.solve_ordered.Statement.{statement}
 use Rattle.rebuild_two.proofs.pair.solve_ordered.Tie as tie
 

@@ -1,6 +1,6 @@
 -- `solve_pair`: the lower disk first.
 use borrow.Author.Needs.{needs}
-use Rattle.rebuild_two.proofs.pair.DiskLaws.{pair-ordered, pair-turned}
+use Rattle.rebuild_two.proofs.DiskLaws.{pair-ordered, pair-turned}
 use Rattle.rebuild_two.proofs.pair.solve_pair.Statement.{statement}
 use Rattle.rebuild_two.proofs.pair.solve_pair.Tie as tie
 

@@ -1,4 +1,5 @@
--- `up_diagonals`: each turn does the next step. The invariant: the steps still to come, done to the stripe as it is, give what all steps give to the stripe as it was.
+-- `up_diagonals`: each turn does the next step. The invariant: the steps still to come, done to the
+-- stripe as it is, give what all steps give to the stripe as it was.
 use mathlib.Core.Path.{_≡_, refl, sym, ap, _∙_}
 use Prim.Native.Nat.{ℕ, _+_, _-_, _%_, _≤_}
 use native.Mathlib.Omega.{arith}
@@ -10,7 +11,7 @@ use Rattle.liberation.specs.two_disks.Pairs.{upDiagonals}
 use Rattle.parity_sets.proofs.NumberLaws.{numbered}
 use Rattle.stripe_cells.proofs.OrdinaryLaws.{diagonal-own}
 use Rattle.liberation.proofs.stripes.SizedLaws.{sized-kept}
-use Rattle.rebuild_two.proofs.with_parity.UpLaws.{upRest, up-first, up-turn, up-last}
+use Rattle.rebuild_two.proofs.UpLaws.{upRest, up-first, up-turn, up-last}
 use Rattle.rebuild_two.proofs.with_parity.up_diagonals.Statement.{statement}
 use Rattle.rebuild_two.proofs.with_parity.up_diagonals.Tie as tie
 

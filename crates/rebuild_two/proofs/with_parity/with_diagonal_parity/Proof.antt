@@ -1,6 +1,6 @@
 -- `with_diagonal_parity`: one disk after the other.
 use borrow.Author.Needs.{needs}
-use Rattle.rebuild_two.proofs.with_parity.ParityLaws.{diagonal-done}
+use Rattle.rebuild_two.proofs.ParityLaws.{diagonal-done}
 use Rattle.rebuild_two.proofs.with_parity.with_diagonal_parity.Statement.{statement}
 use Rattle.rebuild_two.proofs.with_parity.with_diagonal_parity.Tie as tie
 

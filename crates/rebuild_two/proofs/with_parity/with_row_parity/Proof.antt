@@ -2,7 +2,7 @@
 use native.Mathlib.Omega.{arith}
 use borrow.Author.Needs.{needs}
 use Rattle.liberation.proofs.stripes.SizedLaws.{sized-kept}
-use Rattle.rebuild_two.proofs.with_parity.ParityLaws.{row-done}
+use Rattle.rebuild_two.proofs.ParityLaws.{row-done}
 use Rattle.rebuild_two.proofs.with_parity.with_row_parity.Statement.{statement}
 use Rattle.rebuild_two.proofs.with_parity.with_row_parity.Tie as tie
 

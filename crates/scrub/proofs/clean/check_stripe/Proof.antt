@@ -4,19 +4,19 @@ use mathlib.Core.Bool.{true}
 use borrow.Author.Needs.{needs}
 use Rattle.mathematics.specs.Xor.{allBytes}
 use Rattle.xor.proofs.SourceLaws.{bytes-all}
-use Rattle.liberation.specs.stripes.Limits.{Sized}
-use Rattle.refusals.specs.stripe.Says.{stripeFault}
-use Rattle.refusals.proofs.stripe.StripeRefusals.{fault-none}
-use Rattle.scrub.proofs.clean.CheckLaws.{check-refused, check-done}
+use Rattle.liberation.specs.stripes.StripeLimits.{Sized}
+use Rattle.refusals.specs.StripeSays.{stripeRefusal}
+use Rattle.refusals.proofs.StripeRefusals.{refusal-none}
+use Rattle.scrub.proofs.CheckLaws.{check-refused, check-done}
 use Rattle.scrub.proofs.clean.check_stripe.Statement.{statement}
 use Rattle.scrub.proofs.clean.check_stripe.Tie as tie
 
 -- past the refusals
-passed : (c : tie.Else1) → let a = c .before .before .before .args in stripeFault (a .shape .width) (a .shape .disks) (a .shape .«cell_size») (a .stripe .now) ≡ 0
-passed c = sym (c .before .stripe-fault .ensures) ∙ c .if1 .left
+passed : (c : tie.Else1) → let a = c .before .before .before .args in stripeRefusal (a .shape .width) (a .shape .disks) (a .shape .«cell_size») (a .stripe .now) ≡ 0
+passed c = sym (c .before .stripe-refusal .ensures) ∙ c .if1 .left
 
 sized : (c : tie.Else1) → let a = c .before .before .before .args in Sized (a .shape .width) (a .shape .disks) (a .shape .«cell_size») (a .stripe .now)
-sized c = let a = c .before .before .before .args in fault-none (a .shape .width) (a .shape .disks) (a .shape .«cell_size») (a .stripe .now) (passed c)
+sized c = let a = c .before .before .before .args in refusal-none (a .shape .width) (a .shape .disks) (a .shape .«cell_size») (a .stripe .now) (passed c)
 
 -- the lent stripe is bytes
 bytes : (c : tie.After-shared-slice-known) → allBytes (c .before .args .stripe .now) ≡ true
@@ -25,7 +25,7 @@ bytes c = bytes-all (c .before .args .stripe .now) (c .shared-slice-known .given
 returns : tie.Need-returns
 returns c =
     let t = c .before in
-    let f = t .before .stripe-fault in
+    let f = t .before .stripe-refusal in
     let a = t .before .before .before .args in
     check-refused (a .shape .width) (a .shape .disks) (a .shape .«cell_size») (f .result) (a .stripe .now) (c .answered .result) (f .ensures) (t .if1 .taken) (c .answered .ensures) (bytes (t .before .before))
 

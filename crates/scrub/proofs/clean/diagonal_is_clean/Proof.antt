@@ -4,8 +4,8 @@ use Prim.Native.Nat.{_+_}
 use lib.ListN.{length}
 use lib.Seq.{length-take-le}
 use borrow.Author.Needs.{needs}
-use Rattle.stripe_cells.proofs.in_set.SetLists.{size-fits, survivors-reached}
-use Rattle.scrub.proofs.clean.CheckLaws.{none-lost}
+use Rattle.stripe_cells.proofs.SetLists.{size-fits, survivors-reached}
+use Rattle.scrub.proofs.CheckLaws.{none-lost}
 use Rattle.scrub.proofs.clean.diagonal_is_clean.Statement.{statement}
 use Rattle.scrub.proofs.clean.diagonal_is_clean.Tie as tie
 

@@ -1,7 +1,7 @@
 -- `is_clean`: the sets of both kinds, the diagonals only where all rows are clean.
 use borrow.Author.Tests.{not-true, not-false}
 use borrow.Author.Needs.{needs}
-use Rattle.scrub.proofs.clean.CheckLaws.{clean-rows, clean-both}
+use Rattle.scrub.proofs.CheckLaws.{clean-rows, clean-both}
 use Rattle.scrub.proofs.clean.is_clean.Statement.{statement}
 use Rattle.scrub.proofs.clean.is_clean.Tie as tie
 

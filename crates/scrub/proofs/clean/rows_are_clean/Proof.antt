@@ -1,4 +1,5 @@
--- `rows_are_clean`: the XOR of the columns of the data disks and P is zero exactly if that of every row is.
+-- `rows_are_clean`: the XOR of the columns of the data disks and P is zero exactly if that of every
+-- row is.
 use mathlib.Core.Path.{_≡_, sym}
 use Prim.Native.Nat.{_+_, _*_, _<_}
 use native.Mathlib.Omega.{arith}
@@ -6,9 +7,9 @@ use lib.ListN.{length, take}
 use lib.Seq.{length-take-le}
 use borrow.Author.Needs.{needs}
 use Rattle.xor.specs.Reach.{Reached}
-use Rattle.liberation.proofs.stripes.CellLaws.{cell-fits}
+use Rattle.liberation.proofs.stripes.StripeCellLaws.{cell-fits}
 use Rattle.stripe_cells.proofs.ColumnLaws.{columns-reached}
-use Rattle.scrub.proofs.clean.CheckLaws.{first-row, rows-clean}
+use Rattle.scrub.proofs.CheckLaws.{first-row, rows-clean}
 use Rattle.scrub.proofs.clean.rows_are_clean.Statement.{statement}
 use Rattle.scrub.proofs.clean.rows_are_clean.Tie as tie
 

@@ -1,7 +1,8 @@
--- `push_equation`: a row set for Q, a diagonal set for P, a diagonal set and the row sets of its rows there for a data disk.
+-- `push_equation`: a row set for Q, a diagonal set for P, a diagonal set and the row sets of its
+-- rows there for a data disk.
 use native.Mathlib.Omega.{arith}
 use borrow.Author.Needs.{needs}
-use Rattle.scrub.proofs.equations.EquationLists.{last-pushed, row-parity-pushed, data-pushed}
+use Rattle.scrub.proofs.EquationLists.{last-pushed, row-parity-pushed, data-pushed}
 use Rattle.scrub.proofs.equations.push_equation.Statement.{statement}
 use Rattle.scrub.proofs.equations.push_equation.Tie as tie
 

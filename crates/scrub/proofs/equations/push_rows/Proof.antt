@@ -1,10 +1,11 @@
--- `push_rows`: the row set of the diagonal's ordinary cell on the disk, then that of its extra cell's row where that cell is there too.
+-- `push_rows`: the row set of the diagonal's ordinary cell on the disk, then that of its extra
+-- cell's row where that cell is there too.
 use mathlib.Core.Path.{_≡_}
 use Prim.Native.Nat.{_+_, _%_, _<_}
 use native.Mathlib.Nat.{mod-lt}
 use native.Mathlib.Omega.{arith}
 use borrow.Author.Needs.{needs}
-use Rattle.scrub.proofs.equations.EquationLists.{rows-zero, rows-apart, rows-both}
+use Rattle.scrub.proofs.EquationLists.{rows-zero, rows-apart, rows-both}
 use Rattle.scrub.proofs.equations.push_rows.Statement.{statement}
 use Rattle.scrub.proofs.equations.push_rows.Tie as tie
 

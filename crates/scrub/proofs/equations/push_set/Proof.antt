@@ -1,7 +1,8 @@
--- `push_set`: the set's list is made in the part of the lent list that starts after the first `count` numbers.
+-- `push_set`: the set's list is made in the part of the lent list that starts after the first
+-- `count` numbers.
 use native.Mathlib.Omega.{arith}
 use borrow.Author.Needs.{needs}
-use Rattle.scrub.proofs.equations.EquationLists.{set-after}
+use Rattle.scrub.proofs.EquationLists.{set-after}
 use Rattle.scrub.proofs.equations.push_set.Statement.{statement}
 use Rattle.scrub.proofs.equations.push_set.Tie as tie
 

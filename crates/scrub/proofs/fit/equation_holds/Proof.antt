@@ -3,7 +3,7 @@ use mathlib.Core.Path.{_≡_, sym}
 use lib.ListN.{length}
 use lib.Seq.{length-take-le}
 use borrow.Author.Needs.{needs}
-use Rattle.scrub.proofs.fit.EquationTests.{size-fits, equation-reached, equation-tested}
+use Rattle.scrub.proofs.EquationTests.{size-fits, equation-reached, equation-tested}
 use Rattle.scrub.proofs.fit.equation_holds.Statement.{statement}
 use Rattle.scrub.proofs.fit.equation_holds.Tie as tie
 

@@ -1,4 +1,5 @@
--- `equations_passed`: the equations so far hold, and the first that does not ends the loop. From `from` on and round every number comes in its turn.
+-- `equations_passed`: the equations so far hold, and the first that does not ends the loop. From
+-- `from` on and round every number comes in its turn.
 use mathlib.Core.Path.{_≡_, ap, _∙_}
 use mathlib.Core.Bool.{true}
 use Prim.Native.Nat.{_+_, _-_, _%_, _≤_}
@@ -10,7 +11,7 @@ use Rattle.liberation.proofs.DiagonalRows.{row-below}
 use Rattle.liberation.specs.scrub.Survivors.{equationHolds}
 use Rattle.xor.proofs.SourceLaws.{bytes-all}
 use Rattle.mathematics.proofs.AllLaws.{all-start, all-more}
-use Rattle.scrub.proofs.fit.EquationTests.{one-refuses, none-refuses}
+use Rattle.scrub.proofs.EquationTests.{one-refuses, none-refuses}
 use Rattle.scrub.proofs.fit.equations_passed.Statement.{statement}
 use Rattle.scrub.proofs.fit.equations_passed.Tie as tie
 

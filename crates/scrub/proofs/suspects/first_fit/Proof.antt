@@ -7,7 +7,7 @@ use lib.ListN.{length}
 use borrow.Author.Needs.{needs}
 use borrow.Author.Tests.{eq-eqb, ne-eqb}
 use Rattle.liberation.specs.scrub.Survivors.{suspect}
-use Rattle.scrub.proofs.suspects.FitLaws.{firstOn, first-all, first-here, first-after, first-none}
+use Rattle.scrub.proofs.FitLaws.{firstOn, first-all, first-here, first-after, first-none}
 use Rattle.scrub.proofs.suspects.first_fit.Statement.{statement}
 use Rattle.scrub.proofs.suspects.first_fit.Tie as tie
 

@@ -1,11 +1,12 @@
--- `too_long`: what has been seen and what is left of the list make up the whole, and a length above what 2^48 leaves takes the whole over it, since the lengths after it only add to it.
+-- `too_long`: what has been seen and what is left of the list make up the whole, and a length above
+-- what 2^48 leaves takes the whole over it, since the lengths after it only add to it.
 use mathlib.Core.Path.{_≡_, sym}
 use Prim.Native.Nat.{_+_, _-_, _^_, _≤_}
 use native.Mathlib.Omega.{arith}
 use lib.ListN.{length, drop}
 use borrow.Author.Tests.{lt-ltb, le-ltb}
 use Rattle.mathematics.specs.Sums.{total}
-use Rattle.space.proofs.limits.LeftLaws.{left-none, left-next}
+use Rattle.space.proofs.LeftLaws.{left-none, left-next}
 use Rattle.space.proofs.limits.too_long.Statement.{statement}
 use Rattle.space.proofs.limits.too_long.Tie as tie
 

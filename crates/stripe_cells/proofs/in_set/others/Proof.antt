@@ -4,10 +4,10 @@ use mathlib.Core.List.{List, _++_}
 use Prim.Native.Nat.{ℕ}
 use native.Mathlib.Omega.{arith}
 use borrow.Author.Needs.{needs}
-use Rattle.stripe_cells.specs.ordinary.Cells.{survivors, ordinaryOf}
-use Rattle.stripe_cells.specs.in_set.Cells.{extraIn}
-use Rattle.stripe_cells.proofs.ordinary.OrdinaryLists.{both-pushed}
-use Rattle.stripe_cells.proofs.in_set.SetLists.{ordinary-most, extra-survives}
+use Rattle.stripe_cells.specs.OrdinaryCells.{survivors, ordinaryOf}
+use Rattle.stripe_cells.specs.SetCells.{extraIn}
+use Rattle.stripe_cells.proofs.OrdinaryLists.{both-pushed}
+use Rattle.stripe_cells.proofs.SetLists.{ordinary-most, extra-survives}
 use Rattle.stripe_cells.proofs.in_set.others.Statement.{statement}
 use Rattle.stripe_cells.proofs.in_set.others.Tie as tie
 

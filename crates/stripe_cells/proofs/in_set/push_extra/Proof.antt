@@ -1,14 +1,15 @@
--- `push_extra`: a row set has no extra cell, nor has D 0, nor has a diagonal whose extra cell would be on an absent disk.
+-- `push_extra`: a row set has no extra cell, nor has D 0, nor has a diagonal whose extra cell would
+-- be on an absent disk.
 use mathlib.Core.Path.{ap, subst, sym, _∙_}
 use mathlib.Core.List.{List, [], _∷_}
 use Prim.Native.Nat.{ℕ}
 use native.Mathlib.Omega.{arith}
 use borrow.Author.Needs.{needs}
 use Rattle.liberation.specs.Sets.{place, extraRow}
-use Rattle.stripe_cells.specs.offsets.Offsets.{scaled, Pushed}
-use Rattle.stripe_cells.specs.ordinary.Cells.{survivors}
-use Rattle.stripe_cells.proofs.ordinary.OrdinaryLists.{none-pushed}
-use Rattle.stripe_cells.proofs.in_set.SetLists.{survivors-none, extra-row, extra-first, extra-absent, extra-some}
+use Rattle.stripe_cells.specs.Offsets.{scaled, Pushed}
+use Rattle.stripe_cells.specs.OrdinaryCells.{survivors}
+use Rattle.stripe_cells.proofs.OrdinaryLists.{none-pushed}
+use Rattle.stripe_cells.proofs.SetLists.{survivors-none, extra-row, extra-first, extra-absent, extra-some}
 use Rattle.stripe_cells.proofs.in_set.push_extra.Statement.{statement}
 use Rattle.stripe_cells.proofs.in_set.push_extra.Tie as tie
 

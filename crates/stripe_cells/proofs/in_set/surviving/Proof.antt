@@ -1,7 +1,7 @@
 -- `surviving`: the ordinary cells, then the extra cell, each but on the lost disks.
 use native.Mathlib.Omega.{arith}
 use borrow.Author.Needs.{needs}
-use Rattle.stripe_cells.proofs.in_set.SetLists.{ordinary-most, set-pushed}
+use Rattle.stripe_cells.proofs.SetLists.{ordinary-most, set-pushed}
 use Rattle.stripe_cells.proofs.in_set.surviving.Statement.{statement}
 use Rattle.stripe_cells.proofs.in_set.surviving.Tie as tie
 

@@ -1,10 +1,11 @@
--- `add_odd`: list after list. The invariant: what stands in the cell, with the odd cells still to come, is the XOR of all.
+-- `add_odd`: list after list. The invariant: what stands in the cell, with the odd cells still to
+-- come, is the XOR of all.
 use mathlib.Core.Path.{_≡_, refl}
 use Prim.Native.Nat.{_-_, _*_}
 use native.Mathlib.Omega.{arith}
 use lib.ListN.{length, set, length-set}
 use Rattle.xor.proofs.SourceLaws.{bytes-all}
-use Rattle.stripe_cells.proofs.odd_cells.GatherLaws.{Gathering, own-first, start-own, gathering-none, gathering-next, gathering-end, still-marked, own-small}
+use Rattle.stripe_cells.proofs.GatherLaws.{Gathering, own-first, start-own, gathering-none, gathering-next, gathering-end, still-marked, own-small}
 use Rattle.stripe_cells.proofs.odd_cells.add_odd.Statement.{statement}
 use Rattle.stripe_cells.proofs.odd_cells.add_odd.Tie as tie
 

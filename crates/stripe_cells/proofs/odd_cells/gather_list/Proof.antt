@@ -3,7 +3,7 @@ use mathlib.Core.Path.{sym}
 use native.Mathlib.Omega.{arith}
 use lib.Seq.{length-take-le}
 use borrow.Author.Needs.{needs}
-use Rattle.stripe_cells.proofs.odd_cells.GatherLaws.{list-beside, list-added, own-small}
+use Rattle.stripe_cells.proofs.GatherLaws.{list-beside, list-added, own-small}
 use Rattle.stripe_cells.proofs.odd_cells.gather_list.Statement.{statement}
 use Rattle.stripe_cells.proofs.odd_cells.gather_list.Tie as tie
 

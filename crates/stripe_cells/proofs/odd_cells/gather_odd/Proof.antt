@@ -1,7 +1,7 @@
 -- `gather_odd`: the first list, and the rest added.
 use native.Mathlib.Omega.{arith}
 use borrow.Author.Needs.{needs}
-use Rattle.stripe_cells.proofs.odd_cells.GatherLaws.{start-none, all-gathered, still-marked}
+use Rattle.stripe_cells.proofs.GatherLaws.{start-none, all-gathered, still-marked}
 use Rattle.stripe_cells.proofs.odd_cells.gather_odd.Statement.{statement}
 use Rattle.stripe_cells.proofs.odd_cells.gather_odd.Tie as tie
 

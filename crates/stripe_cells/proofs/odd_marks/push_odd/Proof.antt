@@ -1,4 +1,5 @@
--- `push_odd`: each turn pushes the offset of an odd place, or passes over it; a full list ends the loop.
+-- `push_odd`: each turn pushes the offset of an odd place, or passes over it; a full list ends the
+-- loop.
 use mathlib.Core.Path.{refl, sym, _∙_}
 use mathlib.Core.Logic.{inl, inr, ⊎-elim}
 use Prim.Native.Nat.{_-_, _≤_}
@@ -6,7 +7,7 @@ use native.Mathlib.Nat.{mul-le-mul}
 use native.Mathlib.Omega.{arith}
 use lib.Bits.{and-mask}
 use lib.ListN.{getD}
-use Rattle.stripe_cells.proofs.odd_marks.ListedLaws.{OddPushing, odd-turn}
+use Rattle.stripe_cells.proofs.ListedLaws.{OddPushing, odd-turn}
 use Rattle.stripe_cells.proofs.odd_marks.push_odd.Statement.{statement}
 use Rattle.stripe_cells.proofs.odd_marks.push_odd.Tie as tie
 

@@ -1,11 +1,12 @@
--- `toggle_all`: each turn toggles the mark of the next place. The invariant: the places still to come, toggled in the marks as they are, give what all give in the marks as they were.
+-- `toggle_all`: each turn toggles the mark of the next place. The invariant: the places still to
+-- come, toggled in the marks as they are, give what all give in the marks as they were.
 use mathlib.Core.Path.{_≡_, refl, _∙_}
 use Prim.Native.Nat.{_-_, _≤_, _<_}
 use native.Mathlib.Omega.{arith}
 use lib.Bits.{bitXor}
 use lib.ListN.{length, getD, drop, length-set}
-use Rattle.stripe_cells.specs.odd_marks.Toggled.{toggledAll}
-use Rattle.stripe_cells.proofs.odd_marks.OddLaws.{toggled-next, toggled-end}
+use Rattle.stripe_cells.specs.Toggled.{toggledAll}
+use Rattle.stripe_cells.proofs.OddLaws.{toggled-next, toggled-end}
 use Rattle.stripe_cells.proofs.odd_marks.toggle_all.Statement.{statement}
 use Rattle.stripe_cells.proofs.odd_marks.toggle_all.Tie as tie
 

@@ -3,7 +3,7 @@ use mathlib.Core.Bool.{true, false}
 use Prim.Native.Nat.{_-_}
 use borrow.Author.Needs.{needs}
 use borrow.Author.Tests.{eq-eqb, ne-eqb}
-use Rattle.stripe_cells.proofs.offsets.PushLaws.{pushed-kind}
+use Rattle.stripe_cells.proofs.PushLaws.{pushed-kind}
 use Rattle.stripe_cells.proofs.offsets.push.Statement.{statement}
 use Rattle.stripe_cells.proofs.offsets.push.Tie as tie
 

@@ -4,8 +4,8 @@ use Prim.Native.Nat.{ℕ, _+_, _-_, _*_, _%_, _≤_, _<_}
 use native.Mathlib.Omega.{arith}
 use Rattle.liberation.specs.Sets.{place, diagonalFrom}
 use Rattle.liberation.proofs.DiagonalRows.{row-below, row-on}
-use Rattle.stripe_cells.specs.offsets.Offsets.{scaled}
-use Rattle.stripe_cells.proofs.offsets.PushLaws.{Pushing, diagonal-walk, pushing-none, pushing-one, pushing-all, small}
+use Rattle.stripe_cells.specs.Offsets.{scaled}
+use Rattle.stripe_cells.proofs.PushLaws.{Pushing, diagonal-walk, pushing-none, pushing-one, pushing-all, small}
 use Rattle.stripe_cells.proofs.offsets.push_diagonal.Statement.{statement}
 use Rattle.stripe_cells.proofs.offsets.push_diagonal.Tie as tie
 

@@ -3,8 +3,8 @@ use mathlib.Core.Path.{_≡_, refl}
 use Prim.Native.Nat.{_+_, _-_, _*_, _≤_}
 use native.Mathlib.Omega.{arith}
 use Rattle.liberation.specs.Sets.{rowFrom}
-use Rattle.stripe_cells.specs.offsets.Offsets.{scaled}
-use Rattle.stripe_cells.proofs.offsets.PushLaws.{Pushing, row-walk, pushing-none, pushing-one, pushing-all, small}
+use Rattle.stripe_cells.specs.Offsets.{scaled}
+use Rattle.stripe_cells.proofs.PushLaws.{Pushing, row-walk, pushing-none, pushing-one, pushing-all, small}
 use Rattle.stripe_cells.proofs.offsets.push_row.Statement.{statement}
 use Rattle.stripe_cells.proofs.offsets.push_row.Tie as tie
 

@@ -4,7 +4,7 @@ use native.Mathlib.Nat.{mul-le-mul}
 use native.Mathlib.Omega.{arith}
 use borrow.Author.Needs.{needs}
 use Rattle.liberation.specs.Sets.{place}
-use Rattle.stripe_cells.proofs.ordinary.OrdinaryLists.{one-lost-x, one-lost-y, one-kept, none-pushed, one-pushed}
+use Rattle.stripe_cells.proofs.OrdinaryLists.{one-lost-x, one-lost-y, one-kept, none-pushed, one-pushed}
 use Rattle.stripe_cells.proofs.ordinary.push_cell.Statement.{statement}
 use Rattle.stripe_cells.proofs.ordinary.push_cell.Tie as tie
 

@@ -1,8 +1,9 @@
--- `push_data`: the pushes before x, between x and y, and after y, one after another, leave out the cells on x and y.
+-- `push_data`: the pushes before x, between x and y, and after y, one after another, leave out the
+-- cells on x and y.
 use Prim.Native.Nat.{_+_, _-_}
 use native.Mathlib.Omega.{arith}
 use borrow.Author.Needs.{needs}
-use Rattle.stripe_cells.proofs.ordinary.OrdinaryLists.{data-count, data-pushed, room-after}
+use Rattle.stripe_cells.proofs.OrdinaryLists.{data-count, data-pushed, room-after}
 use Rattle.stripe_cells.proofs.ordinary.push_data.Statement.{statement}
 use Rattle.stripe_cells.proofs.ordinary.push_data.Tie as tie
 

@@ -1,7 +1,7 @@
 -- `push_ordinary`: the cells on data disks, then the parity cell.
 use native.Mathlib.Omega.{arith}
 use borrow.Author.Needs.{needs}
-use Rattle.stripe_cells.proofs.ordinary.OrdinaryLists.{data-most, ordinary-pushed, parity-most}
+use Rattle.stripe_cells.proofs.OrdinaryLists.{data-most, ordinary-pushed, parity-most}
 use Rattle.stripe_cells.proofs.ordinary.push_ordinary.Statement.{statement}
 use Rattle.stripe_cells.proofs.ordinary.push_ordinary.Tie as tie
 

@@ -2,7 +2,7 @@
 use native.Mathlib.Omega.{arith}
 use borrow.Author.Needs.{needs}
 use Rattle.text.proofs.WriteLaws.{wrote-more}
-use Rattle.text.proofs.steps.FieldLaws.{digits-most}
+use Rattle.text.proofs.FieldLaws.{digits-most}
 use Rattle.text.proofs.steps.put_field.Tie as tie
 use Rattle.text.proofs.steps.put_field.Statement.{statement}
 

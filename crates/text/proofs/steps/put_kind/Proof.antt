@@ -1,7 +1,7 @@
 -- `put_kind`: `R,` for a row set, else `D,`.
 use borrow.Author.Needs.{needs}
 use Rattle.text.proofs.WriteLaws.{wrote-same}
-use Rattle.text.proofs.steps.FieldLaws.{letter-row, letter-diagonal}
+use Rattle.text.proofs.FieldLaws.{letter-row, letter-diagonal}
 use Rattle.text.proofs.steps.put_kind.Tie as tie
 use Rattle.text.proofs.steps.put_kind.Statement.{statement}
 

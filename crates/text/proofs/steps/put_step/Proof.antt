@@ -1,8 +1,9 @@
--- `put_step`: the three fields one behind the other; a number with its byte takes at most three bytes, the letter with its comma two.
+-- `put_step`: the three fields one behind the other; a number with its byte takes at most three
+-- bytes, the letter with its comma two.
 use native.Mathlib.Omega.{arith}
 use borrow.Author.Needs.{needs}
 use Rattle.text.proofs.WriteLaws.{wrote-more, wrote-same}
-use Rattle.text.proofs.steps.FieldLaws.{step-fields, field-most}
+use Rattle.text.proofs.FieldLaws.{step-fields, field-most}
 use Rattle.text.proofs.steps.put_step.Tie as tie
 use Rattle.text.proofs.steps.put_step.Statement.{statement}
 

@@ -1,4 +1,5 @@
--- `start`: the first cell is a cell of the stripe on a lost disk, so it is none of the surviving cells. Their marks are toggled from no mark at all, and the odd ones are gathered.
+-- `start`: the first cell is a cell of the stripe on a lost disk, so it is none of the surviving
+-- cells. Their marks are toggled from no mark at all, and the odd ones are gathered.
 use mathlib.Core.Path.{_≡_, sym, ap, _∙_}
 use mathlib.Core.List.{List, [], _++_}
 use Prim.Native.Nat.{ℕ, _+_, _*_, _≤_}
@@ -9,10 +10,10 @@ use lib.Seq.{take-at, length-take-le}
 use borrow.Author.Needs.{needs}
 use Rattle.liberation.specs.two_disks.Pairs.{startSets}
 use Rattle.liberation.proofs.MarkLists.{take-marks, no-cells, cells-most}
-use Rattle.stripe_cells.specs.odd_marks.Toggled.{toggledAll}
-use Rattle.stripe_cells.specs.odd_cells.Gathered.{MarkedStripe}
-use Rattle.stripe_cells.specs.ordinary.Cells.{survivors}
-use Rattle.two_disk_walk.proofs.first_cell.StartLaws.{start-marked, start-done}
+use Rattle.stripe_cells.specs.Toggled.{toggledAll}
+use Rattle.stripe_cells.specs.Gathered.{MarkedStripe}
+use Rattle.stripe_cells.specs.OrdinaryCells.{survivors}
+use Rattle.two_disk_walk.proofs.StartLaws.{start-marked, start-done}
 use Rattle.two_disk_walk.proofs.first_cell.start.Statement.{statement}
 use Rattle.two_disk_walk.proofs.first_cell.start.Tie as tie
 

@@ -8,10 +8,10 @@ use lib.Seq.{length-take-le}
 use borrow.Author.Needs.{needs}
 use Rattle.mathematics.specs.Lists.{allBelow}
 use Rattle.liberation.specs.Sets.{setOf}
-use Rattle.stripe_cells.specs.odd_marks.Toggled.{toggledAll}
-use Rattle.stripe_cells.specs.ordinary.Cells.{survivors}
-use Rattle.stripe_cells.proofs.in_set.SetLists.{survivors-swap, survivors-below}
-use Rattle.two_disk_walk.proofs.first_cell.ToggleLaws.{set-places, places-marked}
+use Rattle.stripe_cells.specs.Toggled.{toggledAll}
+use Rattle.stripe_cells.specs.OrdinaryCells.{survivors}
+use Rattle.stripe_cells.proofs.SetLists.{survivors-swap, survivors-below}
+use Rattle.two_disk_walk.proofs.ToggleLaws.{set-places, places-marked}
 use Rattle.two_disk_walk.proofs.first_cell.toggle_set.Statement.{statement}
 use Rattle.two_disk_walk.proofs.first_cell.toggle_set.Tie as tie
 

@@ -1,11 +1,12 @@
--- `toggle_sets`: each turn toggles for the two sets of a row. The invariant: the rows still to come, toggled in the marks as they are, give what all rows give in the marks as they were.
+-- `toggle_sets`: each turn toggles for the two sets of a row. The invariant: the rows still to
+-- come, toggled in the marks as they are, give what all rows give in the marks as they were.
 use mathlib.Core.Path.{_≡_, refl, sym, _∙_}
 use Prim.Native.Nat.{_<_}
 use native.Mathlib.Omega.{arith}
 use lib.ListN.{length}
 use borrow.Author.Needs.{needs}
 use Rattle.parity_sets.proofs.NumberLaws.{numbered}
-use Rattle.two_disk_walk.proofs.first_cell.ToggleLaws.{rowsRest, rows-turn, rows-last}
+use Rattle.two_disk_walk.proofs.ToggleLaws.{rowsRest, rows-turn, rows-last}
 use Rattle.two_disk_walk.proofs.first_cell.toggle_sets.Statement.{statement}
 use Rattle.two_disk_walk.proofs.first_cell.toggle_sets.Tie as tie
 

@@ -1,4 +1,5 @@
--- `push_sums`: each turn pushes the two cells of a row. The invariant: what the list holds, with the cells of the rows still to come, are the cells of all rows.
+-- `push_sums`: each turn pushes the two cells of a row. The invariant: what the list holds, with
+-- the cells of the rows still to come, are the cells of all rows.
 use mathlib.Core.Path.{_≡_, refl, _∙_}
 use mathlib.Core.List.{_++_}
 use Prim.Native.Nat.{ℕ, _+_, _*_, _<_, _≤_}
@@ -10,8 +11,8 @@ use Rattle.liberation.specs.Plans.{diagonalOf}
 use Rattle.liberation.specs.two_disks.Pairs.{nextRow}
 use Rattle.liberation.specs.two_disks_by_sums.Sums.{startSteps, cellsOf}
 use Rattle.parity_sets.proofs.NumberLaws.{numbered, next-below, next-is}
-use Rattle.stripe_cells.specs.offsets.Offsets.{scaled}
-use Rattle.two_disk_walk.proofs.first_cell_by_sums.StartCells.{cells-turn, cells-last}
+use Rattle.stripe_cells.specs.Offsets.{scaled}
+use Rattle.two_disk_walk.proofs.StartCells.{cells-turn, cells-last}
 use Rattle.two_disk_walk.proofs.first_cell_by_sums.push_sums.Statement.{statement}
 use Rattle.two_disk_walk.proofs.first_cell_by_sums.push_sums.Tie as tie
 

@@ -1,4 +1,5 @@
--- `start_sums`: the sets of the start are summed, then the cells that hold the sums are listed and gathered into the first cell, which is one of them.
+-- `start_sums`: the sets of the start are summed, then the cells that hold the sums are listed and
+-- gathered into the first cell, which is one of them.
 use mathlib.Core.Path.{_≡_, sym, _∙_}
 use Prim.Native.Nat.{_*_, _≤_}
 use native.Mathlib.Nat.{mul-le-mul}
@@ -8,9 +9,9 @@ use lib.Seq.{length-take-le}
 use borrow.Author.Needs.{needs}
 use Rattle.liberation.specs.Sets.{place}
 use Rattle.xor_in_place.specs.Beside.{Beside}
-use Rattle.two_disk_walk.specs.set_sums.Disks.{Lost}
-use Rattle.two_disk_walk.proofs.set_sums.SumLoops.{still-lost}
-use Rattle.two_disk_walk.proofs.first_cell_by_sums.StartCells.{first-beside, first-done}
+use Rattle.two_disk_walk.specs.SumDisks.{Lost}
+use Rattle.two_disk_walk.proofs.SumLoops.{still-lost}
+use Rattle.two_disk_walk.proofs.StartCells.{first-beside, first-done}
 use Rattle.two_disk_walk.proofs.first_cell_by_sums.start_sums.Statement.{statement}
 use Rattle.two_disk_walk.proofs.first_cell_by_sums.start_sums.Tie as tie
 

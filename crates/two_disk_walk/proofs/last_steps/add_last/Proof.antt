@@ -1,7 +1,7 @@
 -- `add_last`: the first of the last steps, then the others.
 use borrow.Author.Needs.{needs}
-use Rattle.two_disk_walk.proofs.set_sums.SumLoops.{still-lost}
-use Rattle.two_disk_walk.proofs.last_steps.AddLoops.{adds-first}
+use Rattle.two_disk_walk.proofs.SumLoops.{still-lost}
+use Rattle.two_disk_walk.proofs.AddLoops.{adds-first}
 use Rattle.two_disk_walk.proofs.last_steps.add_last.Statement.{statement}
 use Rattle.two_disk_walk.proofs.last_steps.add_last.Tie as tie
 

@@ -1,4 +1,5 @@
--- `add_sets`: each turn does the two steps of a row. The invariant: the rows still to come, done to the stripe as it is, give what all rows give to the stripe as it was.
+-- `add_sets`: each turn does the two steps of a row. The invariant: the rows still to come, done to
+-- the stripe as it is, give what all rows give to the stripe as it was.
 use mathlib.Core.Path.{_≡_, refl, sym, _∙_}
 use Prim.Native.Nat.{_+_, _%_, _<_}
 use native.Mathlib.Omega.{arith}
@@ -7,8 +8,8 @@ use borrow.Author.Needs.{needs}
 use Rattle.parity_sets.proofs.NumberLaws.{numbered, next-below}
 use Rattle.liberation.specs.two_disks.PairSteps.{walkSteps}
 use Rattle.liberation.specs.two_disks_by_sums.Sums.{addedAll}
-use Rattle.two_disk_walk.proofs.set_sums.SumLoops.{still-lost}
-use Rattle.two_disk_walk.proofs.last_steps.AddLoops.{adds-turn, adds-last}
+use Rattle.two_disk_walk.proofs.SumLoops.{still-lost}
+use Rattle.two_disk_walk.proofs.AddLoops.{adds-turn, adds-last}
 use Rattle.two_disk_walk.proofs.last_steps.add_sets.Statement.{statement}
 use Rattle.two_disk_walk.proofs.last_steps.add_sets.Tie as tie
 

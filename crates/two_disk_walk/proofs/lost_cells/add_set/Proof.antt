@@ -1,4 +1,5 @@
--- `add_set`: the set's cells on x are pushed, then those on y; the lost cell is among them, and their XOR is put there.
+-- `add_set`: the set's cells on x are pushed, then those on y; the lost cell is among them, and
+-- their XOR is put there.
 use mathlib.Core.Path.{_≡_, refl, sym}
 use Prim.Native.Nat.{_*_, _≤_}
 use native.Mathlib.Nat.{mul-le-mul}
@@ -9,10 +10,10 @@ use borrow.Author.Needs.{needs}
 use Rattle.liberation.specs.Sets.{place, setOf, lostIn}
 use Rattle.liberation.specs.two_disks_by_sums.Sums.{placed, lostCells}
 use Rattle.xor_in_place.specs.Beside.{Beside}
-use Rattle.stripe_cells.specs.offsets.Offsets.{scaled, Pushed}
-use Rattle.stripe_cells.proofs.offsets.OffsetLaws.{length-scaled}
-use Rattle.stripe_cells.proofs.ordinary.OrdinaryLists.{both-pushed}
-use Rattle.two_disk_walk.proofs.lost_cells.LostLists.{lost-few, add-beside, add-done}
+use Rattle.stripe_cells.specs.Offsets.{scaled, Pushed}
+use Rattle.stripe_cells.proofs.OffsetLaws.{length-scaled}
+use Rattle.stripe_cells.proofs.OrdinaryLists.{both-pushed}
+use Rattle.two_disk_walk.proofs.LostLists.{lost-few, add-beside, add-done}
 use Rattle.two_disk_walk.proofs.lost_cells.add_set.Statement.{statement}
 use Rattle.two_disk_walk.proofs.lost_cells.add_set.Tie as tie
 

@@ -5,7 +5,7 @@ use native.Mathlib.Nat.{mul-le-mul}
 use native.Mathlib.Omega.{arith}
 use lib.ListN.{length}
 use borrow.Author.Needs.{needs}
-use Rattle.two_disk_walk.proofs.lost_cells.LostLists.{row-listed, first-listed, other-listed, extra-listed, one-more}
+use Rattle.two_disk_walk.proofs.LostLists.{row-listed, first-listed, other-listed, extra-listed, one-more}
 use Rattle.two_disk_walk.proofs.lost_cells.push_lost.Statement.{statement}
 use Rattle.two_disk_walk.proofs.lost_cells.push_lost.Tie as tie
 

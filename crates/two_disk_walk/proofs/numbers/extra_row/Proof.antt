@@ -3,7 +3,7 @@ use mathlib.Core.Path.{ap}
 use Prim.Native.Nat.{ℕ, _-_}
 use native.Mathlib.Omega.{arith}
 use borrow.Author.Needs.{needs}
-use Rattle.two_disk_walk.proofs.numbers.NumberLaws.{extra-below}
+use Rattle.two_disk_walk.proofs.NumberLaws.{extra-below}
 use Rattle.two_disk_walk.proofs.numbers.extra_row.Statement.{statement}
 use Rattle.two_disk_walk.proofs.numbers.extra_row.Tie as tie
 

@@ -1,4 +1,5 @@
--- `sum_set`: the surviving cells of the set are pushed, and their XOR is put at the lost cell, apart from which they lie.
+-- `sum_set`: the surviving cells of the set are pushed, and their XOR is put at the lost cell,
+-- apart from which they lie.
 use mathlib.Core.Path.{_≡_, sym, subst}
 use mathlib.Core.Logic.{⊎-elim}
 use mathlib.Core.List.{List}
@@ -9,10 +10,10 @@ use lib.ListN.{length, take}
 use lib.Seq.{length-take-le}
 use borrow.Author.Needs.{needs}
 use Rattle.liberation.specs.Sets.{place, setOf}
-use Rattle.stripe_cells.specs.offsets.Offsets.{scaled, Pushed}
-use Rattle.stripe_cells.specs.ordinary.Cells.{survivors}
+use Rattle.stripe_cells.specs.Offsets.{scaled, Pushed}
+use Rattle.stripe_cells.specs.OrdinaryCells.{survivors}
 use Rattle.xor_in_place.specs.Beside.{Apart}
-use Rattle.two_disk_walk.proofs.set_sums.SumLists.{in-order, ordered-survivors, sum-apart, sum-done}
+use Rattle.two_disk_walk.proofs.SumLists.{in-order, ordered-survivors, sum-apart, sum-done}
 use Rattle.two_disk_walk.proofs.set_sums.sum_set.Statement.{statement}
 use Rattle.two_disk_walk.proofs.set_sums.sum_set.Tie as tie
 

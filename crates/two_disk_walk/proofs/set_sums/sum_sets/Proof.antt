@@ -1,4 +1,5 @@
--- `sum_sets`: each turn sums the two sets of a row. The invariant: the rows still to come, summed in the stripe as it is, give what all rows give in the stripe as it was.
+-- `sum_sets`: each turn sums the two sets of a row. The invariant: the rows still to come, summed
+-- in the stripe as it is, give what all rows give in the stripe as it was.
 use mathlib.Core.Path.{_≡_, refl, sym, _∙_}
 use mathlib.Core.Logic.{inl, inr}
 use Prim.Native.Nat.{_+_, _%_, _<_}
@@ -7,7 +8,7 @@ use lib.ListN.{length}
 use borrow.Author.Needs.{needs}
 use Rattle.parity_sets.proofs.NumberLaws.{numbered, next-below}
 use Rattle.liberation.specs.two_disks_by_sums.Sums.{summedAll, startSteps}
-use Rattle.two_disk_walk.proofs.set_sums.SumLoops.{still-lost, sums-turn, sums-last}
+use Rattle.two_disk_walk.proofs.SumLoops.{still-lost, sums-turn, sums-last}
 use Rattle.two_disk_walk.proofs.set_sums.sum_sets.Statement.{statement}
 use Rattle.two_disk_walk.proofs.set_sums.sum_sets.Tie as tie
 

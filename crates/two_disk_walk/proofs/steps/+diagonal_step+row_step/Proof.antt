@@ -1,4 +1,5 @@
--- `diagonal_step` and `row_step` call each other, and the number of missing cells falls by one at each call. Each step is the next clause of the walk.
+-- `diagonal_step` and `row_step` call each other, and the number of missing cells falls by one at
+-- each call. Each step is the next clause of the walk.
 use Prim.Native.Nat.{ℕ, _<_}
 use native.Mathlib.Omega.{arith}
 use borrow.Author.Needs.{needs}
@@ -10,7 +11,7 @@ use Rattle.parity_sets.proofs.diagonal_of.Reads as diagonal-of-reads
 use Rattle.parity_sets.proofs.row_on.Reads as row-on-reads
 use Rattle.stripe_cells.proofs.solve_by.Reads as solve-by-reads
 use Rattle.liberation.proofs.stripes.SizedLaws.{sized-kept}
-use Rattle.two_disk_walk.proofs.steps.WalkClauses.{diagonal-none, diagonal-more, row-none, row-more}
+use Rattle.two_disk_walk.proofs.WalkClauses.{diagonal-none, diagonal-more, row-none, row-more}
 use Rattle.two_disk_walk.proofs.steps.diagonal_step.Reads as diagonal-step
 use Rattle.two_disk_walk.proofs.steps.diagonal_step.Kinds as diagonal-step-kinds
 use Rattle.two_disk_walk.proofs.steps.+diagonal_step+row_step.Lts-diagonal_step as diagonal-step-lts

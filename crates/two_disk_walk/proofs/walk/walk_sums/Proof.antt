@@ -1,11 +1,12 @@
--- `walk_sums`: the start, the other cell of the first cell's row, the walk and the last steps, each on the stripe that the one before left.
+-- `walk_sums`: the start, the other cell of the first cell's row, the walk and the last steps, each
+-- on the stripe that the one before left.
 use mathlib.Core.Path.{_∙_}
 use native.Mathlib.Omega.{arith}
 use borrow.Author.Needs.{needs}
-use Rattle.liberation.specs.stripes.Limits.{Sized}
+use Rattle.liberation.specs.stripes.StripeLimits.{Sized}
 use Rattle.stripe_cells.proofs.OrdinaryLaws.{row-own}
 use Rattle.liberation.proofs.stripes.SizedLaws.{sized-kept}
-use Rattle.two_disk_walk.proofs.walk.WalkLaws.{sums-done}
+use Rattle.two_disk_walk.proofs.WalkLaws.{sums-done}
 use Rattle.two_disk_walk.proofs.walk.walk_sums.Statement.{statement}
 use Rattle.two_disk_walk.proofs.walk.walk_sums.Tie as tie
 

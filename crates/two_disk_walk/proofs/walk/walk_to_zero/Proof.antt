@@ -1,10 +1,11 @@
--- `walk_to_zero`: the other cell of the first cell's row, then the walk on the stripe that it left, in two halves: the second begins at the row that the first one comes to.
+-- `walk_to_zero`: the other cell of the first cell's row, then the walk on the stripe that it left,
+-- in two halves: the second begins at the row that the first one comes to.
 use mathlib.Core.Path.{_∙_}
 use native.Mathlib.Omega.{arith}
 use borrow.Author.Needs.{needs}
 use Rattle.stripe_cells.proofs.OrdinaryLaws.{row-own}
 use Rattle.liberation.proofs.stripes.SizedLaws.{sized-kept}
-use Rattle.two_disk_walk.proofs.walk.WalkLaws.{walk-done}
+use Rattle.two_disk_walk.proofs.WalkLaws.{walk-done}
 use Rattle.two_disk_walk.proofs.walk.walk_to_zero.Statement.{statement}
 use Rattle.two_disk_walk.proofs.walk.walk_to_zero.Tie as tie
 

@@ -2,9 +2,9 @@
 use mathlib.Core.Path.{_∙_}
 use native.Mathlib.Omega.{arith}
 use borrow.Author.Needs.{needs}
-use Rattle.liberation.proofs.stripes.CellLaws.{cell-fits}
+use Rattle.liberation.proofs.stripes.StripeCellLaws.{cell-fits}
 use Rattle.xor.proofs.SourceLaws.{bytes-all}
-use Rattle.update.proofs.parity.FromCell.{two-beside, two-added}
+use Rattle.update.proofs.FromCell.{two-beside, two-added}
 use Rattle.update.proofs.parity.add_cell.Statement.{statement}
 use Rattle.update.proofs.parity.add_cell.Tie as tie
 

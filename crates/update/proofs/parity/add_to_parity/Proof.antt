@@ -1,10 +1,11 @@
--- `add_to_parity`: the parity cells one by one, the second diagonal only where it is the next and holds the cell.
+-- `add_to_parity`: the parity cells one by one, the second diagonal only where it is the next and
+-- holds the cell.
 use Prim.Native.Nat.{_+_, _*_, _≤_, _<_}
 use native.Mathlib.Omega.{arith}
 use borrow.Author.Needs.{needs}
-use Rattle.update.specs.parity.Cells.{DataCell}
-use Rattle.update.proofs.parity.CellPlaces.{diagonal-below, places-small, row-fits, diagonal-fits}
-use Rattle.update.proofs.parity.FromCell.{same-cell, added-once, added-twice}
+use Rattle.update.specs.Cells.{DataCell}
+use Rattle.update.proofs.CellPlaces.{diagonal-below, places-small, row-fits, diagonal-fits}
+use Rattle.update.proofs.FromCell.{same-cell, added-once, added-twice}
 use Rattle.update.proofs.parity.add_to_parity.Statement.{statement}
 use Rattle.update.proofs.parity.add_to_parity.Tie as tie
 

@@ -1,6 +1,6 @@
 -- `diagonal_of`: the difference of row and disk, and the width more where the disk is the larger.
 use borrow.Author.Needs.{needs}
-use Rattle.update.proofs.parity.CellPlaces.{diagonal-low, diagonal-high}
+use Rattle.update.proofs.CellPlaces.{diagonal-low, diagonal-high}
 use Rattle.update.proofs.parity.diagonal_of.Statement.{statement}
 use Rattle.update.proofs.parity.diagonal_of.Tie as tie
 

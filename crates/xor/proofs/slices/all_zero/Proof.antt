@@ -5,7 +5,7 @@ use native.Mathlib.Omega.{arith}
 use lib.Dec.{eqb}
 use lib.ListN.{length}
 use borrow.Author.Needs.{needs}
-use Rattle.xor.proofs.slices.ZeroLaws.{noneTo, none-more, none-all}
+use Rattle.xor.proofs.ZeroLaws.{noneTo, none-more, none-all}
 use Rattle.xor.proofs.slices.all_zero.Statement.{statement}
 use Rattle.xor.proofs.slices.all_zero.Tie as tie
 

@@ -1,4 +1,5 @@
--- `put_stretch`: the part of the slice from b on becomes the XOR of the parts of the bytes from b on.
+-- `put_stretch`: the part of the slice from b on becomes the XOR of the parts of the bytes from b
+-- on.
 use mathlib.Core.Path.{_≡_, sym, subst, ap₂, _∙_}
 use mathlib.Core.List.{List}
 use Prim.Native.Nat.{ℕ, _+_, _-_, _≤_}

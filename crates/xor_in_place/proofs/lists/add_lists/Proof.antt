@@ -1,4 +1,5 @@
--- `add_lists`: each turn adds the next sources by a list that has the destination in front. The invariant: those before i are added, and the list is as it was from i on.
+-- `add_lists`: each turn adds the next sources by a list that has the destination in front. The
+-- invariant: those before i are added, and the list is as it was from i on.
 use mathlib.Core.Path.{_≡_, refl, _∙_}
 use Prim.Native.Nat.{_-_, _≤_, _<_}
 use native.Mathlib.Omega.{arith}
@@ -7,7 +8,7 @@ use borrow.Author.Needs.{needs}
 use Rattle.mathematics.specs.Xor.{xorL}
 use Rattle.xor.specs.Parts.{part, withPart, xorOffsets}
 use Rattle.xor.proofs.SourceLaws.{bytes-all}
-use Rattle.xor_in_place.proofs.lists.ListLaws.{none-added, next-beside, next-rest, next-added, all-added}
+use Rattle.xor_in_place.proofs.ListLaws.{none-added, next-beside, next-rest, next-added, all-added}
 use Rattle.xor_in_place.proofs.lists.add_lists.Statement.{statement}
 use Rattle.xor_in_place.proofs.lists.add_lists.Tie as tie
 

@@ -3,7 +3,7 @@ use mathlib.Core.Path.{sym}
 use native.Mathlib.Omega.{arith}
 use lib.Seq.{length-take-le}
 use borrow.Author.Needs.{needs}
-use Rattle.xor_in_place.proofs.lists.ListLaws.{first-beside, lists-done, still-apart}
+use Rattle.xor_in_place.proofs.ListLaws.{first-beside, lists-done, still-apart}
 use Rattle.xor_in_place.proofs.lists.gather_lists.Statement.{statement}
 use Rattle.xor_in_place.proofs.lists.gather_lists.Tie as tie
 

@@ -1,4 +1,5 @@
--- `blocks_are_zero`: block after block of 128 bytes, then what is left. The invariant: the answer is that of what is left.
+-- `blocks_are_zero`: block after block of 128 bytes, then what is left. The invariant: the answer
+-- is that of what is left.
 use mathlib.Core.Path.{_≡_, sym, ap, _∙_}
 use mathlib.Core.Bool.{Bool, true, false, _&&_}
 use mathlib.Core.List.{List}
@@ -9,7 +10,7 @@ use borrow.Author.Tests.{not-true, not-false}
 use Rattle.mathematics.specs.Lists.{same}
 use Rattle.xor.specs.Parts.{xorOffsets}
 use Rattle.xor.proofs.BlockLaws.{tail-is, reach-tail}
-use Rattle.xor.proofs.slices.ZeroLaws.{zeroFrom, zero-all, zero-next}
+use Rattle.xor.proofs.ZeroLaws.{zeroFrom, zero-all, zero-next}
 use Rattle.xor_is_zero.proofs.blocks.blocks_are_zero.Statement.{statement}
 use Rattle.xor_is_zero.proofs.blocks.blocks_are_zero.Tie as tie
 

@@ -1,4 +1,5 @@
--- `small_is_zero`: block after block of 64 bytes, then the rest, if there is one. The invariant: the answer is that of what is left.
+-- `small_is_zero`: block after block of 64 bytes, then the rest, if there is one. The invariant:
+-- the answer is that of what is left.
 use mathlib.Core.Path.{_≡_, sym, ap, _∙_}
 use mathlib.Core.Bool.{Bool, true, false, _&&_}
 use mathlib.Core.List.{List}
@@ -9,7 +10,7 @@ use borrow.Author.Tests.{not-true, not-false}
 use Rattle.mathematics.specs.Lists.{same}
 use Rattle.xor.specs.Parts.{xorOffsets}
 use Rattle.xor.proofs.BlockLaws.{tail-is, reach-tail}
-use Rattle.xor.proofs.slices.ZeroLaws.{zeroFrom, zero-all, zero-next, zero-none}
+use Rattle.xor.proofs.ZeroLaws.{zeroFrom, zero-all, zero-next, zero-none}
 use Rattle.xor_is_zero.proofs.blocks.small_is_zero.Statement.{statement}
 use Rattle.xor_is_zero.proofs.blocks.small_is_zero.Tie as tie
 

@@ -1,4 +1,5 @@
--- `stretch_is_zero`: the first parts gathered and the others added to them are all parts, whatever number is gathered.
+-- `stretch_is_zero`: the first parts gathered and the others added to them are all parts, whatever
+-- number is gathered.
 use mathlib.Core.Path.{_≡_, sym, subst, ap, _∙_}
 use mathlib.Core.List.{List}
 use Prim.Native.Nat.{ℕ, _-_, _≤_}
@@ -9,7 +10,7 @@ use Rattle.mathematics.specs.Lists.{same}
 use Rattle.xor.specs.Parts.{xorOffsets}
 use Rattle.xor.specs.Reach.{Reached}
 use Rattle.xor.proofs.BlockLaws.{reach-some}
-use Rattle.xor_is_zero.proofs.one_stretch.LastLaws.{two-lists}
+use Rattle.xor_is_zero.proofs.LastLaws.{two-lists}
 use Rattle.xor_is_zero.proofs.one_stretch.stretch_is_zero.Statement.{statement}
 use Rattle.xor_is_zero.proofs.one_stretch.stretch_is_zero.Tie as tie
 

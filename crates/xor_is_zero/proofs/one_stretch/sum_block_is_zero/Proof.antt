@@ -1,4 +1,5 @@
--- `sum_block_is_zero`: the block of the parts from b on, the stretch's block added, and the test of that.
+-- `sum_block_is_zero`: the block of the parts from b on, the stretch's block added, and the test of
+-- that.
 use mathlib.Core.Path.{_≡_, ap, ap₂, _∙_}
 use mathlib.Core.List.{List}
 use Prim.Native.Nat.{ℕ}
@@ -8,7 +9,7 @@ use Rattle.mathematics.specs.Lists.{same}
 use Rattle.mathematics.specs.Xor.{xorL}
 use Rattle.xor.specs.Parts.{part, xorOffsets}
 use Rattle.xor.proofs.BlockLaws.{tail-is, reach-tail}
-use Rattle.xor_is_zero.proofs.one_stretch.LastLaws.{sumWith}
+use Rattle.xor_is_zero.proofs.LastLaws.{sumWith}
 use Rattle.xor_is_zero.proofs.one_stretch.sum_block_is_zero.Statement.{statement}
 use Rattle.xor_is_zero.proofs.one_stretch.sum_block_is_zero.Tie as tie
 

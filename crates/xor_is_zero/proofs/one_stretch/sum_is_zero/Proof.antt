@@ -1,4 +1,5 @@
--- `sum_is_zero`: block after block of 128 bytes. The invariant: the XOR is zero up to byte b. A block in which it is not settles the answer.
+-- `sum_is_zero`: block after block of 128 bytes. The invariant: the XOR is zero up to byte b. A
+-- block in which it is not settles the answer.
 use mathlib.Core.Path.{_≡_, refl, sym, subst, ap, ap₂, _∙_}
 use mathlib.Core.Bool.{Bool, true, false, _&&_}
 use Prim.Native.Nat.{ℕ, _+_, _-_, _%_, _≤_}
@@ -8,8 +9,8 @@ use borrow.Author.Tests.{not-true, not-false}
 use Rattle.mathematics.specs.Lists.{same}
 use Rattle.xor.specs.Parts.{part}
 use Rattle.xor.specs.Reach.{Reached}
-use Rattle.xor.proofs.slices.ZeroLaws.{noneTo}
-use Rattle.xor_is_zero.proofs.one_stretch.LastLaws.{sumWith, sum-next, sum-split, sum-all}
+use Rattle.xor.proofs.ZeroLaws.{noneTo}
+use Rattle.xor_is_zero.proofs.LastLaws.{sumWith, sum-next, sum-split, sum-all}
 use Rattle.xor_is_zero.proofs.one_stretch.sum_is_zero.Statement.{statement}
 use Rattle.xor_is_zero.proofs.one_stretch.sum_is_zero.Tie as tie
 

@@ -1,2 +1,0 @@
--- One record of a scan.
-pub mod RecordLaws

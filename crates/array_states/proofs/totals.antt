@@ -1,2 +1,0 @@
--- The totals of a scan.
-pub mod CountLaws

@@ -1,2 +1,0 @@
--- Lost disks as the bits of a word.
-pub mod Lost

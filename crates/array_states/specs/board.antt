@@ -1,2 +1,0 @@
--- Reports on a list of arrays, and the answer after the scan of it.
-pub mod Reports

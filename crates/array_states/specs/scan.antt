@@ -1,2 +1,0 @@
--- The scan of a list of arrays.
-pub mod Records

@@ -1,2 +1,0 @@
--- The cents of a charge.
-pub mod CentsLaws

@@ -1,2 +1,0 @@
--- The cents of a charge, and the refusals of a bill.
-pub mod Cents

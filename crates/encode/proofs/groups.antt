@@ -1,3 +1,0 @@
--- The sums group after group.
-pub mod GroupSums
-pub mod GroupLoops

@@ -1,2 +1,0 @@
--- The extra cell of a set in a group as a list.
-pub mod ExtraLists

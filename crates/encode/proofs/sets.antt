@@ -1,2 +1,0 @@
--- The cells that a group adds to a set's sum as lists.
-pub mod GroupLists

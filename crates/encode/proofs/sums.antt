@@ -1,3 +1,0 @@
--- A group added to one parity cell, and to those of all sets.
-pub mod ParityCells
-pub mod SetLoops

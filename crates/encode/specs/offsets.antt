@@ -1,2 +1,0 @@
--- What pushing the offsets of a group promises.
-pub mod Extras

@@ -1,2 +1,0 @@
--- What adding a group of data disks to one parity cell promises.
-pub mod Groups

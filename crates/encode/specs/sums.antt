@@ -1,2 +1,0 @@
--- What adding a group of data disks to the parity cells promises.
-pub mod Added

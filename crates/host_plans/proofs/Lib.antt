@@ -1,0 +1,3 @@
+pub mod PlanListLaws
+pub mod FillLaws
+pub mod ByPlanLaws

@@ -1,2 +1,0 @@
--- The bytes of each step in their places.
-pub mod FillLaws

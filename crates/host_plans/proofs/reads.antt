@@ -1,2 +1,0 @@
--- The promise of the read list of a plan.
-pub mod PlanListLaws

@@ -1,2 +1,0 @@
--- What the first tests leave.
-pub mod ByPlanLaws

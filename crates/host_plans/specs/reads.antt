@@ -1,2 +1,0 @@
--- What the read list of a plan promises.
-pub mod Says

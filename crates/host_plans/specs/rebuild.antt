@@ -1,2 +1,0 @@
--- What the rebuild by a given plan promises.
-pub mod Says

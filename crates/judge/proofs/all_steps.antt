@@ -1,2 +1,0 @@
--- The loop over the steps.
-pub mod JudgingLoop

@@ -1,2 +1,0 @@
--- The refusal of one step.
-pub mod StepRefusals

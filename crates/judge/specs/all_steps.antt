@@ -1,2 +1,0 @@
--- What the judge of the steps promises.
-pub mod Says

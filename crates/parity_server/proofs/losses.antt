@@ -1,2 +1,0 @@
--- The refusals of losses.
-pub mod LossFaults

@@ -1,2 +1,0 @@
--- Mending one server after another.
-pub mod Turning

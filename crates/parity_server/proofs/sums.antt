@@ -1,2 +1,0 @@
--- The stripes of the other servers.
-pub mod OtherServers

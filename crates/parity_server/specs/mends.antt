@@ -1,2 +1,0 @@
--- What mending a server asks.
-pub mod Turns

@@ -1,2 +1,0 @@
--- What marking promises.
-pub mod Marks

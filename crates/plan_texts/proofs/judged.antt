@@ -1,2 +1,0 @@
--- Laws of the judge of a text.
-pub mod JudgeTextLaws

@@ -1,2 +1,0 @@
--- The tests of the digits of a number.
-pub mod NumberLaws

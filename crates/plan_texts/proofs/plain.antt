@@ -1,2 +1,0 @@
--- Laws of the calls that write plans as text.
-pub mod FileLaws

@@ -1,2 +1,0 @@
--- Laws of reading a text.
-pub mod LineLaws

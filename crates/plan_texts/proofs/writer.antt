@@ -1,2 +1,0 @@
--- Laws of the plain form, line by line.
-pub mod PlainLoop

@@ -1,2 +1,0 @@
--- What the judge of a text promises.
-pub mod Says

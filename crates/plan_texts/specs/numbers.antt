@@ -1,2 +1,0 @@
--- What reading a number promises.
-pub mod Says

@@ -1,2 +1,0 @@
--- What the calls that write plans as text promise.
-pub mod Says

@@ -1,2 +1,0 @@
--- The balanced plan by the kind of disk.
-pub mod BalancedLaws

@@ -1,2 +1,0 @@
--- The relief plan by the kind of disk.
-pub mod ReliefLaws

@@ -1,2 +1,0 @@
--- The steps of the routes are the plan.
-pub mod PlanLaws

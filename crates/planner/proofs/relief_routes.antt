@@ -1,2 +1,0 @@
--- The routes after each step of the walk.
-pub mod StepLaws

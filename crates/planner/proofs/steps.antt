@@ -1,2 +1,0 @@
--- Our plan by the kind of disk, and its promise.
-pub mod PlannedLaws

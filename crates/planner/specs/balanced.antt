@@ -1,2 +1,0 @@
--- What the balanced planner promises.
-pub mod Says

@@ -1,2 +1,0 @@
--- What the balanced plan without its read count promises.
-pub mod Says

@@ -1,2 +1,0 @@
--- The routes by squares.
-pub mod SquareRoutes

@@ -1,2 +1,0 @@
--- What the read list promises.
-pub mod Says

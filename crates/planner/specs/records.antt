@@ -1,2 +1,0 @@
--- Steps in a record.
-pub mod Records

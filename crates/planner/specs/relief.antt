@@ -1,2 +1,0 @@
--- What the planner that relieves a disk promises.
-pub mod Says

@@ -1,2 +1,0 @@
--- What the functions over routes promise.
-pub mod Records

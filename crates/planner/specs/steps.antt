@@ -1,2 +1,0 @@
--- What our plan without its read count promises.
-pub mod Says

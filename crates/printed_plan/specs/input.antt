@@ -1,2 +1,0 @@
--- The input of the printed plan.
-pub mod Input

@@ -1,2 +1,0 @@
--- Marks of the sets that a word names, and the cells mended one after another.
-pub mod NamedLaws

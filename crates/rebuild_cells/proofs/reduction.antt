@@ -1,2 +1,0 @@
--- The loops of the reduction.
-pub mod RowLoops

@@ -1,2 +1,0 @@
--- Words made from marks.
-pub mod Words

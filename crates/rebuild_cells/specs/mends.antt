@@ -1,2 +1,0 @@
--- What a list of missing cells is.
-pub mod Listed

@@ -1,2 +1,0 @@
--- Rows that are lent as two slices of words.
-pub mod Lent

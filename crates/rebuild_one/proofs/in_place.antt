@@ -1,2 +1,0 @@
--- The laws behind the functions: the steps of our plan, and the loop over them.
-pub mod StepLaws

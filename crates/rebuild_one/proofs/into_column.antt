@@ -1,2 +1,0 @@
--- The steps in order.
-pub mod FollowLaws

@@ -1,2 +1,0 @@
--- What the rebuild by the balanced plan promises.
-pub mod Says

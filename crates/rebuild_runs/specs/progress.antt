@@ -1,2 +1,0 @@
--- How far a run is.
-pub mod Says

@@ -1,2 +1,0 @@
--- What a step of a run does.
-pub mod Says

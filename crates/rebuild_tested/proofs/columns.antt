@@ -1,2 +1,0 @@
--- The column by the row sets.
-pub mod TestedRows

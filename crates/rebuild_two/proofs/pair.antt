@@ -1,2 +1,0 @@
--- The laws behind the functions: which disks are lost, and their order.
-pub mod DiskLaws

@@ -1,2 +1,0 @@
--- What holds past the refusals.
-pub mod StripeRefusals

@@ -1,2 +1,0 @@
--- The refusals of a call on a stripe.
-pub mod Says

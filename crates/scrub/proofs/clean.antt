@@ -1,2 +1,0 @@
--- The sets of a stripe tested, and the promise of the check.
-pub mod CheckLaws

@@ -1,2 +1,0 @@
--- The equations of a disk as lists of offsets.
-pub mod EquationLists

@@ -1,2 +1,0 @@
--- The test of a disk by its equations.
-pub mod EquationTests

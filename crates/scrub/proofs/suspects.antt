@@ -1,2 +1,0 @@
--- The search for the disk that fits.
-pub mod FitLaws

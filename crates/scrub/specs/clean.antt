@@ -1,2 +1,0 @@
--- What checking a stripe promises.
-pub mod Says

@@ -1,2 +1,0 @@
--- The refusals of the space call.
-pub mod Faults

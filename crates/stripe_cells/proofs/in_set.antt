@@ -1,2 +1,0 @@
--- Laws of the lists of a set's cells.
-pub mod SetLists

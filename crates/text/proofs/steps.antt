@@ -1,2 +1,0 @@
--- Laws of a step's fields as text.
-pub mod FieldLaws

@@ -1,2 +1,0 @@
--- The fields of a plan's step as text.
-pub mod Fields

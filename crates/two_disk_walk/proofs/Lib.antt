@@ -1,0 +1,10 @@
+pub mod SumLoops
+pub mod SumLists
+pub mod AddLoops
+pub mod NumberLaws
+pub mod ToggleLaws
+pub mod StartLaws
+pub mod StartCells
+pub mod WalkLaws
+pub mod WalkClauses
+pub mod LostLists

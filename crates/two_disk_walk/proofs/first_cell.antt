@@ -1,3 +1,0 @@
--- The laws behind the functions: marks toggled for the cells of sets, and the first cell.
-pub mod ToggleLaws
-pub mod StartLaws

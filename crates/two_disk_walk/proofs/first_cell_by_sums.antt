@@ -1,2 +1,0 @@
--- The laws behind the functions: the start's cells.
-pub mod StartCells

@@ -1,2 +1,0 @@
--- The laws behind the functions: the loop over the rows of the last steps.
-pub mod AddLoops

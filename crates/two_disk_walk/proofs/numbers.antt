@@ -1,2 +1,0 @@
--- The row of an extra cell.
-pub mod NumberLaws

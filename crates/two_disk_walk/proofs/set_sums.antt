@@ -1,3 +1,0 @@
--- The laws behind the functions: cells as lists, and the loop over rows.
-pub mod SumLists
-pub mod SumLoops

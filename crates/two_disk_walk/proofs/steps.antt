@@ -1,2 +1,0 @@
--- The walk's clauses.
-pub mod WalkClauses

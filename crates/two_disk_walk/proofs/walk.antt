@@ -1,2 +1,0 @@
--- The walk from its parts.
-pub mod WalkLaws

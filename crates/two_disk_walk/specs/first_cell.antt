@@ -1,2 +1,0 @@
--- What the first cell of the walk over two lost disks is found from.
-pub mod Disks

@@ -1,2 +1,0 @@
--- What the functions of the walk from sums ask.
-pub mod Disks

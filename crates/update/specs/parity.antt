@@ -1,2 +1,0 @@
--- A data cell of a stripe.
-pub mod Cells

@@ -1,2 +1,0 @@
--- Lists one after another.
-pub mod ListLaws

@@ -1,2 +1,0 @@
--- The laws behind the loops.
-pub mod LastLaws
