@@ -43,20 +43,13 @@ static void read_cells(const uint8_t *stripe, const uint8_t *marks, int marked, 
             memcpy(to + cell * shape.cell_size, stripe + cell * shape.cell_size, shape.cell_size);
 }
 
-int main(void)
+/* By the balanced plan, which reads as few cells as ours and less of the disk that gives most. */
+static void rebuild_balanced(const uint8_t *stripe, uint8_t *survivors, uint8_t *column)
 {
     size_t stripe_len = CUZHAVELI_STRIPE_BYTES(shape), column_len = CUZHAVELI_COLUMN_BYTES(shape);
-    uint8_t *stripe = malloc(stripe_len), *survivors = malloc(stripe_len), *column = malloc(column_len);
-    uint8_t list[CELLS], missing[CELLS] = {0};
-    if (!stripe || !survivors || !column)
-        return 1;
-    for (size_t i = 0; i < CUZHAVELI_DATA_BYTES(shape); i++)
-        stripe[i] = (uint8_t)(i * 31 + i / 512);
-    must("encode", cuzhaveli_encode_stripe(shape, stripe, stripe_len));
-
-    /* The balanced plan reads as few cells as ours, and less of the disk that gives most. */
     struct cuzhaveli_plan ours = cuzhaveli_plan_disk(shape.width, shape.disks, LOST);
     struct cuzhaveli_plan balanced = cuzhaveli_balanced_plan(shape.width, shape.disks, LOST);
+    uint8_t list[CELLS];
     size_t busiest = list_of(ours, list);
     printf("our plan reads %u cells, %zu of one disk; ", ours.reads, busiest);
     busiest = list_of(balanced, list);
@@ -65,8 +58,13 @@ int main(void)
     must("rebuild", cuzhaveli_rebuild_balanced(shape, LOST, survivors, stripe_len, column, column_len));
     printf("disk %d rebuilt from them: %s\n", LOST,
            memcmp(column, stripe + LOST * column_len, column_len) == 0 ? "the same" : "another");
+}
 
-    /* Disk 2 is lost, and a cell of disk 4 and one of Q, which is disk 8, cannot be read. */
+/* A disk is lost, and a cell of disk 4 and one of Q, which is disk 8, cannot be read. */
+static void mend_cells(const uint8_t *stripe, uint8_t *survivors)
+{
+    size_t stripe_len = CUZHAVELI_STRIPE_BYTES(shape);
+    uint8_t missing[CELLS] = {0};
     memset(missing + CUZHAVELI_CELL(shape.width, 0, LOST), 1, shape.width);
     missing[CUZHAVELI_CELL(shape.width, 3, 4)] = missing[CUZHAVELI_CELL(shape.width, 5, 8)] = 1;
     read_cells(stripe, missing, 0, survivors);
@@ -77,6 +75,20 @@ int main(void)
     memset(missing + CUZHAVELI_CELL(shape.width, 0, 4), 1, shape.width);
     printf("two disks and a cell: refused by %u\n",
            cuzhaveli_rebuild_cells(shape, missing, sizeof missing, survivors, stripe_len).refusal);
+}
+
+int main(void)
+{
+    size_t stripe_len = CUZHAVELI_STRIPE_BYTES(shape);
+    uint8_t *stripe = malloc(stripe_len), *survivors = malloc(stripe_len);
+    uint8_t *column = malloc(CUZHAVELI_COLUMN_BYTES(shape));
+    if (!stripe || !survivors || !column)
+        return 1;
+    for (size_t i = 0; i < CUZHAVELI_DATA_BYTES(shape); i++)
+        stripe[i] = (uint8_t)(i * 31 + i / 512);
+    must("encode", cuzhaveli_encode_stripe(shape, stripe, stripe_len));
+    rebuild_balanced(stripe, survivors, column);
+    mend_cells(stripe, survivors);
     free(stripe);
     free(survivors);
     free(column);
