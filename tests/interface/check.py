@@ -11,8 +11,7 @@ structs, with the same sizes and offsets; libcuzhaveli.a must define exactly the
 libcuzhaveli_plans.a those of crates/cuzhaveli_plans; an archive must hold no data and need nothing
 but memcpy and memset; the refusals must have one set of names and
 numbers in the header, the crate and the documents; the refusals that the header names for a
-call must be those that it gave in the random calls; header and Makefile must have one version;
-theorems that documents name must be there.
+call must be those that it gave in the random calls; header and Makefile must have one version.
 Exit status 1 if something differs.
 """
 
@@ -30,7 +29,6 @@ FFI = TOP / "rust/cuzhaveli/src/ffi.rs"
 MAKEFILE = TOP / "Makefile"
 KINDS = TOP / "rust/cuzhaveli/src/refusal.rs"
 TABLES = [TOP / "README.md", TOP / "docs/C.md"]
-GUIDES = [TOP / "docs/TRUST.md", TOP / "docs/PROOFS.md"]
 NEEDED = {"memcpy", "memset"}
 SIZES = {"u8": 1, "bool": 1, "u32": 4, "u64": 8, "usize": 8}
 STANDARDS = [("gcc", "c99"), ("gcc", "c11"), ("g++", "c++98"), ("g++", "c++17")]
@@ -293,19 +291,6 @@ def check_version():
         differs(f"version {header}; the Makefile has {'.'.join(numbers.groups())}", HEADER, "give both the same version")
 
 
-def check_guides():
-    """The files and the theorems that the pages on trust and proofs name are there."""
-    proofs = "\n".join(path.read_text() for path in TOP.glob("crates/*/proofs/**/*.antt"))
-    for page in GUIDES:
-        text = page.read_text()
-        for path in set(re.findall(r"crates/[\w/]+\.antt", text)):
-            if not (TOP / path).exists():
-                differs(f"there is no {path}", page, "name the file where the theorem stands now")
-        for name in set(re.findall(r"`([a-z]+(?:-[a-z]+)+)`", text)):
-            if not re.search(rf"^\s*(?:pub )?{name} :", proofs, re.M):
-                differs(f"no proof file has a theorem {name}", page, "name the theorem as it is called now")
-
-
 def check_given(boundary):
     """The refusals that the header names for each call, and those that the random calls gave."""
     seen = {name: set(map(int, numbers.split())) for name, numbers in re.findall(r"^refused (\w+):(.*)$", boundary.read_text(), re.M)}
@@ -338,7 +323,6 @@ def main():
     symbols = check_archive(calls, library) + check_archive(plans, plans_library)
     refusals = check_refusals()
     check_version()
-    check_guides()
     check_given(boundary)
     if problems:
         sys.exit(f"interface: {problems} differences")

@@ -1,6 +1,7 @@
 #!/usr/bin/env python3
-"""Holds the documents to the crates: docs/layers.svg is what its script makes from crates.txt, and docs/ARCHITECTURE.md has
-a row for each crate, with its layer, and each public function once.
+"""Holds the documents to the crates: docs/layers.svg and docs/STATEMENTS.md are what their scripts make, with the axioms that
+`rt ci` printed; docs/ARCHITECTURE.md has a row for each crate, with its layer, and each public function once; and what the
+documents cite is there (citations.py).
 
 Usage: tests/interface/documents.py
 Each check is also given a wrong text, which it must refuse. Exit status 1 if something differs.
@@ -12,10 +13,14 @@ import sys
 
 sys.dont_write_bytecode = True
 
+import citations  # noqa: E402
 import source  # noqa: E402
+import statements  # noqa: E402
 
 TOP = source.TOP
 ARCHITECTURE = TOP / "docs/ARCHITECTURE.md"
+STATEMENTS = TOP / "docs/STATEMENTS.md"
+LOGS = sorted((TOP / "target/log").glob("*.say"))
 
 
 def crate_rows(text):
@@ -47,40 +52,66 @@ def functions_once(text):
 
 def made_by(script, given):
     """A file is what its script makes."""
-    made = subprocess.run([sys.executable, TOP / script], capture_output=True, check=True).stdout
+    made = subprocess.run([sys.executable, "-B", TOP / script], capture_output=True, check=True).stdout
     if made != given:
         yield f"it is not what {script} makes"
 
 
+def axioms(text):
+    """The axioms of the crates on the page are those in the logs that `rt ci` left."""
+    said = dict(re.findall(r"^## .*`(\w+)`, axioms=(\d+)$", text, re.M))
+    for log in LOGS:
+        proved = re.findall(r"^logic=proved.*", log.read_text(), re.M)
+        found = re.search(r" axioms=(\d+)", proved[-1]) if proved else None
+        number = found[1] if found else "0"
+        if proved and said.get(log.stem, str(statements.AXIOMS.get(log.stem, 0))) != number:
+            yield f"{log.stem} has axioms={number}"
+
+
+def without(row):
+    """Takes the first line of this form out of a text."""
+    return lambda text: re.sub(rf"^{row}.*\n", "", text, count=1, flags=re.M)
+
+
 # a check, the file it is of, what to do, and how a wrong text is made of the right one
 CHECKS = [
-    (lambda text: made_by("docs/layers.py", text.encode()), TOP / "docs/layers.svg", "docs/layers.py >docs/layers.svg",
-     lambda text: text.replace("mathematics", "mathematic")),
-    (crate_rows, ARCHITECTURE, "write the table anew from crates.txt and the heads of the crates",
-     lambda text: text.replace("| 3 | `parity_sets`", "| 2 | `parity_sets`")),
-    (crate_rows, ARCHITECTURE, "", lambda text: re.sub(r"^\| \d+ \| `judge` .*\n", "", text, flags=re.M)),
-    (functions_once, ARCHITECTURE, "list each public function in one row of 'The public functions'",
-     lambda text: re.sub(r"^\| `xor::copy.*\n", "", text, flags=re.M)),
-    (functions_once, ARCHITECTURE, "", lambda text: text + "`text::digit(byte)`"),
+    (lambda text: made_by("docs/layers.py", text.encode()), TOP / "docs/layers.svg", "docs/layers.py >docs/layers.svg", without("<line ")),
+    (lambda text: made_by("docs/statements.py", text.encode()), STATEMENTS, "docs/statements.py >docs/STATEMENTS.md", without("pub ")),
+    *([(axioms, STATEMENTS, "say in docs/statements.py what the crate takes for granted",
+        lambda text: text.replace("axioms=0", "axioms=1"))] if LOGS else []),
+    (crate_rows, ARCHITECTURE, "write the table anew from crates.txt and the heads of the crates", without(r"\| \d+ \| `")),
+    (crate_rows, ARCHITECTURE, "", lambda text: re.sub(r"^\| \d+ \| `", "| 0 | `", text, count=1, flags=re.M)),
+    (functions_once, ARCHITECTURE, "list each public function in one row of 'The public functions'", without(r"\| `\w+::")),
+    (functions_once, ARCHITECTURE, "", lambda text: text + re.search(r"`\w+::\w+", text)[0]),
     (functions_once, ARCHITECTURE, "", lambda text: text + "`text::put_kind`"),
 ]
 
 
-def main():
-    problems = 0
+def differences():
+    """What differs, where, and what to do."""
     for check, path, remedy, spoiled in CHECKS:
         text = path.read_text()
-        for problem in check(text) if remedy else []:
-            problems += 1
-            print(f"documents: DIFFERS: {problem}\n  in: {path.relative_to(TOP)}\n  do: {remedy}")
+        yield from ((problem, path, remedy) for problem in (check(text) if remedy else []))
         wrong = spoiled(text)
         if wrong == text or not list(check(wrong)):
-            problems += 1
-            print(f"documents: DIFFERS: a wrong text passes the check\n  in: {path.relative_to(TOP)}\n  do: correct the check in {sys.argv[0]}")
-    if problems:
-        sys.exit(f"documents: {problems} differences")
+            yield "a wrong text passes the check", path, "correct the check in tests/interface/documents.py"
+    for page in citations.PAGES:
+        for problem in citations.wrong_lines(page):
+            yield problem, page, "cite what is there now, by its name and place"
+    for wrong in citations.WRONG:
+        if not list(citations.problems(wrong)):
+            yield f"a wrong citation passes: {wrong}", TOP / "tests/interface/citations.py", "correct the check"
+
+
+def main():
+    found = list(differences())
+    for problem, path, remedy in found:
+        print(f"documents: DIFFERS: {problem}\n  in: {path.relative_to(TOP)}\n  do: {remedy}")
+    if found:
+        sys.exit(f"documents: {len(found)} differences")
     public = sum(len(source.called(crate)) for crate in source.CRATES) + len(source.exports())
-    print(f"documents: {len(source.CRATES)} crates, {public} public functions")
+    cited = sum(len(citations.words(page.read_text())) for page in citations.PAGES)
+    print(f"documents: {len(source.CRATES)} crates, {public} public functions, {cited} words cited on {len(citations.PAGES)} pages")
 
 
 if __name__ == "__main__":

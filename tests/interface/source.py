@@ -28,13 +28,9 @@ def functions(crate, module):
 
 
 def structs(crate):
-    return {name for text in modules(crate).values() for name in re.findall(r"pub struct (\w+)", text)}
-
-
-def fields():
-    """The fields of all structs."""
-    texts = [text for crate in CRATES for text in modules(crate).values()]
-    return {name for text in texts for name in re.findall(r"^    pub (\w+):", text, re.M)}
+    """The structs of a crate, each with its fields."""
+    found = [pair for text in modules(crate).values() for pair in re.findall(r"pub struct (\w+) \{(.*?)\}", text, re.S)]
+    return {name: set(re.findall(r"pub (\w+):", fields)) for name, fields in found}
 
 
 def at_root(crate):
@@ -51,6 +47,13 @@ def called(crate):
     return at_root(crate) & {name for text in texts for name in re.findall(rf"\b{crate}::(\w+)", text)}
 
 
+def signature(crate, name):
+    """The parameters, by name, and the result of a function that the root makes public."""
+    module = re.search(rf"^pub use (\w+)::{name};", modules(crate)[""], re.M)
+    found = re.search(rf"\bfn {name}\(([^)]*)\)(?: -> (\w+))?", modules(crate)[module[1] if module else ""])
+    return ([item.split(":")[0].strip() for item in found[1].split(",") if item.strip()], found[2]) if found else ([], None)
+
+
 def exports():
     return {name for crate in CRATES for name in at_root(crate) if name.startswith("cuzhaveli_")}
 
@@ -64,7 +67,7 @@ def statements(path):
 
 @functools.cache
 def files(crate):
-    """The files of definitions and laws of a crate, each by its name with folders: stripes/Encoding. Not the proofs of functions."""
+    """The files of definitions and laws of a crate by name, with the folder within specs/ or proofs/; not the proofs of functions."""
     found = {}
     for folder in ("specs", "proofs"):
         base = TOP / "crates" / crate / folder
@@ -74,9 +77,31 @@ def files(crate):
 
 
 @functools.cache
-def stated():
-    """The names of all files of definitions and laws."""
-    return frozenset(name for crate in CRATES for paths in files(crate).values() for path in paths for name in statements(path))
+def named(name):
+    """The files of definitions and laws that have this name, in whatever folder of whatever crate."""
+    return [path for crate in CRATES for file, paths in files(crate).items() if file.rpartition("/")[2] == name for path in paths]
+
+
+@functools.cache
+def parts(name):
+    """The fields of the records and structs of this name."""
+    found = set().union(*(structs(crate).get(name, set()) for crate in CRATES))
+    for path in (path for crate in CRATES for paths in files(crate).values() for path in paths):
+        for body in re.findall(rf"^(?:pub )?record {re.escape(name)}\b.* where\n((?:(?:  .*)?\n)*)", path.read_text(), re.M):
+            found |= set(re.findall(r"^  (?:pub )?([^\s:]+) :", body, re.M))
+    return found
+
+
+@functools.cache
+def names():
+    """Every name of a crate, a module, a function, a struct, a field, a statement or a file of statements."""
+    found = set(CRATES)
+    for crate in CRATES:
+        found.update(modules(crate), structs(crate), files(crate), *structs(crate).values())
+        found.update(*(functions(crate, module) for module in modules(crate)))
+        found.update(file.rpartition("/")[2] for file in files(crate))
+        found.update(*(statements(path) for paths in files(crate).values() for path in paths))
+    return found
 
 
 def has_edit(crate, name):
