@@ -1,3 +1,3 @@
--- What the judge promises.
+-- What the judge of a plan promises, and the judge of its steps.
 pub mod JudgeSays
 pub mod JudgeStepsSays

@@ -1,4 +1,4 @@
--- Laws over all numbers and lists.
+-- Laws over all numbers and lists, and of equations over bits.
 pub mod Flags
 pub mod FirstLaws
 pub mod TestLaws

@@ -1,4 +1,5 @@
--- Definitions that know nothing of the code: choices, lists as sets, finite sums, XOR of bytes.
+-- Definitions that know nothing of the code: choices, lists as sets, finite sums, XOR of bytes,
+-- equations over bits.
 pub mod Choice
 pub mod Lists
 pub mod Sums

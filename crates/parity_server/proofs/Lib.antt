@@ -1,4 +1,5 @@
--- The promises from what was refused or done.
+-- The promises from what was refused or done: the refusals, the losses mended server by server, and
+-- the XOR of the other servers.
 pub mod ServerCallRefusals
 pub mod Turning
 pub mod ServerRefusals

@@ -1,1 +1,2 @@
+-- Marks of the cells that sets hold.
 pub mod Marks

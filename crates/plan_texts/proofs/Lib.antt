@@ -1,3 +1,5 @@
+-- Theorems about the form of a text, the loops that read and write it, and the promises of the
+-- calls.
 pub mod form
 pub mod NumberReading
 pub mod LineLaws

@@ -1,3 +1,5 @@
+-- Laws of plans as they are made: routes, steps in a record, reads counted, read lists, the
+-- balanced and the relief plan, and what the planner's answers mean.
 pub mod MarkingLoop
 pub mod PlanAnswers
 pub mod FormLaws

@@ -1,4 +1,5 @@
--- What the planner promises.
+-- What the planner promises: our plan, its steps and its read list, the balanced and the relief
+-- plan, and their records of routes and steps.
 pub mod PlanSays
 pub mod relief_routes
 pub mod ReliefStepsSays

@@ -1,4 +1,5 @@
--- The refusals, and the promise from what was refused or done.
+-- The refusals, the promise from what was refused or done, the theory of missing cells, and the
+-- loops over marks, words and rows.
 pub mod MendRefusals
 pub mod theory
 pub mod NamedLaws

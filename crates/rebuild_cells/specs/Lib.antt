@@ -1,4 +1,4 @@
--- What the mend of missing cells promises.
+-- What the rebuild of missing cells promises, its theory, and what the loops over words ask.
 pub mod Says
 pub mod theory
 pub mod Listed

@@ -1,5 +1,4 @@
--- The promise of a skip from what was refused or done, and what holds of a record that is not
--- refused.
+-- The promises of the calls on a run from what was refused or done, and whole runs.
 pub mod RunRefusals
 pub mod whole_runs
 pub mod OpenLaws

@@ -1,4 +1,4 @@
--- The record of a run: its refusals, how it moves on, and what a skip does.
+-- The record of a run: how it is opened, moved on by a step or a skip, and read; and whole runs.
 pub mod Runs
 pub mod whole_runs
 pub mod Starts

@@ -1,4 +1,5 @@
--- The refusals, and the promise from what was refused or done.
+-- The refusals, the promise from what was refused or done, which two disks they are, and which way
+-- the walk goes.
 pub mod TwoRefusals
 pub mod DiskLaws
 pub mod DataLaws

@@ -1,2 +1,3 @@
+-- Promises from what was refused or done, and what the refusals of a call on a stripe leave.
 pub mod AnswerLaws
 pub mod StripeRefusals

@@ -1,3 +1,3 @@
--- What the scrub of a stripe promises.
+-- What the check and the scrub of a stripe promise.
 pub mod ScrubSays
 pub mod CheckSays

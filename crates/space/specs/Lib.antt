@@ -1,3 +1,3 @@
--- What the space call promises.
+-- What the space call promises, and its refusals.
 pub mod Says
 pub mod Refusals

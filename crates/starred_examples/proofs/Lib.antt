@@ -1,1 +1,2 @@
+-- The starred examples agree with the definitions: one proof.
 pub mod Starred

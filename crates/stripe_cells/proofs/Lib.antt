@@ -1,4 +1,5 @@
--- Laws of a set without an ordinary cell, of all rows as one run, and of the loops over the sets.
+-- Laws of a set's cells as a list of offsets: rows and diagonals on some disks, sets without the
+-- cells of lost disks, all rows as one run, odd cells, and the loops over the sets.
 pub mod OrdinaryLaws
 pub mod ColumnLaws
 pub mod LoopLaws

@@ -1,4 +1,5 @@
--- What the steps over a stripe ask.
+-- Lists of offsets, the ordinary cells of a set, odd marks, and what the functions over a stripe
+-- ask.
 pub mod Cells
 pub mod Toggled
 pub mod Listed

@@ -1,1 +1,2 @@
+-- The XOR of parts and of a stretch, tested block by block.
 pub mod LastLaws
