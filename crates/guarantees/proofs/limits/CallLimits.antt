@@ -30,6 +30,9 @@ use Rattle.plan_texts.specs.form.Reading.{readable, stepsRead}
 use Rattle.plan_texts.proofs.form.TextTheorems.{form-readable, readable-has-form}
 use Rattle.liberation.specs.parity_server.Servers.{serversLong, lost, firstLoss, secondLoss, serversRefusal, serverRefusal, byteRefusal, pairRefusal, lossesRefusal, callRefusal, writeRefusal, rebuildRefusal}
 use Rattle.planner.specs.ReadListSays.{readListRefusal}
+use Rattle.planner.specs.ReliefPlanSays.{reliefRefusal}
+use Rattle.host_plans.specs.PlanListSays.{listsRefusal}
+use Rattle.host_plans.specs.RebuildByPlanSays.{callRefusal as byPlanRefusal}
 use Rattle.judge.specs.JudgeSays.{formRefusal}
 use Rattle.plan_texts.specs.JudgeTextSays.{textRefusal, judgeFirst, allRefusals}
 use Rattle.plan_texts.specs.PlainTextSays.{roomRefusal, writeFirst, plainFirst}
@@ -58,13 +61,25 @@ use Rattle.array_states.specs.States.{stateRefusal, diskReportRefusal, stateRep
 use Rattle.array_states.specs.Scanning.{noArray}
 use Rattle.array_states.specs.Reports.{listRefusal, reportRefusal}
 use Rattle.guarantees.specs.limits.Limits.{Limits, by, _then_, Decides}
-use Rattle.guarantees.specs.limits.Calls.{shape, long, plan, readList, steps, text, room, program, onStripe, rebuildOne, rebuildTested, rebuildTwo, updateCell, markedStripe, rebuildCells, stripes, writeServer, Loss, losses, allLosses, rebuildServer, skipped, next, readRun, skipStripe, stepRun, rates, billBytes, billRun, packageSpace, state, states, report, reportState, reportDisk}
+use Rattle.guarantees.specs.limits.Calls.{shape, disk, long, stripe, plan, reliefPlan, readList, steps, text, room, program, onStripe, rebuildOne, rebuildTested, rebuildTwo, updateCell, markedStripe, rebuildCells, stripes, writeServer, Loss, losses, allLosses, rebuildServer, skipped, next, readRun, skipStripe, stepRun, rates, billBytes, billRun, packageSpace, state, states, report, reportState, reportDisk}
 use Rattle.guarantees.proofs.limits.LimitLaws.{test, test-not, test-or, and-then, then-zero, within-zero, holds}
 use Rattle.guarantees.proofs.limits.SharedLimits.{width-decides, array-decides, shape-decides, disk-decides, length-decides, plan-decides, numbers-decide, steps-decide}
 
 -- ---- plans
 pub list-decides : (p k f : ℕ) (o : List ℕ) → Decides (readList p k f o) (readListRefusal p k f o) 0
 list-decides p k f o = then-zero (plan-decides p k f) (λ w. length-decides (length o) (p * (k + 2)))
+
+pub relief-decides : (p k f c : ℕ) → Decides (reliefPlan p k f c) (reliefRefusal p k f c) 0
+relief-decides p k f c = then-zero (plan-decides p k f) (λ w. then-zero (test (leb k c) 2 (leb-false k c) (lt-leb k c)) (λ v. test (eqb c f) 3 (eqb-false c f) (ne-eqb c f)))
+
+-- before the steps of a host's plan
+pub lists-decide : (p k f : ℕ) (bs o : List ℕ) → Decides (plan p k f then (long (3 * p) bs then long (p * (k + 2)) o)) (listsRefusal p k f bs o) 0
+lists-decide p k f bs o = then-zero (plan-decides p k f) (λ w. then-zero (length-decides (length bs) (3 * p)) (λ v. length-decides (length o) (p * (k + 2))))
+
+pub by-plan-decides : (p k s f : ℕ) (bs t o : List ℕ) → Decides ((shape p k s then disk k f) then (long (3 * p) bs then (stripe p k s t then long (p * s) o))) (byPlanRefusal p k s f bs t o) 0
+by-plan-decides p k s f bs t o =
+    then-zero (numbers-decide p k s f) (λ w. then-zero (length-decides (length bs) (3 * p))
+    (λ v. then-zero (length-decides (length t) (stripeLong p k s)) (λ u. length-decides (length o) (p * s))))
 
 -- a call on the steps ss, n being what was refused before them
 pub judge-decides : (ls : Limits) (n p k f : ℕ) (ss : List Step) → Decides ls n 0 → Decides (ls then steps 0 p k f [] ss) (allRefusals n p k f ss) (pick (eqb n 0) (judge p k f ss .place) 0)

@@ -3,21 +3,29 @@
 use mathlib.Core.Path.{_≡_, refl, sym, ap, _∙_, subst}
 use mathlib.Core.Bool.{Bool, false, _&&_}
 use mathlib.Core.List.{List, []}
-use Prim.Native.Nat.{ℕ, _*_}
+use Prim.Native.Nat.{ℕ, _+_, _*_}
 use lib.Dec.{eqb}
 use Rattle.mathematics.specs.Choice.{pick}
 use Rattle.mathematics.proofs.ChoiceLaws.{pick-refused, and-refused}
 use Rattle.liberation.specs.Sets.{planRefusal, numbersRefusal}
-use Rattle.liberation.specs.Plans.{Step, planOf}
-use Rattle.liberation.specs.Judging.{stepsIn}
+use Rattle.liberation.specs.Plans.{Step, planOf, routeWord}
+use Rattle.liberation.specs.Judging.{stepsIn, judge}
 use Rattle.liberation.specs.stripes.Stripes.{clean}
 use Rattle.liberation.specs.scrub.Survivors.{suspect, verdict}
 use Rattle.plan_texts.specs.form.Reading.{stepsRead}
 use Rattle.refusals.specs.declared.Answer.{Answer}
+use Rattle.liberation.specs.balanced_plan.Balanced.{balancedPlan}
+use Rattle.liberation.specs.relief_plan.Relief.{reliefPlan as reliefSteps}
 use Rattle.planner.specs.StepRecords.{Holds}
+use Rattle.planner.specs.declared.Plan.{Plan}
+use Rattle.planner.specs.PlanSays.{GivesPlan}
+use Rattle.planner.specs.BalancedStepsSays.{balancedWord}
+use Rattle.planner.specs.ReliefPlanSays.{reliefRefusal, reliefWord}
+use Rattle.host_plans.specs.PlanListSays.{listsRefusal}
+use Rattle.host_plans.specs.RebuildByPlanSays.{callRefusal as byPlanRefusal}
 use Rattle.planner.specs.ReadListSays.{readListRefusal}
 use Rattle.judge.specs.declared.all_steps.Judged.{Judged}
-use Rattle.judge.specs.JudgeSays.{formRefusal}
+use Rattle.judge.specs.JudgeSays.{formRefusal, DecidesOn}
 use Rattle.plan_texts.specs.JudgeTextSays.{judgeFirst, allRefusals, Judges}
 use Rattle.plan_texts.specs.declared.plain.Written.{Written}
 use Rattle.plan_texts.specs.PlainTextSays.{writeFirst, plainFirst, Writes}
@@ -41,11 +49,11 @@ use Rattle.space.specs.Refusals.{spaceRefusal}
 use Rattle.array_states.specs.States.{stateReportRefusal}
 use Rattle.array_states.specs.Reports.{reportRefusal}
 use Rattle.guarantees.specs.limits.Limits.{Limits, _then_, Decides, Refuses}
-use Rattle.guarantees.specs.limits.Calls.{plan, long, steps, text, room, billBytes, billRun}
+use Rattle.guarantees.specs.limits.Calls.{plan, reliefPlan, shape, disk, stripe, long, steps, text, room, billBytes, billRun}
 use Rattle.guarantees.specs.limits.Demand1.{Prints, NoBill, Demand1}
 use Rattle.guarantees.proofs.limits.LimitLaws.{refuses, refuses-at, kept}
 use Rattle.guarantees.proofs.limits.SharedLimits.{plan-decides, numbers-decide}
-use Rattle.guarantees.proofs.limits.CallLimits.{list-decides, judge-decides, form-decides, first-decides, write-decides, plain-decides, program-decides, stripe-decides, one-decides, tested-decides, two-decides, update-decides, mend-decides, write-server-decides, rebuild-server-decides, read-decides, skip-decides, step-run-decides, bill-decides, run-bill-decides, space-decides, report-state-decides, report-disk-decides}
+use Rattle.guarantees.proofs.limits.CallLimits.{list-decides, relief-decides, lists-decide, by-plan-decides, judge-decides, form-decides, first-decides, write-decides, plain-decides, program-decides, stripe-decides, one-decides, tested-decides, two-decides, update-decides, mend-decides, write-server-decides, rebuild-server-decides, read-decides, skip-decides, step-run-decides, bill-decides, run-bill-decides, space-decides, report-state-decides, report-disk-decides}
 
 -- the steps of a refused plan
 no-steps : {A B : Type 0} (n m : ℕ) (H : A → B → Type 0) (x y : A) (r : B) → n ≡ m → H (pick (eqb m 0) x y) r → (n ≡ 0 → ⊥) → H y r
@@ -64,6 +72,16 @@ wrote : (ls : Limits) (n p k f : ℕ) (ss : List Step) (o o′ : List ℕ) (r : 
 wrote ls n p k f ss o o′ r d w =
     refuses-at (r .answer) (judge-decides ls n p k f ss d) (w .refusal) (w .place)
     (λ z. (kept (r .answer .refusal) (allRefusals n p k f ss) _ _ _ (w .refusal) (w .bytes) z, kept (r .answer .refusal) (allRefusals n p k f ss) _ _ _ (w .refusal) (w .size) z))
+
+-- a call on the bytes of a host's plan that writes lent memory
+decided : (ls : Limits) (n p k f : ℕ) (ss : List Step) (new o o′ : List ℕ) (r : Answer) → Decides ls n 0 → DecidesOn n (judge p k f ss) new o o′ r → Refuses (ls then steps 0 p k f [] ss) (o′ ≡ o) r
+decided ls n p k f ss new o o′ r d w = refuses-at r (judge-decides ls n p k f ss d) (w .refusal) (w .place) (kept (r .refusal) (allRefusals n p k f ss) _ _ _ (w .refusal) (w .lent))
+
+-- a planner that refuses by n
+planned : (ls : Limits) (p k f n : ℕ) (ss : List Step) (w : ℕ) (r : Plan) → Decides ls n 0 → GivesPlan p k f n ss w r → Refuses ls (Holds [] (r .steps) × (r .routes ≡ 0) × (r .reads ≡ 0)) (r .answer)
+planned ls p k f n ss w r d g =
+    let e = g .answer .refusal in
+    refuses (r .answer) d (g .answer) (λ z. (no-steps (r .answer .refusal) n Holds ss [] (r .steps) e (g .steps) z, kept _ n _ _ _ e (g .routes) z, kept _ n _ _ _ e (g .reads) z))
 
 printed-so : (t : List ℕ) (r : Text) → TextSays t r → Prints t r
 printed-so t r d =
@@ -84,14 +102,14 @@ billed ls n b r s t x d y =
 pub demand1 : Demand1
 demand1 =
     record {
-      plan-disk = λ p k f r d.
-          let n = planRefusal p k f in
-          let e = d .answer .refusal in
-          refuses (r .answer) (plan-decides p k f) (d .answer) (λ z. (no-steps (r .answer .refusal) n Holds (planOf p k f) [] (r .steps) e (d .steps) z, kept _ n _ _ _ e (d .routes) z, kept _ n _ _ _ e (d .reads) z));
+      plan-disk = λ p k f r d. planned (plan p k f) p k f (planRefusal p k f) (planOf p k f) (routeWord p k f) r (plan-decides p k f) d;
       plan-steps = λ p k f r d.
           let n = planRefusal p k f in
           let e = d .answer .refusal in
           refuses (r .answer) (plan-decides p k f) (d .answer) (λ z. (no-steps (r .answer .refusal) n Holds (planOf p k f) [] (r .steps) e (d .steps) z, kept _ n _ _ _ e (d .routes) z));
+      balanced-plan = λ p k f r d. planned (plan p k f) p k f (planRefusal p k f) (balancedPlan p k f) (balancedWord p k f) r (plan-decides p k f) d;
+      relief-plan = λ p k f c r d. planned (reliefPlan p k f c) p k f (reliefRefusal p k f c) (reliefSteps p k f c) (reliefWord p k f c) r (relief-decides p k f c) d;
+      plan-list = λ p k f bs o o′ r d. decided (plan p k f then (long (3 * p) bs then long (p * (k + 2)) o)) (listsRefusal p k f bs o) p k f (stepsIn p bs) _ o o′ r (lists-decide p k f bs o) d;
       read-list = λ p k f o o′ r d. refuses r (list-decides p k f o) (d .answer) (kept _ (readListRefusal p k f o) _ _ _ (d .answer .refusal) (d .list));
       judge-plan = λ p k f bs r d. judged (plan p k f then long (3 * p) bs) (formRefusal p k f bs) p k f (stepsIn p bs) r (form-decides p k f bs) (record { refusal = d .refusal; place = d .place; reads = d .reads });
       judge-text = λ p k f t r d. judged (plan p k f then text p t) (judgeFirst p k f t) p k f (stepsRead p t) r (first-decides p k f t) d;
@@ -105,6 +123,9 @@ demand1 =
           let e = d .answer .refusal in
           refuses (r .answer) (stripe-decides p k s t) (d .answer) (λ z. (kept _ n _ _ _ e (d .verdict) z, d .disk ∙ sym (ap (λ (b : Bool). pick b (suspect p k s t) 0) (and-refused (r .answer .refusal) n (eqb (verdict p k s t) 1) e z))));
       rebuild-one = λ p k s f t o o′ r d. refuses r (one-decides p k s f t o) (d .answer) (kept _ (oneRefusal p k s f t o) _ _ _ (d .answer .refusal) (d .column));
+      rebuild-balanced = λ p k s f t o o′ r d. refuses r (one-decides p k s f t o) (d .answer) (kept _ (oneRefusal p k s f t o) _ _ _ (d .answer .refusal) (d .column));
+      rebuild-by-plan = λ p k s f bs t o o′ r d.
+          decided ((shape p k s then disk k f) then (long (3 * p) bs then (stripe p k s t then long (p * s) o))) (byPlanRefusal p k s f bs t o) p k f (stepsIn p bs) _ o o′ r (by-plan-decides p k s f bs t o) (d .decides);
       rebuild-tested = λ p k s f t o o′ r d. refuses r (tested-decides p k s f t o (d .bytes)) (d .answer) (kept _ (testedRefusal p k s f t o) _ _ _ (d .answer .refusal) (d .column));
       rebuild-two = λ p k s a b t t′ r d. refuses r (two-decides p k s a b t) (d .answer) (kept _ (twoRefusal p k s a b t) _ _ _ (d .answer .refusal) (d .stripe));
       update-cell = λ p k s i c t new t′ r d. refuses r (update-decides p k s i c t new) (d .answer) (kept _ (updateRefusal p k s i c t new) _ _ _ (d .answer .refusal) (d .stripe));

@@ -73,6 +73,14 @@ steps i p k f done (s ∷ ss) = step i p k f done s then steps (suc i) p k f (s 
 abbrev pub judgePlan : ℕ → ℕ → ℕ → List ℕ → Limits
 judgePlan p k f bs = (plan p k f then long (3 * p) bs) then steps 0 p k f [] (stepsIn p bs)
 
+-- `relief_plan`: c is the relieved disk, a data disk other than the lost one
+abbrev pub reliefPlan : ℕ → ℕ → ℕ → ℕ → Limits
+reliefPlan p k f c = plan p k f then (by 3 (c < k) then by 4 (c ≡ f → ⊥))
+
+-- `plan_list`: bs are the bytes of the plan, o is the list
+abbrev pub planList : ℕ → ℕ → ℕ → List ℕ → List ℕ → Limits
+planList p k f bs o = (plan p k f then (long (3 * p) bs then long (p * (k + 2)) o)) then steps 0 p k f [] (stepsIn p bs)
+
 -- "22: text not of this form or not p lines"
 abbrev pub text : ℕ → List ℕ → Limits
 text p t = by 22 ((ss : List Step) × PlanText t ss × (length ss ≡ p))
@@ -104,6 +112,11 @@ onStripe p k s t = shape p k s then stripe p k s t
 -- `rebuild_one`: o is the column
 abbrev pub rebuildOne : ℕ → ℕ → ℕ → ℕ → List ℕ → List ℕ → Limits
 rebuildOne p k s f t o = (shape p k s then disk k f) then (stripe p k s t then long (p * s) o)
+
+-- `rebuild_by_plan`: bs are the bytes of the plan
+abbrev pub rebuildByPlan : ℕ → ℕ → ℕ → ℕ → List ℕ → List ℕ → List ℕ → Limits
+rebuildByPlan p k s f bs t o =
+    ((shape p k s then disk k f) then (long (3 * p) bs then (stripe p k s t then long (p * s) o))) then steps 0 p k f [] (stepsIn p bs)
 
 -- `rebuild_tested`: some clean stripe agrees with all surviving cells
 abbrev pub rebuildTested : ℕ → ℕ → ℕ → ℕ → List ℕ → List ℕ → Limits

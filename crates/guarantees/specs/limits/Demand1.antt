@@ -14,6 +14,11 @@ use Rattle.planner.specs.PlanStepsSays.{PlannedSays}
 use Rattle.planner.specs.declared.Plan.{Plan}
 use Rattle.planner.specs.PlanSays.{PlanSays}
 use Rattle.planner.specs.ReadListSays.{ListSays}
+use Rattle.planner.specs.BalancedPlanSays.{BalancedSays}
+use Rattle.planner.specs.ReliefPlanSays.{ReliefSays}
+use Rattle.host_plans.specs.PlanListSays.{PlanListSays}
+use Rattle.host_plans.specs.RebuildByPlanSays.{ByPlanSays}
+use Rattle.rebuild_one.specs.RebuildBalancedSays.{BalancedOneSays}
 use Rattle.judge.specs.declared.all_steps.Judged.{Judged}
 use Rattle.judge.specs.JudgeSays.{JudgeSays}
 use Rattle.plan_texts.specs.JudgeTextSays.{JudgeTextSays}
@@ -52,7 +57,7 @@ use Rattle.array_states.specs.Scanning.{noTotals}
 use Rattle.array_states.specs.declared.board.Board.{Board}
 use Rattle.array_states.specs.Reports.{ReportSays}
 use Rattle.guarantees.specs.limits.Limits.{Refuses}
-use Rattle.guarantees.specs.limits.Calls.{plan, readList, judgePlan, judgeText, writePlan, plainText, program, onStripe, rebuildOne, rebuildTested, rebuildTwo, updateCell, rebuildCells, writeServer, rebuildServer, openRun, readRun, skipStripe, stepRun, billBytes, billRun, packageSpace, reportState, reportDisk}
+use Rattle.guarantees.specs.limits.Calls.{plan, reliefPlan, planList, readList, judgePlan, judgeText, writePlan, plainText, program, onStripe, rebuildOne, rebuildByPlan, rebuildTested, rebuildTwo, updateCell, rebuildCells, writeServer, rebuildServer, openRun, readRun, skipStripe, stepRun, billBytes, billRun, packageSpace, reportState, reportDisk}
 
 -- the plan program prints no answer but a text: our plan, or the line of a refusal
 pub record Prints (t : List ℕ) (r : Text) : Type 0 where
@@ -67,6 +72,9 @@ pub record Demand1 : Type 0 where
   -- plans
   pub plan-disk : (p k f : ℕ) (r : Plan) → PlanSays p k f r → Refuses (plan p k f) (Holds [] (r .steps) × (r .routes ≡ 0) × (r .reads ≡ 0)) (r .answer)
   pub plan-steps : (p k f : ℕ) (r : Planned) → PlannedSays p k f r → Refuses (plan p k f) (Holds [] (r .steps) × (r .routes ≡ 0)) (r .answer)
+  pub balanced-plan : (p k f : ℕ) (r : Plan) → BalancedSays p k f r → Refuses (plan p k f) (Holds [] (r .steps) × (r .routes ≡ 0) × (r .reads ≡ 0)) (r .answer)
+  pub relief-plan : (p k f c : ℕ) (r : Plan) → ReliefSays p k f c r → Refuses (reliefPlan p k f c) (Holds [] (r .steps) × (r .routes ≡ 0) × (r .reads ≡ 0)) (r .answer)
+  pub plan-list : (p k f : ℕ) (bs o o′ : List ℕ) (r : Answer) → PlanListSays p k f bs o o′ r → Refuses (planList p k f bs o) (o′ ≡ o) r
   pub read-list : (p k f : ℕ) (o o′ : List ℕ) (r : Answer) → ListSays p k f o o′ r → Refuses (readList p k f o) (o′ ≡ o) r
   pub judge-plan : (p k f : ℕ) (bs : List ℕ) (r : Judged) → JudgeSays p k f bs r → Refuses (judgePlan p k f bs) (r .reads ≡ 0) (r .answer)
   pub judge-text : (p k f : ℕ) (t : List ℕ) (r : Judged) → JudgeTextSays p k f t r → Refuses (judgeText p k f t) (r .reads ≡ 0) (r .answer)
@@ -78,6 +86,8 @@ pub record Demand1 : Type 0 where
   pub check-stripe : (p k s : ℕ) (t : List ℕ) (r : Checked) → CheckSays p k s t r → Refuses (onStripe p k s t) (r .clean ≡ false) (r .answer)
   pub scrub-stripe : (p k s : ℕ) (t : List ℕ) (r : Scrubbed) → ScrubSays p k s t r → Refuses (onStripe p k s t) ((r .verdict ≡ 0) × (r .disk ≡ 0)) (r .answer)
   pub rebuild-one : (p k s f : ℕ) (t o o′ : List ℕ) (r : Answer) → OneSays p k s f t o o′ r → Refuses (rebuildOne p k s f t o) (o′ ≡ o) r
+  pub rebuild-balanced : (p k s f : ℕ) (t o o′ : List ℕ) (r : Answer) → BalancedOneSays p k s f t o o′ r → Refuses (rebuildOne p k s f t o) (o′ ≡ o) r
+  pub rebuild-by-plan : (p k s f : ℕ) (bs t o o′ : List ℕ) (r : Answer) → ByPlanSays p k s f bs t o o′ r → Refuses (rebuildByPlan p k s f bs t o) (o′ ≡ o) r
   pub rebuild-tested : (p k s f : ℕ) (t o o′ : List ℕ) (r : Answer) → TestedSays p k s f t o o′ r → Refuses (rebuildTested p k s f t o) (o′ ≡ o) r
   pub rebuild-two : (p k s a b : ℕ) (t t′ : List ℕ) (r : Answer) → TwoSays p k s a b t t′ r → Refuses (rebuildTwo p k s a b t) (t′ ≡ t) r
   pub update-cell : (p k s i c : ℕ) (t new t′ : List ℕ) (r : Answer) → UpdateSays p k s i c t new t′ r → Refuses (updateCell p k s i c t new) (t′ ≡ t) r
