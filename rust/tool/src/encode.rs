@@ -1,0 +1,152 @@
+//! A film to the images of a new set.
+
+use std::io::{self, ErrorKind, Read};
+
+use crate::blocks::Blocks;
+use crate::cells::Cells;
+use crate::fault::Fault;
+use crate::geometry::{Batch, Geometry, LABEL_BYTES, MOST_BYTES, MOST_LENGTH};
+use crate::label::Label;
+use crate::output::Output;
+use crate::sums::SetName;
+
+/// A film, and its length if that is known before its end.
+pub struct Source<R> {
+    pub film: R,
+    pub length: Option<u64>,
+    /// What messages call it.
+    pub name: String,
+}
+
+impl<R: Read> Source<R> {
+    /// Fills the bytes as far as the film goes.
+    fn fill(&mut self, at: u64, bytes: &mut [u8]) -> Result<usize, Fault> {
+        let mut done = 0;
+        while done < bytes.len() {
+            match self.film.read(&mut bytes[done..]) {
+                Ok(0) => break,
+                Ok(more) => done += more,
+                Err(error) if error.kind() == ErrorKind::Interrupted => {}
+                Err(error) => return Err(self.fault(at + done as u64, &error)),
+            }
+        }
+        Ok(done)
+    }
+
+    fn fault(&self, byte: u64, error: &io::Error) -> Fault {
+        Fault::Failed(format!("{}, byte {byte}: {error}", self.name))
+    }
+
+    fn changed(&self) -> Fault {
+        Fault::Failed(format!(
+            "{}: its length changed while it was read; encode it again",
+            self.name
+        ))
+    }
+}
+
+/// Writes the cells and checksum blocks of a film; gives the label of the set, which is not written yet.
+pub fn encode<R: Read>(
+    source: &mut Source<R>,
+    set: SetName,
+    geometry: Geometry,
+    outputs: &[Output],
+    mut done: impl FnMut(u64),
+) -> Result<Label, Fault> {
+    let mut geometry = geometry;
+    let (mut cells, mut blocks) = (Cells::new(geometry, MOST_BYTES), Blocks::new(set, geometry));
+    let (mut length, mut unit) = (0, 0);
+    while unit < geometry.units() {
+        cells.batch = geometry.batch(unit, MOST_BYTES);
+        let filled = fill(source, geometry, length, &mut cells)?;
+        let full = (cells.batch.count * geometry.shape.data_len()) as u64;
+        length += filled;
+        if length > MOST_LENGTH {
+            return Err(Fault::Failed(format!("{}: more than 2^48 bytes", source.name)));
+        }
+        if filled < full && source.length.is_none() {
+            geometry = geometry.with_length(length).ok_or_else(|| source.changed())?;
+            if geometry.units() <= unit {
+                break;
+            }
+            cells.shorten(geometry.batch(unit, MOST_BYTES));
+        }
+        blocks.clear(cells.batch);
+        blocks.seal(&cells);
+        for (disk, output) in outputs.iter().enumerate() {
+            write_batch(output, disk, geometry, &cells, &blocks)?;
+        }
+        unit = cells.batch.end_unit();
+        done(filled);
+    }
+    let more = source.length.is_some() && source.fill(length, &mut [0])? > 0;
+    if more || source.length.is_some_and(|known| known != length) {
+        return Err(source.changed());
+    }
+    let geometry = geometry.with_length(length).ok_or_else(|| source.changed())?;
+    Ok(Label { set, geometry })
+}
+
+/// Reads film to the stripes of a batch, with zeros after its end, and encodes them; gives the bytes of film.
+fn fill<R: Read>(
+    source: &mut Source<R>,
+    geometry: Geometry,
+    length: u64,
+    cells: &mut Cells,
+) -> Result<u64, Fault> {
+    let shape = geometry.shape;
+    let mut stripe = vec![0; shape.stripe_len()];
+    let mut filled = 0;
+    for place in 0..cells.batch.count {
+        let here = source.fill(length + filled, &mut stripe[..shape.data_len()])?;
+        if here == 0 {
+            break;
+        }
+        stripe[here..shape.data_len()].fill(0);
+        shape.encode(&mut stripe)?;
+        for disk in 0..geometry.disks() {
+            cells.put(disk, place, &stripe[shape.disk_range(disk)]);
+        }
+        filled += here as u64;
+        if here < shape.data_len() {
+            break;
+        }
+    }
+    Ok(filled)
+}
+
+/// Writes a disk's cells of a batch and the checksum blocks, with zeros where they end a group.
+pub fn write_batch(
+    output: &Output,
+    disk: usize,
+    geometry: Geometry,
+    cells: &Cells,
+    blocks: &Blocks,
+) -> Result<(), Fault> {
+    let batch = cells.batch;
+    if geometry.is_whole_group(batch) {
+        output.write(cells.disk(disk), geometry.cell_at(0, batch.first))?;
+    } else {
+        for row in 0..geometry.shape.width() {
+            let bytes = cells.cells(disk, row, 0..batch.count);
+            output.write(bytes, geometry.cell_at(row, batch.first))?;
+        }
+    }
+    write_blocks(output, geometry, batch, blocks.all())
+}
+
+/// Writes checksum blocks of units that follow one another.
+pub fn write_blocks(
+    output: &Output,
+    geometry: Geometry,
+    batch: Batch,
+    blocks: &[u8],
+) -> Result<(), Fault> {
+    let at = geometry.block_at(batch.unit);
+    let mut bytes = blocks.to_vec();
+    if geometry.ends_group(batch) {
+        let end = (at as usize + bytes.len()).next_multiple_of(LABEL_BYTES);
+        bytes.resize(end - at as usize, 0);
+    }
+    output.write(&bytes, at)
+}

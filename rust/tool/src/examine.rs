@@ -1,0 +1,49 @@
+//! Every byte of the images that are there compared with its checksum: for check and repair.
+
+use crate::fault::Fault;
+use crate::geometry::{Batch, MOST_BYTES};
+use crate::pace::Pace;
+use crate::reader::{Beyond, Reader};
+use crate::set::Set;
+use crate::wanted::Wanted;
+
+/// A checksum block of an image that is not the unit's.
+#[derive(Clone, Copy, Debug, PartialEq, Eq)]
+pub struct BadBlock {
+    pub disk: usize,
+    /// By its place in the batch.
+    pub unit: usize,
+}
+
+/// What was found in a batch, which the reader has in memory, mended.
+pub struct Findings<'f, 'a> {
+    pub reader: &'f Reader<'a>,
+    pub batch: Batch,
+    pub blocks: Vec<BadBlock>,
+    pub beyond: Vec<Beyond>,
+}
+
+/// Goes through all units from one on; gives the bytes that were read.
+pub fn examine(
+    set: &Set,
+    first: u64,
+    pace: Pace,
+    mut each: impl FnMut(Findings) -> Result<(), Fault>,
+) -> Result<u64, Fault> {
+    let geometry = set.label.geometry;
+    let bytes = if pace.is_limited() { 1 } else { MOST_BYTES };
+    let wanted = Wanted::all(set);
+    let mut reader = Reader::new(set, bytes, pace);
+    let mut batches = geometry.batches(first, bytes).peekable();
+    while let Some(batch) = batches.next() {
+        reader.ahead(batches.peek().copied(), &wanted);
+        let beyond = reader.load(batch, &wanted)?;
+        let mut blocks = Vec::new();
+        for disk in set.present() {
+            let bad = reader.bad_blocks(disk);
+            blocks.extend(bad.into_iter().map(|unit| BadBlock { disk, unit }));
+        }
+        each(Findings { reader: &reader, batch, blocks, beyond })?;
+    }
+    Ok(reader.read)
+}

@@ -1,0 +1,418 @@
+//! The one way by which the bytes of a set are read: what does not fit its checksum is mended from
+//! the rest of its unit and compared, or is not handed out.
+
+use std::io;
+use std::ops::Range;
+
+use cuzhaveli::Refusal;
+
+use crate::blocks::Blocks;
+use crate::cells::Cells;
+use crate::fault::Fault;
+use crate::geometry::{Batch, Geometry};
+use crate::image::Bounce;
+use crate::pace::Pace;
+use crate::rows::{self, Row};
+use crate::set::{joined, Set};
+use crate::wanted::{Reading, Wanted, Way};
+
+/// What is known of a piece of the batch.
+#[derive(Clone, Copy, Debug, PartialEq, Eq)]
+enum State {
+    Unread,
+    Good,
+    Bad,
+}
+
+/// How a piece is bad.
+#[derive(Clone, Copy, Debug, PartialEq, Eq)]
+pub enum Flaw {
+    /// It does not fit its checksum.
+    Sum,
+    /// It cannot be read.
+    Read,
+}
+
+/// A piece of an image that is there and bad.
+#[derive(Clone, Copy, Debug, PartialEq, Eq)]
+pub struct Bad {
+    pub disk: usize,
+    pub row: usize,
+    /// By its place in the batch.
+    pub unit: usize,
+    pub flaw: Flaw,
+}
+
+/// Stripes that cannot be made right.
+#[derive(Clone, Debug, PartialEq, Eq)]
+pub struct Beyond {
+    pub stripes: Range<u64>,
+    /// The disks that are lost or bad there; none if no image has the unit's checksums.
+    pub disks: Vec<usize>,
+}
+
+impl Beyond {
+    pub fn told(&self) -> String {
+        let (first, last) = (self.stripes.start, self.stripes.end - 1);
+        match self.disks[..] {
+            [] => format!("stripes {first} to {last}: no image has their checksums"),
+            _ => format!(
+                "stripes {first} to {last}: too much is bad on disks {}",
+                joined(&self.disks)
+            ),
+        }
+    }
+}
+
+/// A cell that cannot be read, in a piece of which others can: row, disk and place in the batch.
+type Hole = (usize, usize, usize);
+
+pub struct Reader<'a> {
+    set: &'a Set,
+    geometry: Geometry,
+    cells: Cells,
+    blocks: Blocks,
+    states: Vec<State>,
+    holes: Vec<Hole>,
+    bad: Vec<Bad>,
+    stripe: Vec<u8>,
+    bounce: Bounce,
+    pace: Pace,
+    /// Bytes read so far, of cells and checksum blocks.
+    pub read: u64,
+    /// Units so far in which something had to be mended.
+    pub mended: u64,
+}
+
+impl<'a> Reader<'a> {
+    /// A reader of batches of at most so many bytes of stripes.
+    pub fn new(set: &'a Set, bytes: u64, pace: Pace) -> Reader<'a> {
+        let geometry = set.label.geometry;
+        Reader {
+            set,
+            geometry,
+            cells: Cells::new(geometry, bytes),
+            blocks: Blocks::new(set.label.set, geometry),
+            states: Vec::new(),
+            holes: Vec::new(),
+            bad: Vec::new(),
+            stripe: vec![0; geometry.shape.stripe_len()],
+            bounce: Bounce::new(),
+            pace,
+            read: 0,
+            mended: 0,
+        }
+    }
+
+    pub fn geometry(&self) -> Geometry {
+        self.geometry
+    }
+
+    pub fn cells(&self) -> &Cells {
+        &self.cells
+    }
+
+    pub fn blocks(&self) -> &Blocks {
+        &self.blocks
+    }
+
+    /// The bad pieces of the batch that were seen.
+    pub fn bad(&self) -> &[Bad] {
+        &self.bad
+    }
+
+    /// Tells the kernel what is read next.
+    pub fn ahead(&self, batch: Option<Batch>, wanted: &Wanted) {
+        let Some(batch) = batch.filter(|_| !self.pace.is_limited()) else { return };
+        for Reading { disk, rows } in &wanted.readings {
+            let Some(image) = self.set.image(*disk) else { continue };
+            for row in rows.clone() {
+                let len = batch.count * self.geometry.shape.cell_size();
+                image.ahead(self.geometry.cell_at(row, batch.first), len as u64);
+            }
+        }
+    }
+
+    /// Brings what is wanted of a batch into memory, verified; the stripes where that cannot be.
+    pub fn load(&mut self, batch: Batch, wanted: &Wanted) -> Result<Vec<Beyond>, Fault> {
+        self.begin(batch, wanted);
+        self.read_all(wanted);
+        for unit in 0..batch.units {
+            if wanted.way != Way::None && !self.has(unit, wanted.way.lost()) {
+                self.bring_back(unit, wanted)?;
+            }
+        }
+        let mut beyond = Vec::new();
+        for unit in 0..batch.units {
+            if self.is_good(unit, wanted) {
+                continue;
+            }
+            self.mend(unit);
+            if self.is_good(unit, wanted) {
+                self.mended += 1;
+            } else {
+                beyond.push(self.beyond(unit));
+            }
+        }
+        Ok(beyond)
+    }
+
+    /// Reads the checksum blocks of a batch; what is in memory of the same batch stays.
+    pub fn begin(&mut self, batch: Batch, wanted: &Wanted) {
+        if self.cells.batch == batch {
+            return;
+        }
+        self.cells.batch = batch;
+        self.states = vec![State::Unread; batch.units * self.pieces()];
+        self.holes.clear();
+        self.bad.clear();
+        self.blocks.clear(batch);
+        for disk in wanted.quietest(self.set) {
+            let unknown: Vec<usize> = self.blocks.unknown().collect();
+            let (Some(first), Some(last)) = (unknown.first(), unknown.last()) else { return };
+            self.read_blocks(disk, *first..last + 1);
+        }
+    }
+
+    /// Reads the blocks of units from one disk.
+    fn read_blocks(&mut self, disk: usize, units: Range<usize>) {
+        let Some(image) = self.set.image(disk) else { return };
+        let len = self.geometry.block_len();
+        let at = self.geometry.block_at(self.cells.batch.unit + units.start as u64);
+        let mut bytes = vec![0; units.len() * len];
+        if image.read(&mut bytes, at, &mut self.bounce).is_err() {
+            return;
+        }
+        self.count(bytes.len());
+        for (unit, block) in units.zip(bytes.chunks_exact(len)) {
+            if !self.blocks.is_known(unit) {
+                self.blocks.take(unit, block);
+            }
+        }
+    }
+
+    /// Whether every piece of a unit was read and fitted its sum.
+    pub fn is_sound(&self, unit: usize) -> bool {
+        let disks: Vec<usize> = (0..self.geometry.disks()).collect();
+        self.has(unit, &disks) && self.bad.iter().all(|bad| bad.unit != unit)
+    }
+
+    /// The units of the batch whose block on a disk is not the one that is known.
+    pub fn bad_blocks(&mut self, disk: usize) -> Vec<usize> {
+        let Some(image) = self.set.image(disk) else { return Vec::new() };
+        let (len, batch) = (self.geometry.block_len(), self.cells.batch);
+        let mut bytes = vec![0; batch.units * len];
+        let at = self.geometry.block_at(batch.unit);
+        let read = image.read(&mut bytes, at, &mut self.bounce).is_ok();
+        self.count(bytes.len());
+        let bad = |unit: &usize| {
+            let block = &bytes[unit * len..(unit + 1) * len];
+            self.blocks.is_known(*unit) && (!read || block != self.blocks.block(*unit))
+        };
+        (0..batch.units).filter(bad).collect()
+    }
+
+    fn count(&mut self, bytes: usize) {
+        self.read += bytes as u64;
+        self.pace.spend(bytes as u64);
+    }
+
+    fn pieces(&self) -> usize {
+        self.geometry.disks() * self.geometry.shape.width()
+    }
+
+    fn at(&self, unit: usize, disk: usize, row: usize) -> usize {
+        unit * self.pieces() + disk * self.geometry.shape.width() + row
+    }
+
+    /// Whether all pieces of disks are good in a unit.
+    fn has(&self, unit: usize, disks: &[usize]) -> bool {
+        let good = |disk: &usize| {
+            let start = self.at(unit, *disk, 0);
+            let states = &self.states[start..start + self.geometry.shape.width()];
+            states.iter().all(|state| *state == State::Good)
+        };
+        disks.iter().all(good)
+    }
+
+    /// Whether all that is read of a unit is good.
+    fn is_read(&self, unit: usize, wanted: &Wanted) -> bool {
+        let mut pieces =
+            wanted.readings.iter().flat_map(|one| one.rows.clone().map(|row| (one.disk, row)));
+        pieces.all(|(disk, row)| self.states[self.at(unit, disk, row)] == State::Good)
+    }
+
+    fn is_good(&self, unit: usize, wanted: &Wanted) -> bool {
+        self.is_read(unit, wanted) && self.has(unit, wanted.way.lost())
+    }
+
+    /// Reads all rows that are wanted and not there.
+    fn read_all(&mut self, wanted: &Wanted) {
+        let mut todo = Vec::new();
+        for Reading { disk, rows } in &wanted.readings {
+            let unread = |row: &usize| {
+                let units = 0..self.cells.batch.units;
+                units.clone().any(|unit| self.states[self.at(unit, *disk, *row)] == State::Unread)
+            };
+            todo.extend(rows.clone().filter(unread).map(|row| Row { disk: *disk, row }));
+        }
+        for (Row { disk, row }, verdict) in
+            rows::read(self.set, &mut self.cells, &self.blocks, &todo, &mut self.pace)
+        {
+            let units = 0..self.cells.batch.units;
+            match verdict {
+                Ok(fits) => {
+                    self.read += (self.cells.batch.count * self.geometry.shape.cell_size()) as u64;
+                    units.zip(fits).for_each(|(unit, fits)| self.judge(unit, disk, row, fits));
+                }
+                Err(_) => units.for_each(|unit| self.read_piece(unit, disk, row)),
+            }
+        }
+    }
+
+    /// Keeps whether a piece fits its sum.
+    fn judge(&mut self, unit: usize, disk: usize, row: usize, fits: bool) {
+        let at = self.at(unit, disk, row);
+        self.states[at] = if fits { State::Good } else { State::Bad };
+        if !fits && self.blocks.is_known(unit) {
+            self.bad.push(Bad { disk, row, unit, flaw: Flaw::Sum });
+        }
+    }
+
+    /// Reads a piece or, where that fails, those of its cells that can be read.
+    fn read_piece(&mut self, unit: usize, disk: usize, row: usize) {
+        let places = self.geometry.places(self.cells.batch, unit);
+        if self.read_cells(disk, row, places.clone()).is_ok() {
+            let fits = self.blocks.fits(unit, disk, row, self.cells.piece(disk, row, unit));
+            return self.judge(unit, disk, row, fits);
+        }
+        for place in places {
+            if self.read_cells(disk, row, place..place + 1).is_err() {
+                self.holes.push((row, disk, place));
+            }
+        }
+        let at = self.at(unit, disk, row);
+        self.states[at] = State::Bad;
+        self.bad.push(Bad { disk, row, unit, flaw: Flaw::Read });
+    }
+
+    fn read_cells(&mut self, disk: usize, row: usize, places: Range<usize>) -> io::Result<()> {
+        let Some(image) = self.set.image(disk) else { return Err(io::ErrorKind::NotFound.into()) };
+        let at = self.geometry.cell_at(row, self.cells.batch.first + places.start as u64);
+        let bytes = self.cells.cells_mut(disk, row, places);
+        let len = bytes.len();
+        image.read(bytes, at, &mut self.bounce)?;
+        self.count(len);
+        Ok(())
+    }
+
+    /// Brings lost disks back by their plan, if all that it reads is good, and compares them.
+    fn bring_back(&mut self, unit: usize, wanted: &Wanted) -> Result<(), Fault> {
+        if !self.is_read(unit, wanted) {
+            return Ok(());
+        }
+        let shape = self.geometry.shape;
+        let mut column = vec![0; shape.column_len()];
+        for place in self.geometry.places(self.cells.batch, unit) {
+            for need in &wanted.needs {
+                self.cells.take(need.row, need.disk, place, &mut self.stripe, need.as_disk);
+            }
+            let stripe = &mut self.stripe[..];
+            let done = match wanted.way {
+                Way::None => Ok(()),
+                Way::Ours(lost) => shape.rebuild_one(lost, stripe, &mut column),
+                Way::Balanced(lost) => shape.rebuild_balanced(lost, stripe, &mut column),
+                Way::Tested(lost) => shape.rebuild_tested(lost, stripe, &mut column),
+                Way::Rows(_) => shape.rebuild_one(shape.disks(), stripe, &mut column),
+                Way::Two(both) => shape.rebuild_two(both, stripe),
+            };
+            let number = self.cells.batch.first + place as u64;
+            done.map_err(|refusal| Fault::Refused(refusal, format!(", stripe {number}")))?;
+            match wanted.way {
+                Way::Two(both) => both.iter().for_each(|disk| {
+                    self.cells.put(*disk, place, &self.stripe[shape.disk_range(*disk)]);
+                }),
+                _ => {
+                    wanted.way.lost().iter().for_each(|disk| self.cells.put(*disk, place, &column))
+                }
+            }
+        }
+        self.compare(unit, wanted.way.lost());
+        Ok(())
+    }
+
+    /// Compares the pieces of disks in a unit that are not known to be good with their sums.
+    fn compare(&mut self, unit: usize, disks: &[usize]) {
+        for disk in disks {
+            for row in 0..self.geometry.shape.width() {
+                let at = self.at(unit, *disk, row);
+                let piece = self.cells.piece(*disk, row, unit);
+                if self.states[at] != State::Good && self.blocks.fits(unit, *disk, row, piece) {
+                    self.states[at] = State::Good;
+                }
+            }
+        }
+    }
+
+    /// Reads the rest of a unit and mends what of it is lost or bad, as far as that can be done.
+    fn mend(&mut self, unit: usize) {
+        let disks: Vec<usize> = (0..self.geometry.disks()).collect();
+        for disk in self.set.present() {
+            for row in 0..self.geometry.shape.width() {
+                if self.states[self.at(unit, disk, row)] == State::Unread {
+                    self.read_piece(unit, disk, row);
+                }
+            }
+        }
+        if !self.blocks.is_known(unit) {
+            return;
+        }
+        // First with what could be read of pieces that cannot be read whole, then without it.
+        for all in [false, true] {
+            if !self.has(unit, &disks) && self.solve(unit, all).is_ok() {
+                self.compare(unit, &disks);
+            }
+        }
+    }
+
+    /// Computes the cells of a unit that are missing: those that cannot be read, or all of their pieces.
+    fn solve(&mut self, unit: usize, all: bool) -> Result<(), Refusal> {
+        let (shape, width) = (self.geometry.shape, self.geometry.shape.width());
+        let mut missing = vec![0; self.pieces()];
+        for place in self.geometry.places(self.cells.batch, unit) {
+            for (cell, mark) in missing.iter_mut().enumerate() {
+                let (disk, row) = (cell / width, cell % width);
+                let good = self.states[self.at(unit, disk, row)] == State::Good;
+                *mark = u8::from(!good && (all || !self.is_readable(unit, disk, row, place)));
+                if *mark == 0 {
+                    self.cells.take(row, disk, place, &mut self.stripe, disk);
+                }
+            }
+            shape.rebuild_cells(&missing, &mut self.stripe)?;
+            for cell in (0..missing.len()).filter(|cell| missing[*cell] == 1) {
+                let (disk, row) = (cell / width, cell % width);
+                let bytes = &self.stripe[shape.cell_range(row, disk)];
+                self.cells.cells_mut(disk, row, place..place + 1).copy_from_slice(bytes);
+            }
+        }
+        Ok(())
+    }
+
+    /// Whether a cell could be read, of a piece of which others could not.
+    fn is_readable(&self, unit: usize, disk: usize, row: usize, place: usize) -> bool {
+        let places = self.geometry.places(self.cells.batch, unit);
+        let torn = |hole: &&Hole| (hole.0, hole.1) == (row, disk) && places.contains(&hole.2);
+        let mut holes = self.holes.iter().filter(torn).peekable();
+        holes.peek().is_some() && holes.all(|hole| hole.2 != place)
+    }
+
+    fn beyond(&self, unit: usize) -> Beyond {
+        let stripes = self.geometry.stripes_of(self.cells.batch.unit + unit as u64);
+        let bad = |disk: &usize| !self.has(unit, &[*disk]);
+        let disks = match self.blocks.is_known(unit) {
+            true => (0..self.geometry.disks()).filter(bad).collect(),
+            false => Vec::new(),
+        };
+        Beyond { stripes, disks }
+    }
+}
