@@ -9,6 +9,7 @@ import signal
 import struct
 import subprocess
 import tempfile
+import time
 
 LABEL = 4096
 MEMORY = pathlib.Path("/dev/shm")
@@ -96,8 +97,10 @@ class Setting:
         if pid == 0:
             os.dup2(os.open(out, os.O_CREAT | os.O_WRONLY), 1)
             os.execv(self.program, [str(self.program), *map(str, words)])
+        begun = time.monotonic()
         _, status, usage = os.wait4(pid, 0)
         done = Done(words, os.waitstatus_to_exitcode(status), out.read_bytes(), b"", usage)
+        done.seconds = time.monotonic() - begun
         expect(done.status == 0, done.told())
         return done
 
@@ -265,7 +268,8 @@ class Set:
 CALLS = {0: "read", 1: "write", 3: "close", 17: "pread64", 18: "pwrite64", 74: "fsync", 75: "fdatasync", 77: "ftruncate", 86: "link",
          82: "rename", 87: "unlink", 231: "exit_group", 257: "openat", 263: "unlinkat", 264: "renameat", 316: "renameat2"}
 CHANGES = {"write", "pwrite64", "fsync", "fdatasync", "ftruncate", "link", "rename", "unlink", "openat", "unlinkat", "renameat", "renameat2"}
-TRACE_ME, GET_REGS, SYSCALL, SET_OPTIONS = 0, 12, 24, 0x4200
+TRACE_ME, GET_REGS, SET_REGS, SYSCALL, SET_OPTIONS = 0, 12, 13, 24, 0x4200
+NO_CALL, EIO = MASK, -5 & MASK
 SYS_GOOD, EXIT_KILL = 1, 1 << 20
 LIBC = ctypes.CDLL(None, use_errno=True)
 LIBC.ptrace.argtypes = [ctypes.c_long, ctypes.c_long, ctypes.c_void_p, ctypes.c_void_p]
@@ -300,13 +304,40 @@ class Traced:
             LIBC.ptrace(SYSCALL, self.pid, None, None)
             self.wait()
             if entering and self.status is None:
-                registers = ctypes.create_string_buffer(27 * 8)
-                LIBC.ptrace(GET_REGS, self.pid, None, registers)
-                values = struct.unpack("27Q", registers.raw)
+                values = self.registers()
                 name = CALLS.get(values[15])
                 if name and (name != "openat" or values[12] & (os.O_WRONLY | os.O_RDWR | os.O_CREAT)):
                     yield name, values[14], values[13], values[12]
             entering = not entering
+
+    def registers(self):
+        registers = ctypes.create_string_buffer(27 * 8)
+        LIBC.ptrace(GET_REGS, self.pid, None, registers)
+        return list(struct.unpack("27Q", registers.raw))
+
+    def change(self, values):
+        LIBC.ptrace(SET_REGS, self.pid, None, ctypes.create_string_buffer(struct.pack("27Q", *values)))
+
+    def step(self, change=None):
+        """Goes on to the next entry or exit of a system call, with registers changed first."""
+        if change:
+            self.change(change)
+        LIBC.ptrace(SYSCALL, self.pid, None, None)
+        self.wait()
+
+    def fail_reads(self, spoiled):
+        """Lets every pread of these paths fail that meets their stretch of bytes."""
+        while self.status is None:
+            self.step()
+            if self.status is not None:
+                return
+            entry = self.registers()
+            start, end = spoiled.get(self.opened(entry[14]), (0, 0)) if entry[15] == 17 else (0, 0)  # pread64
+            hit = entry[7] < end and start < entry[7] + entry[12]
+            self.step([*entry[:15], NO_CALL, *entry[16:]] if hit else None)
+            if hit and self.status is None:
+                values = self.registers()
+                self.change([*values[:10], EIO, *values[11:]])
 
     def opened(self, number):
         """The path of an open file."""

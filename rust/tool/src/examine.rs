@@ -35,14 +35,12 @@ pub fn examine(
     let wanted = Wanted::all(set);
     let mut reader = Reader::new(set, bytes, pace);
     let mut batches = geometry.batches(first, bytes).peekable();
+    reader.ahead(batches.peek().copied(), &wanted);
     while let Some(batch) = batches.next() {
         reader.ahead(batches.peek().copied(), &wanted);
         let beyond = reader.load(batch, &wanted)?;
-        let mut blocks = Vec::new();
-        for disk in set.present() {
-            let bad = reader.bad_blocks(disk);
-            blocks.extend(bad.into_iter().map(|unit| BadBlock { disk, unit }));
-        }
+        let bad = reader.bad_blocks();
+        let blocks = bad.into_iter().map(|(disk, unit)| BadBlock { disk, unit }).collect();
         each(Findings { reader: &reader, batch, blocks, beyond })?;
     }
     Ok(reader.read)

@@ -114,6 +114,7 @@ pub fn read_all(set: &Set, sink: &mut impl Sink) -> Result<Account, Fault> {
     let stripe = geometry.shape.data_len();
     let mut room = vec![0; stripe * (CHUNK / stripe).max(1)];
     let mut batches = geometry.batches(0, MOST_BYTES).peekable();
+    reader.ahead(batches.peek().copied(), &wanted);
     while let Some(batch) = batches.next() {
         reader.ahead(batches.peek().copied(), &wanted);
         let beyond = reader.load(batch, &wanted)?;

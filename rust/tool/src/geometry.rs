@@ -248,7 +248,10 @@ mod tests {
         assert_eq!(usual(3, 3, 3000), (10, 80));
         let shape = Shape::new(5, 5, 4096).unwrap();
         let within = |group| Geometry::unit_within(shape, group);
-        assert_eq!([within(None), within(Some(12)), within(Some(7)), within(Some(11))], [8, 6, 7, 1]);
+        assert_eq!(
+            [within(None), within(Some(12)), within(Some(7)), within(Some(11))],
+            [8, 6, 7, 1]
+        );
     }
 
     #[test]

@@ -1,9 +1,9 @@
-//! Work by two threads: checksums are computed while another disk is read.
+//! Work by a few threads: checksums are computed while other disks are read.
 
 use std::sync::Mutex;
 use std::thread;
 
-const THREADS: usize = 2;
+const THREADS: usize = 4;
 
 /// Does all jobs, each thread with memory of its own; the results come in any order.
 pub fn each<J: Send, R: Send, M>(

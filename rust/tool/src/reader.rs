@@ -12,6 +12,7 @@ use crate::fault::Fault;
 use crate::geometry::{Batch, Geometry};
 use crate::image::Bounce;
 use crate::pace::Pace;
+use crate::parallel;
 use crate::rows::{self, Row};
 use crate::set::{joined, Set};
 use crate::wanted::{Reading, Wanted, Way};
@@ -121,9 +122,15 @@ impl<'a> Reader<'a> {
         &self.bad
     }
 
-    /// Tells the kernel what is read next.
+    /// Tells the kernel what is read next: first the checksum blocks, which are waited for first.
     pub fn ahead(&self, batch: Option<Batch>, wanted: &Wanted) {
         let Some(batch) = batch.filter(|_| !self.pace.is_limited()) else { return };
+        if let Some(image) =
+            wanted.quietest(self.set).first().and_then(|disk| self.set.image(*disk))
+        {
+            let len = batch.units * self.geometry.block_len();
+            image.ahead(self.geometry.block_at(batch.unit), len as u64);
+        }
         for Reading { disk, rows } in &wanted.readings {
             let Some(image) = self.set.image(*disk) else { continue };
             for row in rows.clone() {
@@ -197,19 +204,26 @@ impl<'a> Reader<'a> {
         self.has(unit, &disks) && self.bad.iter().all(|bad| bad.unit != unit)
     }
 
-    /// The units of the batch whose block on a disk is not the one that is known.
-    pub fn bad_blocks(&mut self, disk: usize) -> Vec<usize> {
-        let Some(image) = self.set.image(disk) else { return Vec::new() };
+    /// The blocks of the batch, by disk and unit, that are not the ones that are known.
+    pub fn bad_blocks(&mut self) -> Vec<(usize, usize)> {
         let (len, batch) = (self.geometry.block_len(), self.cells.batch);
-        let mut bytes = vec![0; batch.units * len];
-        let at = self.geometry.block_at(batch.unit);
-        let read = image.read(&mut bytes, at, &mut self.bounce).is_ok();
-        self.count(bytes.len());
-        let bad = |unit: &usize| {
-            let block = &bytes[unit * len..(unit + 1) * len];
-            self.blocks.is_known(*unit) && (!read || block != self.blocks.block(*unit))
+        let (set, blocks, at) = (self.set, &self.blocks, self.geometry.block_at(batch.unit));
+        let look = |disk: usize, bounce: &mut Bounce| -> Vec<(usize, usize)> {
+            let mut bytes = vec![0; batch.units * len];
+            let image = set.image(disk);
+            let read = image.is_some_and(|image| image.read(&mut bytes, at, bounce).is_ok());
+            let bad = |unit: &usize| {
+                let block = &bytes[unit * len..(unit + 1) * len];
+                blocks.is_known(*unit) && (!read || block != blocks.block(*unit))
+            };
+            (0..batch.units).filter(bad).map(|unit| (disk, unit)).collect()
         };
-        (0..batch.units).filter(bad).collect()
+        let disks: Vec<usize> = set.present().collect();
+        let read = disks.len() * batch.units * len;
+        let mut bad = parallel::each(disks, Bounce::new, look).concat();
+        bad.sort();
+        self.count(read);
+        bad
     }
 
     fn count(&mut self, bytes: usize) {

@@ -67,10 +67,9 @@ pub fn rebuild(
     let mut account = Account { stripes: 0, kept: 0, read: 0, mended: 0, beyond: Vec::new() };
     let begun = spares.iter().any(|spare| spare.begun);
     let mut batches = geometry.batches(0, bytes).peekable();
+    reader.ahead(batches.peek().copied().filter(|_| !begun), wanted);
     while let Some(batch) = batches.next() {
-        if !begun {
-            reader.ahead(batches.peek().copied(), wanted);
-        }
+        reader.ahead(batches.peek().copied().filter(|_| !begun), wanted);
         for part in missing(geometry, &mut reader, batch, wanted, spares) {
             let beyond = reader.load(part, wanted)?;
             account.stripes += part.count as u64;
