@@ -55,10 +55,11 @@ pub fn encode<R: Read>(
 ) -> Result<Label, Fault> {
     let mut geometry = geometry;
     let (mut cells, mut blocks) = (Cells::new(geometry, MOST_BYTES), Blocks::new(set, geometry));
+    let mut stripe = vec![0; geometry.shape.stripe_len()];
     let (mut length, mut unit) = (0, 0);
     while unit < geometry.units() {
         cells.batch = geometry.batch(unit, MOST_BYTES);
-        let filled = fill(source, geometry, length, &mut cells)?;
+        let filled = fill(source, geometry, length, &mut stripe, &mut cells)?;
         let full = (cells.batch.count * geometry.shape.data_len()) as u64;
         length += filled;
         if length > MOST_LENGTH {
@@ -92,10 +93,10 @@ fn fill<R: Read>(
     source: &mut Source<R>,
     geometry: Geometry,
     length: u64,
+    stripe: &mut [u8],
     cells: &mut Cells,
 ) -> Result<u64, Fault> {
     let shape = geometry.shape;
-    let mut stripe = vec![0; shape.stripe_len()];
     let mut filled = 0;
     for place in 0..cells.batch.count {
         let here = source.fill(length + filled, &mut stripe[..shape.data_len()])?;
@@ -103,7 +104,7 @@ fn fill<R: Read>(
             break;
         }
         stripe[here..shape.data_len()].fill(0);
-        shape.encode(&mut stripe)?;
+        shape.encode(stripe)?;
         for disk in 0..geometry.disks() {
             cells.put(disk, place, &stripe[shape.disk_range(disk)]);
         }

@@ -192,10 +192,15 @@ impl Output {
         self.file.sync_all().map_err(|error| self.fault(0, &error))
     }
 
-    /// Marks an image as one that is being written, so that none takes it for whole.
-    pub fn mark(&self, label: &Label, disk: usize) -> Result<(), Fault> {
+    /// Marks an image as one that is being written, so that none takes it for whole. A drive must be long enough; a file
+    /// gets its length once its mark is on the disk.
+    pub fn mark(&mut self, label: &Label, disk: usize, len: u64) -> Result<(), Fault> {
+        if self.drive.is_some() {
+            self.set_len(len)?;
+        }
         self.write(&label.mark(disk), 0)?;
-        self.sync()
+        self.sync()?;
+        self.set_len(len)
     }
 
     /// Labels an image whose cells and checksum blocks are all written: a drive's after a sync of these.

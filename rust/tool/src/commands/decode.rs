@@ -56,7 +56,12 @@ fn run(given: &Given) -> Result<(), Fault> {
             return Err(fault);
         }
     };
-    way.target.finish(way.gaps)?;
+    if let Err(fault) = way.target.finish(length, way.gaps) {
+        if !matches!(fault, Fault::Beyond(_)) {
+            way.target.discard();
+        }
+        return Err(fault);
+    }
     if given.operands[1] == "-" {
         return Ok(());
     }
@@ -110,17 +115,14 @@ impl Target {
                 let file = file.map_err(|error| Fault::path(path, error))?;
                 Ok(Target::Stream(file, path.display().to_string()))
             }
-            Err(_) => {
-                let mut output = Output::create(path)?;
-                output.set_len(length)?;
-                Ok(Target::Output(output))
-            }
+            Err(_) => Ok(Target::Output(Output::create(path)?)),
         }
     }
 
     /// Makes the film last; one with gaps keeps the name of a part.
-    fn finish(&self, gaps: u64) -> Result<(), Fault> {
+    fn finish(&mut self, length: u64, gaps: u64) -> Result<(), Fault> {
         let Target::Output(output) = self else { return Ok(()) };
+        output.set_len(length)?;
         output.sync()?;
         if gaps > 0 {
             return Err(Fault::Beyond(format!(

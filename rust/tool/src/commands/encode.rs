@@ -48,7 +48,8 @@ fn run(given: &Given) -> Result<(), Fault> {
     let name = new_name().map_err(|error| Fault::path(Path::new("/dev/urandom"), error))?;
     let mut outputs = Vec::new();
     let mut progress = Progress::new("encode".into(), source.length, given.flag("-q"));
-    let done = create_all(folder, &Label { set: name, geometry }, &named, &mut outputs)
+    let (label, known) = (Label { set: name, geometry }, source.length.is_some());
+    let done = create_all(folder, &label, known, &named, &mut outputs)
         .and_then(|()| encode(&mut source, name, geometry, &outputs, |film| progress.add(film)))
         .and_then(|label| label_all(&label, &mut outputs).map(|()| label));
     drop(progress);
@@ -70,7 +71,7 @@ fn run(given: &Given) -> Result<(), Fault> {
 }
 
 /// The numbers of the set; of a film whose length is not known yet, as if it were the longest.
-fn geometry(
+pub fn geometry(
     given: &Given,
     shape: cuzhaveli::Shape,
     length: Option<u64>,
@@ -128,14 +129,17 @@ fn make_folder(folder: &Path) -> Result<(), Fault> {
     }
 }
 
-/// Creates the images, in a folder that has none of any number; drives are marked as being written.
+/// Creates the images, in a folder that has none of any number; drives are marked as being written, if the film's length
+/// is known and they are long enough.
 fn create_all(
     folder: &Path,
     label: &Label,
+    known: bool,
     named: &Overwrite,
     outputs: &mut Vec<Output>,
 ) -> Result<(), Fault> {
     let disks = label.geometry.disks();
+    let bytes = if known { label.geometry.image_bytes() } else { 0 };
     for path in (disks..MOST_DISKS).map(|disk| image_path(folder, disk)) {
         if path.symlink_metadata().is_ok() {
             return Err(taken(&path));
@@ -154,8 +158,8 @@ fn create_all(
             apart(output.path(), drive, &before.collect::<Vec<_>>())?;
         }
     }
-    for (disk, output) in outputs.iter().enumerate().filter(|(_, output)| output.drive.is_some()) {
-        output.mark(label, disk)?;
+    for (disk, output) in outputs.iter_mut().enumerate().filter(|(_, one)| one.drive.is_some()) {
+        output.mark(label, disk, bytes)?;
     }
     Ok(())
 }

@@ -103,8 +103,7 @@ fn spares(set: &Set, lost: &[usize], named: &Overwrite) -> Result<Vec<Spare>, Fa
         apart(spare.output.path(), drive, &written.chain(read).collect::<Vec<(&Path, u64)>>())?;
     }
     for spare in &mut spares {
-        spare.output.set_len(set.label.geometry.image_bytes())?;
-        spare.output.mark(&set.label, spare.disk)?;
+        spare.output.mark(&set.label, spare.disk, set.label.geometry.image_bytes())?;
     }
     Ok(spares)
 }
