@@ -156,3 +156,85 @@ fn give(
     }
     Ok(())
 }
+
+#[cfg(test)]
+mod tests {
+    use std::path::PathBuf;
+
+    use cuzhaveli::Shape;
+
+    use super::*;
+    use crate::encode::{encode, Source};
+    use crate::label::new_name;
+    use crate::output::Output;
+    use crate::set::image_path;
+
+    /// A set of images in a folder that is removed at the end.
+    struct Scratch(PathBuf);
+
+    impl Drop for Scratch {
+        fn drop(&mut self) {
+            let _ = std::fs::remove_dir_all(&self.0);
+        }
+    }
+
+    fn encoded(name: &str, film: &[u8], geometry: Geometry) -> Scratch {
+        let folder = std::env::temp_dir().join(format!("cuzhaveli-{name}-{}", std::process::id()));
+        std::fs::create_dir(&folder).unwrap();
+        let scratch = Scratch(folder);
+        let create = |disk| Output::create(&image_path(&scratch.0, disk)).unwrap();
+        let mut outputs: Vec<Output> = (0..geometry.disks()).map(create).collect();
+        let mut source = Source { film, length: Some(geometry.length), name: "film".into() };
+        let set = new_name().unwrap();
+        let label = encode(&mut source, set, geometry, &outputs, |_| ()).unwrap();
+        for (disk, output) in outputs.iter_mut().enumerate() {
+            output.label(&label, disk).unwrap();
+            output.name().unwrap();
+        }
+        scratch
+    }
+
+    /// Every place and some lengths, with none, one and two disks lost and a bad byte.
+    #[test]
+    fn any_bytes_of_the_film() {
+        let bytes: Vec<u8> = (0..1000u32).map(|n| (n * n >> 3) as u8).collect();
+        let shape = Shape::new(3, 3, 7).unwrap();
+        let geometry = Geometry::new(shape, 2, 6, bytes.len() as u64).unwrap();
+        let scratch = encoded("any", &bytes, geometry);
+        for lost in [None, Some(1), Some(4), Some(0)] {
+            if let Some(disk) = lost {
+                let _ = std::fs::remove_file(image_path(&scratch.0, disk));
+            }
+            if lost == Some(0) {
+                break; // three are lost
+            }
+            let set = Set::open(&scratch.0, &[]).unwrap();
+            let mut film = Film::new(&set).unwrap();
+            for at in 0..1010 {
+                for len in [0, 1, 8, 64, 300] {
+                    let mut read = vec![0; len];
+                    let got = film.read(at as u64, &mut read).unwrap();
+                    let wanted = &bytes[at.min(1000)..(at + len).min(1000)];
+                    assert_eq!(&read[..got], wanted, "{len} bytes at {at}, lost {lost:?}");
+                }
+            }
+        }
+        assert!(Set::open(&scratch.0, &[]).is_err());
+    }
+
+    /// A read of a few bytes reads their pieces and a checksum block alone.
+    #[test]
+    fn little_is_read_for_little() {
+        let bytes = vec![5; 6000];
+        let shape = Shape::new(5, 5, 16).unwrap();
+        let geometry = Geometry::new(shape, 2, 4, 6000).unwrap();
+        let scratch = encoded("little", &bytes, geometry);
+        let set = Set::open(&scratch.0, &[]).unwrap();
+        let mut film = Film::new(&set).unwrap();
+        let mut read = [0; 16];
+        film.read(1600, &mut read).unwrap();
+        assert_eq!(film.reader.read, 2 * 16 + geometry.block_len() as u64);
+        film.read(1605, &mut read[..3]).unwrap();
+        assert_eq!(film.reader.read, 2 * 16 + geometry.block_len() as u64);
+    }
+}

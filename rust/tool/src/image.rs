@@ -37,11 +37,6 @@ pub struct Image {
     pub len: u64,
 }
 
-/// Whether both are the same open file or drive.
-fn same(one: &Metadata, other: &Metadata) -> bool {
-    (one.dev(), one.ino(), one.rdev()) == (other.dev(), other.ino(), other.rdev())
-}
-
 /// Opens a file or drive for reading; what is neither is an error, and is not waited for.
 pub fn open_to_read(path: &Path, flags: i32) -> io::Result<File> {
     let ours = |data: Metadata| data.is_file() || sys::drive(&data).is_some();
@@ -70,11 +65,18 @@ impl Image {
     pub fn go_direct(&mut self) -> bool {
         let open = || -> io::Result<File> {
             let file = open_to_read(&self.path, sys::DIRECT)?;
-            let same = same(&file.metadata()?, &self.file.metadata()?);
-            same.then_some(file).ok_or_else(|| ErrorKind::NotFound.into())
+            // Some file systems open it and refuse to read.
+            read_direct(&file, &mut [0], 0, Bounce::new().aligned())?;
+            self.is(&file.metadata()?).then_some(file).ok_or_else(|| ErrorKind::NotFound.into())
         };
         self.direct = open().ok();
         self.direct.is_some()
+    }
+
+    /// Whether this is the same file or drive.
+    pub fn is(&self, other: &Metadata) -> bool {
+        let id = |data: &Metadata| (data.dev(), data.ino(), data.rdev());
+        self.file.metadata().is_ok_and(|data| id(&data) == id(other))
     }
 
     /// Reads all of the bytes.

@@ -9,6 +9,7 @@ use std::path::{Path, PathBuf};
 use crate::drives::Overwrite;
 use crate::fault::Fault;
 use crate::geometry::LABEL_BYTES;
+use crate::image::Image;
 use crate::label::{Block, Found, Label};
 use crate::sys;
 
@@ -75,12 +76,8 @@ impl Output {
         Output::create_part(target)
     }
 
-    /// A new file that is to take the place of what has its name.
-    pub fn create_beside(target: &Path) -> Result<Output, Fault> {
-        Output::create_part(target).map(Output::replacing)
-    }
-
-    fn create_part(target: &Path) -> Result<Output, Fault> {
+    /// A new file beside what may have its name.
+    pub fn create_part(target: &Path) -> Result<Output, Fault> {
         let path = part_path(target);
         let mut options = OpenOptions::new();
         options.read(true).write(true).create_new(true).custom_flags(sys::NO_FOLLOW);
@@ -115,6 +112,19 @@ impl Output {
              --overwrite {0}",
             path.display()
         )))
+    }
+
+    /// A file that is an image, to be repaired in place.
+    pub fn image(image: &Image) -> Result<Output, Fault> {
+        let path = &image.path;
+        let mut options = OpenOptions::new();
+        options.read(true).write(true).custom_flags(sys::NO_FOLLOW | sys::NO_WAIT);
+        let file = options.open(path).map_err(|error| Fault::path(path, error))?;
+        let data = file.metadata().map_err(|error| Fault::path(path, error))?;
+        if !image.is(&data) {
+            return Err(Fault::Failed(format!("{} is another file now", path.display())));
+        }
+        Ok(Output { target: path.into(), path: path.into(), file, drive: None, replaces: false })
     }
 
     /// The file in which a rebuild of this disk was begun, if there is one that begins with one of these blocks.
@@ -237,14 +247,6 @@ impl Output {
     fn fault(&self, byte: u64, error: &io::Error) -> Fault {
         Fault::byte(&self.path, byte, error)
     }
-}
-
-/// An image that is there, opened to be repaired in place.
-pub fn open_to_repair(path: &Path) -> Result<Output, Fault> {
-    let mut options = OpenOptions::new();
-    options.read(true).write(true).custom_flags(sys::NO_FOLLOW | sys::NO_WAIT);
-    let file = options.open(path).map_err(|error| Fault::path(path, error))?;
-    Ok(Output { target: path.into(), path: path.into(), file, drive: None, replaces: false })
 }
 
 fn busy(path: &Path, error: io::Error) -> Fault {

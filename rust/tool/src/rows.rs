@@ -11,7 +11,7 @@ use crate::parallel;
 use crate::set::Set;
 
 /// A row of a disk.
-#[derive(Clone, Copy, Debug, PartialEq, Eq)]
+#[derive(Clone, Copy, Debug, PartialEq, Eq, PartialOrd, Ord)]
 pub struct Row {
     pub disk: usize,
     pub row: usize,
@@ -54,7 +54,9 @@ pub fn read(
         };
         return jobs.into_iter().map(paced).collect();
     }
-    parallel::each(jobs, Bounce::new, one)
+    let mut done = parallel::each(jobs, Bounce::new, one);
+    done.sort_by_key(|(row, _)| *row);
+    done
 }
 
 fn read_row(

@@ -199,6 +199,12 @@ impl Set {
         (0..self.places.len()).filter(|disk| self.image(*disk).is_some())
     }
 
+    /// The images that are drives, and their numbers.
+    pub fn drives(&self) -> Vec<(&Path, u64)> {
+        let images = self.present().filter_map(|disk| self.image(disk));
+        images.filter_map(|image| Some((&*image.path, image.drive?))).collect()
+    }
+
     /// From now on images are read past the page cache; the disks where that cannot be had.
     pub fn go_direct(&mut self) -> Vec<usize> {
         let mut cached = Vec::new();

@@ -4,7 +4,7 @@ use std::fs::{self, File, OpenOptions};
 use std::io::{self, Write};
 use std::os::fd::AsFd;
 
-use cuzhaveli_tool::drives::drive_at;
+use cuzhaveli_tool::drives::{apart, drive_at};
 use cuzhaveli_tool::film::{read_all, Account, Sink};
 use cuzhaveli_tool::output::{folder_of, sync_folder, taken, Output};
 use cuzhaveli_tool::reader::Beyond;
@@ -44,7 +44,7 @@ fn run(given: &Given) -> Result<(), Fault> {
     let set = Set::open(given.path(0), &[])?;
     say::notes(&set);
     let length = set.label.geometry.length;
-    let target = Target::open(given, length)?;
+    let target = Target::open(given, &set)?;
     let progress = Progress::new("decode".into(), Some(length), given.flag("-q"));
     let mut way = Way { set: &set, target, progress, gaps: 0 };
     let done = read_all(&set, &mut way);
@@ -93,7 +93,7 @@ impl Sink for Way<'_> {
 }
 
 impl Target {
-    fn open(given: &Given, length: u64) -> Result<Target, Fault> {
+    fn open(given: &Given, set: &Set) -> Result<Target, Fault> {
         let (name, path) = (&given.operands[1], given.path(1));
         let named = given.overwrite()?;
         if name == "-" {
@@ -103,9 +103,10 @@ impl Target {
                 output.map_err(|error| Fault::Failed(format!("standard output: {error}")))?;
             return Ok(Target::Stream(file, "standard output".into()));
         }
-        if drive_at(path).is_some() {
+        if let Some(drive) = drive_at(path) {
+            apart(path, drive, &set.drives())?;
             let mut output = Output::drive(path, &named, &[])?;
-            output.set_len(length)?;
+            output.set_len(set.label.geometry.length)?;
             return Ok(Target::Output(output));
         }
         match fs::metadata(path) {

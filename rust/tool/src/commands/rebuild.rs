@@ -1,7 +1,5 @@
 //! `rebuild`: the lost images of a set.
 
-use std::path::Path;
-
 use cuzhaveli_tool::drives::{apart, drive_at, Overwrite};
 use cuzhaveli_tool::output::{lock, Output};
 use cuzhaveli_tool::rebuild::{rebuild, Account, Spare};
@@ -98,9 +96,7 @@ fn spares(set: &Set, lost: &[usize], named: &Overwrite) -> Result<Vec<Spare>, Fa
         let Some(drive) = spare.output.drive else { continue };
         let written = spares[..number].iter().map(|spare| &spare.output);
         let written = written.filter_map(|output| Some((output.path(), output.drive?)));
-        let read = set.present().filter_map(|disk| set.image(disk));
-        let read = read.filter_map(|image| Some((&*image.path, image.drive?)));
-        apart(spare.output.path(), drive, &written.chain(read).collect::<Vec<(&Path, u64)>>())?;
+        apart(spare.output.path(), drive, &written.chain(set.drives()).collect::<Vec<_>>())?;
     }
     for spare in &mut spares {
         spare.output.mark(&set.label, spare.disk, set.label.geometry.image_bytes())?;
@@ -116,10 +112,12 @@ fn spare(set: &Set, disk: usize, named: &Overwrite) -> Result<Spare, Fault> {
         let begun = ours.contains(&output.first_block()?);
         return Ok(Spare { disk, output, begun });
     }
-    match Output::begun(&path, &ours)? {
-        Some(output) => Ok(Spare { disk, output: output.replacing(), begun: true }),
-        None => Ok(Spare { disk, output: Output::create_beside(&path)?, begun: false }),
-    }
+    let (output, begun) = match Output::begun(&path, &ours)? {
+        Some(output) => (output, true),
+        None => (Output::create_part(&path)?, false),
+    };
+    let stands = path.symlink_metadata().is_ok(); // and counts as lost
+    Ok(Spare { disk, output: if stands { output.replacing() } else { output }, begun })
 }
 
 /// What stands in a lost disk's place is not overwritten unless that disk is named.

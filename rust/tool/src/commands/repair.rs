@@ -1,7 +1,6 @@
 //! `repair`: what is bad in the images that are there.
 
-use cuzhaveli_tool::drives::drive_at;
-use cuzhaveli_tool::output::{lock, open_to_repair, Output};
+use cuzhaveli_tool::output::{lock, Output};
 use cuzhaveli_tool::repair::{repair, Account};
 use cuzhaveli_tool::set::{joined, Set};
 
@@ -32,10 +31,9 @@ fn run(given: &Given) -> Result<(), Fault> {
     let mut progress =
         Progress::new("repair".into(), Some(each * geometry.stripes), given.flag("-q"));
     let mut open = |disk: usize| -> Result<Output, Fault> {
-        let path = set.path(disk);
-        match drive_at(&path) {
-            Some(_) => Output::drive(&path, &named, &[set.label.block(disk)]),
-            None => open_to_repair(&path),
+        match set.image(disk) {
+            Some(image) if image.drive.is_none() => Output::image(image),
+            _ => Output::drive(&set.path(disk), &named, &[set.label.block(disk)]),
         }
     };
     let done = repair(&set, pace, &mut open, |stripes| progress.add(stripes * each));
