@@ -232,10 +232,12 @@ def random_reads(setting):
                 images.lose(disk)
                 continue
             for _ in range(draw.choice((1, 3, 40))):
-                images.flip(disk, draw.randrange(images.image_bytes()), draw.randrange(1, 256))
+                anywhere, cell = draw.randrange(images.image_bytes()), images.offset(draw.randrange(9), draw.randrange(5)) + draw.randrange(16)
+                images.flip(disk, anywhere if draw.random() < 0.3 else cell, draw.randrange(1, 256))
         done = setting.call("decode", images.folder, out := setting.new())
         expect(done.status in told and (done.status != 0 or out.read_bytes() == film), done.told())
         told[done.status] += 1
+    expect(all(told.values()), f"not every end was seen: {told}")
     return f"{told[0]} films, {told[5]} refused, {told[6]} with gaps told"
 
 

@@ -193,6 +193,18 @@ def closed_pipes(setting):
     return "5 calls"
 
 
+def all_of(terminal):
+    """What was written to a terminal that is closed at the other end."""
+    text = b""
+    try:
+        while more := os.read(terminal, 4096):
+            text += more
+    except OSError:
+        pass
+    os.close(terminal)
+    return text
+
+
 def progress(setting):
     """The bar is on standard error if that is a terminal, and not with -q; results are one line all the same."""
     images = setting.encoded(noise(5 * 5 * 16 * 10), 5, s=16)
@@ -201,11 +213,7 @@ def progress(setting):
         ours, theirs = pty.openpty()
         done = setting.call("rebuild", *quiet, "--disk", 1, images.folder, stderr=theirs, status=0)
         os.close(theirs)
-        try:
-            shown[len(quiet)] = os.read(ours, 4096)
-        except OSError:
-            shown[len(quiet)] = b""
-        os.close(ours)
+        shown[len(quiet)] = all_of(ours)
         expect(done.out.count(b"\n") == 1, done.told())
     expect(b"rebuild disk 1 [" in shown[0] and b" % " in shown[0], f"no bar: {shown[0]}")
     expect(shown[1] == b"", f"a bar with -q: {shown[1]}")
