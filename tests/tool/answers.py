@@ -89,6 +89,13 @@ def spaces_and_bills(setting):
             expect(done.out.endswith(f",bytes,{2 * taken},fits,{fits}\n".encode()), f"an image has {taken}: {done.told()}")
     done = setting.call("bill", "--rates", "10,5,1", "--bytes", "65G", status=0)
     expect(done.out == b"first,68719476736,second,1073741824,third,0,cents,645\n", done.told())
+    images = setting.encoded(noise(5 * 5 * 16 * 9), 5, s=16, group=4)
+    images.flip(3, images.offset(0, 0))
+    done = setting.call("rebuild", "--rates", "10,5,1", "--disk", 1, images.folder, status=0)
+    rebuilt, bill = done.out.decode().splitlines()
+    read = rebuilt.split(",read,")[1].split(",")[0]
+    expect(bill.startswith(f"first,{read},second,0,") and rebuilt.endswith(",mended,1"), done.told())
+    expect(int(read) > int(setting.call("rebuild", "-n", "--disk", 1, images.folder, status=0).fields()["read"]), done.told())
     return "20 calls"
 
 

@@ -33,7 +33,8 @@ pub fn drive_at(path: &Path) -> Option<u64> {
     fs::metadata(path).ok().and_then(|data| sys::drive(&data))
 }
 
-/// Refuses a drive that another path leads to as well, or of which it is a partition, or the other way round.
+/// Refuses a drive that another path leads to as well, or of which it is a partition, or the other
+/// way round.
 pub fn apart(path: &Path, drive: u64, others: &[(&Path, u64)]) -> Result<(), Fault> {
     let whole = sys::whole_drive(drive);
     let same = |(_, other): &&(&Path, u64)| {

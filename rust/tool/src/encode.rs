@@ -5,7 +5,7 @@ use std::io::{self, ErrorKind, Read};
 use crate::blocks::Blocks;
 use crate::cells::Cells;
 use crate::fault::Fault;
-use crate::geometry::{Batch, Geometry, LABEL_BYTES, MOST_BYTES, MOST_LENGTH};
+use crate::geometry::{Batch, Geometry, LABEL_BYTES, MOST_BYTES};
 use crate::label::Label;
 use crate::output::Output;
 use crate::sums::SetName;
@@ -39,13 +39,14 @@ impl<R: Read> Source<R> {
 
     fn changed(&self) -> Fault {
         Fault::Failed(format!(
-            "{}: its length changed while it was read; encode it again",
+            "{}: its length changed while it was read, or is over 2^48 bytes; encode it again",
             self.name
         ))
     }
 }
 
-/// Writes the cells and checksum blocks of a film; gives the label of the set, which is not written yet.
+/// Writes the cells and checksum blocks of a film; gives the label of the set, which is not written
+/// yet.
 pub fn encode<R: Read>(
     source: &mut Source<R>,
     set: SetName,
@@ -62,15 +63,14 @@ pub fn encode<R: Read>(
         let filled = fill(source, geometry, length, &mut stripe, &mut cells)?;
         let full = (cells.batch.count * geometry.shape.data_len()) as u64;
         length += filled;
-        if length > MOST_LENGTH {
-            return Err(Fault::Failed(format!("{}: more than 2^48 bytes", source.name)));
-        }
         if filled < full && source.length.is_none() {
             geometry = geometry.with_length(length).ok_or_else(|| source.changed())?;
             if geometry.units() <= unit {
                 break;
             }
             cells.shorten(geometry.batch(unit, MOST_BYTES));
+        } else if filled < full && length < geometry.length {
+            return Err(source.changed());
         }
         blocks.clear(cells.batch);
         blocks.seal(&cells);
@@ -80,15 +80,15 @@ pub fn encode<R: Read>(
         unit = cells.batch.end_unit();
         done(filled);
     }
-    let more = source.length.is_some() && source.fill(length, &mut [0])? > 0;
-    if more || source.length.is_some_and(|known| known != length) {
-        return Err(source.changed());
+    if source.length.is_none_or(|known| known == length) && source.fill(length, &mut [0])? == 0 {
+        let geometry = geometry.with_length(length).ok_or_else(|| source.changed())?;
+        return Ok(Label { set, geometry });
     }
-    let geometry = geometry.with_length(length).ok_or_else(|| source.changed())?;
-    Ok(Label { set, geometry })
+    Err(source.changed())
 }
 
-/// Reads film to the stripes of a batch, with zeros after its end, and encodes them; gives the bytes of film.
+/// Reads film to the stripes of a batch, with zeros after its end, and encodes them; gives the
+/// bytes of film.
 fn fill<R: Read>(
     source: &mut Source<R>,
     geometry: Geometry,

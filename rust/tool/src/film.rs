@@ -44,7 +44,8 @@ impl<'a> Film<'a> {
         Ok(len)
     }
 
-    /// Reads film of one unit: just its pieces or, where a disk of them is lost, all that brings them back.
+    /// Reads film of one unit: just its pieces or, where a disk of them is lost, all that brings
+    /// them back.
     fn read_unit(&mut self, unit: u64, at: u64, bytes: &mut [u8]) -> Result<(), Fault> {
         let readings = self.pieces(at, bytes.len() as u64);
         let there = readings.iter().all(|reading| self.set.image(reading.disk).is_some());

@@ -155,7 +155,8 @@ impl Geometry {
         self.end() + LABEL_BYTES as u64
     }
 
-    /// Units from `unit` on that are worked on at once: of its group, of at most so many bytes of stripes.
+    /// Units from `unit` on that are worked on at once: of its group, of at most so many bytes of
+    /// stripes.
     pub fn batch(self, unit: u64, bytes: u64) -> Batch {
         let in_group = self.group / self.unit;
         let left = (in_group - unit % in_group).min(self.units() - unit);

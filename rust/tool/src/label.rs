@@ -84,7 +84,8 @@ impl Label {
 }
 
 impl Found {
-    /// Reads a block. What it says is taken only if a label that says so is that block, byte for byte.
+    /// Reads a block. What it says is taken only if a label that says so is that block, byte for
+    /// byte.
     pub fn of(block: &Block) -> Found {
         if *block == [0; LABEL_BYTES] {
             return Found::Blank;

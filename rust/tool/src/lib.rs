@@ -1,9 +1,9 @@
 //! Images of disks with a film, in layout 2: written once and named last; what may be believed is
 //! what their checksums say. docs/cuzhaveli.1 describes the layout.
 //!
-//! [`set::Set`] opens the images of a folder, [`reader::Reader`] reads them, [`film::Film`] gives any
-//! bytes of the film; [`rebuild`], [`repair`] and [`encode`] write. All coding is done by the proved
-//! library.
+//! [`set::Set`] opens the images of a folder, [`reader::Reader`] reads them, [`film::Film`] gives
+//! any bytes of the film; [`rebuild`], [`repair`] and [`encode`] write. All coding is done by the
+//! proved library.
 
 pub mod blocks;
 pub mod cells;

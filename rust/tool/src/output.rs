@@ -88,7 +88,8 @@ impl Output {
         Ok(Output { target: target.into(), path, file, drive: None, replaces: false })
     }
 
-    /// A drive that no one else has and that may be overwritten: it is named, or begins with one of these blocks.
+    /// A drive that no one else has and that may be overwritten: it is named, or begins with one of
+    /// these blocks.
     pub fn drive(path: &Path, named: &Overwrite, ours: &[Block]) -> Result<Output, Fault> {
         let mut options = OpenOptions::new();
         options.read(true).write(true).custom_flags(sys::EXCLUSIVE | sys::NO_WAIT);
@@ -127,7 +128,8 @@ impl Output {
         Ok(Output { target: path.into(), path: path.into(), file, drive: None, replaces: false })
     }
 
-    /// The file in which a rebuild of this disk was begun, if there is one that begins with one of these blocks.
+    /// The file in which a rebuild of this disk was begun, if there is one that begins with one of
+    /// these blocks.
     pub fn begun(target: &Path, ours: &[Block]) -> Result<Option<Output>, Fault> {
         let path = part_path(target);
         match path.symlink_metadata() {
@@ -202,8 +204,8 @@ impl Output {
         self.file.sync_all().map_err(|error| self.fault(0, &error))
     }
 
-    /// Marks an image as one that is being written, so that none takes it for whole. A drive must be long enough; a file
-    /// gets its length once its mark is on the disk.
+    /// Marks an image as one that is being written, so that none takes it for whole. A drive must
+    /// be long enough; a file gets its length once its mark is on the disk.
     pub fn mark(&mut self, label: &Label, disk: usize, len: u64) -> Result<(), Fault> {
         if self.drive.is_some() {
             self.set_len(len)?;
@@ -213,7 +215,8 @@ impl Output {
         self.set_len(len)
     }
 
-    /// Labels an image whose cells and checksum blocks are all written: a drive's after a sync of these.
+    /// Labels an image whose cells and checksum blocks are all written: a drive's after a sync of
+    /// these.
     pub fn label(&self, label: &Label, disk: usize) -> Result<(), Fault> {
         if self.drive.is_some() {
             self.sync()?;

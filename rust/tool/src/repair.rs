@@ -1,5 +1,5 @@
-//! Repair in place: just what is bad, to the bytes that the checksums name, one disk after the other,
-//! so that a power cut hurts one disk that was bad there already.
+//! Repair in place: just what is bad, to the bytes that the checksums name, one disk after the
+//! other, so that a power cut hurts one disk that was bad there already.
 
 use crate::encode::write_blocks;
 use crate::examine::{examine, Findings};

@@ -89,8 +89,8 @@ fn names(seen: &Seen, disk: usize, label: &Label) -> bool {
 }
 
 impl Set {
-    /// Opens the set that at least as many images name as it has data disks. Disks that the command names count as
-    /// lost, whatever stands there.
+    /// Opens the set that at least as many images name as it has data disks. Disks that the command
+    /// names count as lost, whatever stands there.
     pub fn open(folder: &Path, named: &[usize]) -> Result<Set, Fault> {
         std::fs::read_dir(folder).map_err(|error| Fault::path(folder, error))?;
         let look = |disk| match named.contains(&disk) {

@@ -9,7 +9,8 @@ pub type SetName = [u8; 16];
 /// Disk and row of a guard.
 const GUARD: u32 = u32::MAX;
 
-/// What a sum depends on beside the bytes: set and place, so that stale or misplaced ones do not fit.
+/// What a sum depends on beside the bytes: set and place, so that stale or misplaced ones do not
+/// fit.
 fn seed(set: &SetName, disk: u32, row: u32, unit: u64) -> u64 {
     let mut place = [0; 32];
     place[..16].copy_from_slice(set);

@@ -13,7 +13,8 @@ pub struct Reading {
     pub rows: Range<usize>,
 }
 
-/// A cell that a call of the library needs, and the disk whose place it takes: its own, but by rows.
+/// A cell that a call of the library needs, and the disk whose place it takes: its own, but by
+/// rows.
 #[derive(Clone, Copy, Debug)]
 pub struct Need {
     pub row: usize,
@@ -122,8 +123,8 @@ impl Wanted {
         })
     }
 
-    /// Every row. P stands in the place of a lost data disk, and the XOR of each row, which is P otherwise, is what was
-    /// lost.
+    /// Every row. P stands in the place of a lost data disk, and the XOR of each row, which is P
+    /// otherwise, is what was lost.
     fn by_rows(set: &Set, lost: usize) -> Wanted {
         let shape = set.label.geometry.shape;
         let disks = set.present().filter(|disk| *disk <= shape.disks());
@@ -135,8 +136,8 @@ impl Wanted {
         wanted
     }
 
-    /// What the film needs: the data disks and, for one that is lost, the parity cells of a plan; all of the others
-    /// where two are lost.
+    /// What the film needs: the data disks and, for one that is lost, the parity cells of a plan;
+    /// all of the others where two are lost.
     pub fn film(set: &Set) -> Result<Wanted, Refusal> {
         let shape = set.label.geometry.shape;
         let data = |disk: &usize| *disk < shape.disks();

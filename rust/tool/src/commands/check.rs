@@ -40,17 +40,7 @@ fn run(given: &Given) -> Result<(), Fault> {
     say::notes(&set);
     let geometry = set.label.geometry;
     let mut count = Count { bad: set.bad_labels.len() as u64, ..Count::default() };
-    for disk in set.lost() {
-        let why = match set.absence(disk) {
-            Some(Absence::Unfinished(_)) => "unfinished",
-            Some(Absence::Foreign(_)) => "foreign",
-            _ => "missing",
-        };
-        say::line(format!("lost,{disk},{why}"))?;
-    }
-    for (disk, at) in &set.bad_labels {
-        say::line(format!("label,{disk},{}", if *at == 0 { "first" } else { "last" }))?;
-    }
+    tell_images(&set)?;
     let cached = set.go_direct();
     let each = geometry.shape.stripe_len() as u64;
     let first = (from / geometry.unit).min(geometry.units());
@@ -74,6 +64,22 @@ fn run(given: &Given) -> Result<(), Fault> {
         "checked,{begun},bad,{bad},dirty,{dirty},beyond,{beyond},read,{read},{way}"
     ))?;
     what_to_do(&set, &count)
+}
+
+/// Prints which disks are lost, and which labels are bad.
+fn tell_images(set: &Set) -> Result<(), Fault> {
+    for disk in set.lost() {
+        let why = match set.absence(disk) {
+            Some(Absence::Unfinished(_)) => "unfinished",
+            Some(Absence::Foreign(_)) => "foreign",
+            _ => "missing",
+        };
+        say::line(format!("lost,{disk},{why}"))?;
+    }
+    for (disk, at) in &set.bad_labels {
+        say::line(format!("label,{disk},{}", if *at == 0 { "first" } else { "last" }))?;
+    }
+    Ok(())
 }
 
 /// Prints what was found in a batch.

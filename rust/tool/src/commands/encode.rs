@@ -129,8 +129,8 @@ fn make_folder(folder: &Path) -> Result<(), Fault> {
     }
 }
 
-/// Creates the images, in a folder that has none of any number; drives are marked as being written, if the film's length
-/// is known and they are long enough.
+/// Creates the images, in a folder that has none of any number; drives are marked as being written,
+/// if the film's length is known and they are long enough.
 fn create_all(
     folder: &Path,
     label: &Label,

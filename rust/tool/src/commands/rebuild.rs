@@ -7,6 +7,7 @@ use cuzhaveli_tool::set::{joined, Absence, Set};
 use cuzhaveli_tool::wanted::{Choice, Wanted};
 
 use crate::args::{usage, Form, Given};
+use crate::commands::bill::{bill, rates};
 use crate::commands::Command;
 use crate::fault::Fault;
 use crate::progress::Progress;
@@ -14,16 +15,17 @@ use crate::say;
 
 pub const COMMAND: Command = Command {
     name: "rebuild",
-    usage: "[-q] [-n] [--test] [--by-rows] [--rate BYTES] [--disk D]... [--overwrite DRIVE]... DIR",
+    usage: "[-q] [-n] [--test] [--by-rows] [--rate BYTES] [--rates A,B,C] [--disk D]... [--overwrite DRIVE]... DIR",
     about: "rebuild the lost images, or go on with it; -n: say what it would read; --test: test the survivors first; \
-            --by-rows: read every row, for comparison only; --rate: read no more than BYTES a second; --disk: D counts \
-            as lost; --overwrite: DRIVE, to which the image is a link, may be written",
+            --by-rows: read every row, for comparison only; --rate: read no more than BYTES a second; --rates: bill \
+            what was read; --disk: D counts as lost; --overwrite: DRIVE, to which the image is a link, may be written",
     options: &[
         Form::Flag("-q"),
         Form::Flag("-n"),
         Form::Flag("--test"),
         Form::Flag("--by-rows"),
         Form::Value("--rate"),
+        Form::Value("--rates"),
         Form::Values("--disk"),
         Form::Values("--overwrite"),
     ],
@@ -39,7 +41,10 @@ fn run(given: &Given) -> Result<(), Fault> {
         (false, true) => Choice::Rows,
         (true, true) => return Err(usage("--test and --by-rows exclude each other".into())),
     };
-    let (pace, named) = (given.pace()?, given.overwrite()?);
+    let (pace, named, rates) = (given.pace()?, given.overwrite()?, rates(given)?);
+    if let Some(rates) = rates {
+        bill(0, rates)?; // refused before anything is read
+    }
     let _lock = if given.flag("-n") { None } else { Some(lock(folder)?) };
     let set = Set::open(folder, &given.numbers("--disk")?)?;
     say::notes(&set);
@@ -59,7 +64,9 @@ fn run(given: &Given) -> Result<(), Fault> {
         Progress::new(what, Some(each * set.label.geometry.stripes), given.flag("-q"));
     let done = rebuild(&set, &spares, &wanted, pace, |stripes| progress.add(stripes * each));
     drop(progress);
-    tell(&set, &lost, &done?)
+    let account = done?;
+    tell(&set, &lost, &account)?;
+    rates.map_or(Ok(()), |rates| say::line(bill(account.read, rates)?))
 }
 
 /// With two disks lost there is nothing to test survivors by.

@@ -1,5 +1,5 @@
-//! What is lost or bad comes back: by a plan where all that it reads is good, else from all of the unit
-//! that is.
+//! What is lost or bad comes back: by a plan where all that it reads is good, else from all of the
+//! unit that is.
 
 use cuzhaveli::Refusal;
 
@@ -77,7 +77,8 @@ impl Reader<'_> {
         }
     }
 
-    /// Computes the cells of a unit that are missing: those that cannot be read, or all of their pieces.
+    /// Computes the cells of a unit that are missing: those that cannot be read, or all of their
+    /// pieces.
     fn solve(&mut self, unit: usize, all: bool) -> Result<(), Refusal> {
         let (shape, width) = (self.geometry.shape, self.geometry.shape.width());
         let mut missing = vec![0; self.pieces()];
