@@ -1,6 +1,6 @@
 """Answers: info, check, judge, space, bill, and files that cannot be read."""
 
-from harness import expect, noise
+from harness import LABEL, expect, noise
 
 
 def checks(setting):
@@ -8,7 +8,7 @@ def checks(setting):
     images = setting.encoded(noise(5 * 5 * 16 * 10), 5, s=16, group=4, unit=2)
     good = images.images()
     done = setting.call("check", images.folder, status=0)
-    read = images.disks * (images.p * images.s * images.stripes + images.block_len * images.units()) + images.block_len * images.units()
+    read = images.disks * (images.end() - LABEL) + images.block_len * images.units()
     expect(done.out.startswith(f"checked,10,bad,0,dirty,0,beyond,0,read,{read},".encode()) and done.err == b"", done.told())
     expect(done.out.endswith((b",medium\n", b",cached 0+1+2+3+4+5+6\n")), done.told())
     images.lose(4, 6)

@@ -85,6 +85,11 @@ def checksum_blocks(setting):
     """Bad checksum blocks: another image's is taken; all bad: status 6. repair mends them."""
     film, images = small(setting)
     before = images.images()
+    images.flip(3, images.block(1) + images.block_len + 7)  # a byte after them, where zeros are
+    done = setting.call("check", images.folder, status=1)
+    expect(done.out.startswith(b"block,3,2,2\n"), done.told())
+    setting.call("repair", images.folder, status=0)
+    expect(images.images() == before, "repair gave other images")
     for count in range(1, images.disks + 1):
         for disk in range(count):
             images.flip(disk, images.block(2) + 9 * disk, 16)

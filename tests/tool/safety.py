@@ -45,8 +45,9 @@ def strangers(setting):
         expect(setting.film(images) == FILM, f"{says}: another film")
         done = setting.call("info", images.folder, status=1)
         expect(says in done.err, done.told())
-        stands(setting, images, 5, "rebuild", images.folder, says=b"rebuild --disk ")
-        named = [word for disk in changes for word in ("--disk", disk)]
+        named = [word for disk in changes for word in ("--disk", str(disk))]
+        stands(setting, images, 5, "rebuild", images.folder, says=" ".join(["cuzhaveli rebuild", *named, str(images.folder)]).encode())
+        stands(setting, images, 5 if len(changes) > 1 else 0, "rebuild", "-n" if len(changes) == 1 else "-q", *named[:2], images.folder)
         setting.call("rebuild", *named, images.folder, status=0)
         expect(images.images() == good, f"{says}: other images after a rebuild")
     return f"{len(cases)} sorts of strange images"

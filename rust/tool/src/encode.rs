@@ -5,7 +5,7 @@ use std::io::{self, ErrorKind, Read};
 use crate::blocks::Blocks;
 use crate::cells::Cells;
 use crate::fault::Fault;
-use crate::geometry::{Batch, Geometry, LABEL_BYTES, MOST_BYTES};
+use crate::geometry::{Batch, Geometry, MOST_BYTES};
 use crate::label::Label;
 use crate::output::Output;
 use crate::sums::SetName;
@@ -145,9 +145,6 @@ pub fn write_blocks(
 ) -> Result<(), Fault> {
     let at = geometry.block_at(batch.unit);
     let mut bytes = blocks.to_vec();
-    if geometry.ends_group(batch) {
-        let end = (at as usize + bytes.len()).next_multiple_of(LABEL_BYTES);
-        bytes.resize(end - at as usize, 0);
-    }
+    bytes.resize(geometry.blocks_len(batch), 0);
     output.write(&bytes, at)
 }

@@ -181,10 +181,14 @@ impl Geometry {
         batch.count as u64 == self.group_stripes(batch.first / self.group)
     }
 
-    /// Whether a batch has the last stripes of its group.
-    pub fn ends_group(self, batch: Batch) -> bool {
-        let end = batch.first + batch.count as u64;
-        end == self.stripes || end.is_multiple_of(self.group)
+    /// The bytes of the checksum blocks of a batch, with the zeros after them if it ends a group.
+    pub fn blocks_len(self, batch: Batch) -> usize {
+        let (end, len) = (batch.first + batch.count as u64, batch.units * self.block_len());
+        if end != self.stripes && !end.is_multiple_of(self.group) {
+            return len;
+        }
+        let start = self.block_at(batch.unit);
+        (rounded(start + len as u64) - start) as usize
     }
 
     /// The stripes of a unit by their places in its batch.

@@ -204,22 +204,26 @@ impl<'a> Reader<'a> {
         self.has(unit, &disks) && self.bad.iter().all(|bad| bad.unit != unit)
     }
 
-    /// The blocks of the batch, by disk and unit, that are not the ones that are known.
+    /// The blocks of the batch, by disk and unit, that are not the ones that are known, or that
+    /// something else than zeros follows.
     pub fn bad_blocks(&mut self) -> Vec<(usize, usize)> {
         let (len, batch) = (self.geometry.block_len(), self.cells.batch);
+        let all = self.geometry.blocks_len(batch);
         let (set, blocks, at) = (self.set, &self.blocks, self.geometry.block_at(batch.unit));
         let look = |disk: usize, bounce: &mut Bounce| -> Vec<(usize, usize)> {
-            let mut bytes = vec![0; batch.units * len];
+            let mut bytes = vec![0; all];
             let image = set.image(disk);
             let read = image.is_some_and(|image| image.read(&mut bytes, at, bounce).is_ok());
+            let (bytes, zeros) = bytes.split_at(batch.units * len);
+            let ended = |unit: usize| unit + 1 < batch.units || zeros.iter().all(|zero| *zero == 0);
             let bad = |unit: &usize| {
-                let block = &bytes[unit * len..(unit + 1) * len];
-                blocks.is_known(*unit) && (!read || block != blocks.block(*unit))
+                let same = &bytes[unit * len..(unit + 1) * len] == blocks.block(*unit);
+                blocks.is_known(*unit) && !(read && same && ended(*unit))
             };
             (0..batch.units).filter(bad).map(|unit| (disk, unit)).collect()
         };
         let disks: Vec<usize> = set.present().collect();
-        let read = disks.len() * batch.units * len;
+        let read = disks.len() * all;
         let mut bad = parallel::each(disks, Bounce::new, look).concat();
         bad.sort();
         self.count(read);

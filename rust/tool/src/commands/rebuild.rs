@@ -90,13 +90,9 @@ fn would(set: &Set, lost: &[usize], wanted: &Wanted) -> Result<(), Fault> {
 
 /// The images to be written, gone on with or begun.
 fn spares(set: &Set, lost: &[usize], named: &Overwrite) -> Result<Vec<Spare>, Fault> {
+    strangers(set, lost)?;
     let mut spares: Vec<Spare> = Vec::new();
     for disk in lost {
-        if let Some(Absence::Foreign(what)) = set.absence(*disk) {
-            if drive_at(&set.path(*disk)).is_none() {
-                return Err(stranger(set, *disk, what));
-            }
-        }
         spares.push(spare(set, *disk, named)?);
     }
     for (number, spare) in spares.iter().enumerate() {
@@ -127,14 +123,28 @@ fn spare(set: &Set, disk: usize, named: &Overwrite) -> Result<Spare, Fault> {
     Ok(Spare { disk, output: if stands { output.replacing() } else { output }, begun })
 }
 
-/// What stands in a lost disk's place is not overwritten unless that disk is named.
-fn stranger(set: &Set, disk: usize, what: &str) -> Fault {
-    let (path, folder) = (set.path(disk), set.folder());
-    Fault::Images(format!(
-        "{} {what}; put the right image there, or let it be replaced: cuzhaveli rebuild --disk {disk} {}",
-        path.display(),
-        folder.display()
-    ))
+/// What stands in a lost disk's place is not overwritten unless that disk is named; drives have
+/// their own rule.
+fn strangers(set: &Set, lost: &[usize]) -> Result<(), Fault> {
+    let (mut told, mut options) = (Vec::new(), String::new());
+    for disk in lost {
+        match set.absence(*disk) {
+            Some(Absence::Foreign(what)) if drive_at(&set.path(*disk)).is_none() => {
+                told.push(format!("{} {what}", set.path(*disk).display()));
+            }
+            Some(Absence::Named) => {}
+            _ => continue,
+        }
+        options += &format!("--disk {disk} ");
+    }
+    if told.is_empty() {
+        return Ok(());
+    }
+    Err(Fault::Images(format!(
+        "{}; put the right images there, or let these be replaced: cuzhaveli rebuild {options}{}",
+        told.join("; "),
+        set.folder().display()
+    )))
 }
 
 fn tell(set: &Set, lost: &[usize], account: &Account) -> Result<(), Fault> {
