@@ -326,14 +326,14 @@ class Traced:
         self.wait()
 
     def fail_reads(self, spoiled):
-        """Lets every pread of these paths fail that meets their stretch of bytes."""
+        """Lets every pread of these paths fail that meets one of their stretches of bytes."""
         while self.status is None:
             self.step()
             if self.status is not None:
                 return
             entry = self.registers()
-            start, end = spoiled.get(self.opened(entry[14]), (0, 0)) if entry[15] == 17 else (0, 0)  # pread64
-            hit = entry[7] < end and start < entry[7] + entry[12]
+            stretches = spoiled.get(self.opened(entry[14]), ()) if entry[15] == 17 else ()  # pread64
+            hit = any(entry[7] < end and start < entry[7] + entry[12] for start, end in stretches)
             self.step([*entry[:15], NO_CALL, *entry[16:]] if hit else None)
             if hit and self.status is None:
                 values = self.registers()

@@ -79,12 +79,17 @@ def unreadable(setting):
     film = noise(9 * 5 * 5 * 512)
     images = setting.encoded(film, 5, None, 512, 4, unit=2)
     before = images.images()
-    between, count = (LABEL, images.end()), 0
-    for lost, dead in (((1,), {3: None}), ((1,), {3: 1, 4: 2}), ((), {0: None, 6: None}), ((0, 5), {}), ((6,), {0: 0, 2: 3})):
+    all_of, count = [(LABEL, images.end())], 0
+
+    def cells(stripe, *rows):
+        return [(images.offset(stripe, row), images.offset(stripe, row) + images.s) for row in rows]
+
+    # the last one: three disks are bad in a unit, and two in each of its stripes
+    for lost, dead in (((1,), {3: all_of}), ((1,), {3: cells(2, 1), 4: cells(2, 2)}), ((), {0: all_of, 6: all_of}), ((0, 5), {}),
+                       ((6,), {0: cells(2, 0), 2: cells(2, 3)}), ((1,), {3: cells(2, *range(5)), 4: cells(3, *range(5))})):
         images.lose(*lost)
         out = setting.new()
-        spoil = {str(images.path(disk)): between if row is None else (images.offset(2, row), images.offset(3, row))
-                 for disk, row in dead.items()}
+        spoil = {str(images.path(disk)): stretches for disk, stretches in dead.items()}
         traced = Traced(setting, "decode", images.folder, out)
         traced.fail_reads(spoil)
         expect(traced.status == 0 and out.read_bytes() == film, f"lost {lost}, unreadable {dead}: status {traced.status}")
@@ -94,7 +99,7 @@ def unreadable(setting):
         count += 1
     images.lose(1)
     traced = Traced(setting, "rebuild", images.folder)
-    traced.fail_reads({str(images.path(disk)): between for disk in (2, 3)})
+    traced.fail_reads({str(images.path(disk)): all_of for disk in (2, 3)})
     expect(traced.status == 6 and not images.path(1).exists(), f"three disks unreadable: status {traced.status}")
     done = setting.call("rebuild", images.folder, status=0)
     expect(images.images() == before, "gone on after a failure: other bytes")

@@ -122,7 +122,7 @@ def lost_disks(setting):
     """A disk is lost if its image is missing, empty, short, unfinished, or named; these are rebuilt without a word more."""
     images = small(setting)
     good = images.images()
-    cases = (b"", good[2][:-1], good[2] + b"\0", good[2][:LABEL], images.label(2, "part") + good[2][LABEL:-LABEL])
+    cases = (b"", good[2][:-1], good[2] + b"\0", good[2][:LABEL], images.label(2, "part") + good[2][LABEL:])
     for content in cases:
         images.path(2).write_bytes(content)
         done = setting.call("info", images.folder, status=1)

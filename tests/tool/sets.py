@@ -86,9 +86,13 @@ def every_loss(setting):
         pairs = list(itertools.combinations(disks, 2))
         for lost in [(disk,) for disk in disks] + (pairs if p < 31 else pairs[::7] + pairs[-3:]):
             images.lose(*lost)
-            expect(setting.film(images) == film, f"p {p}, group {group}, lost {lost}: decode gave another film")
-            setting.call("rebuild", images.folder, status=0)
+            done = setting.call("decode", images.folder, out := setting.new(), status=0)
+            expect(out.read_bytes() == film, f"p {p}, group {group}, lost {lost}: decode gave another film")
+            out.unlink()
+            again = setting.call("rebuild", images.folder, status=0)
             expect(images.images() == before, f"p {p}, group {group}, lost {lost}: other images")
+            for told in (done, again):
+                expect(told.fields()["mended"] == "0", f"the plan alone does not bring disks {lost} back: {told.told()}")
             expect(len(list(images.folder.iterdir())) == images.disks, f"lost {lost}: something is left in the folder")
             losses += 1
     return f"{losses} losses rebuilt and decoded"

@@ -3,15 +3,14 @@
 use std::sync::Mutex;
 use std::thread;
 
-const THREADS: usize = 4;
-
 /// Does all jobs, each thread with memory of its own; the results come in any order.
 pub fn each<J: Send, R: Send, M>(
+    threads: usize,
     jobs: Vec<J>,
     memory: impl Fn() -> M + Sync,
     work: impl Fn(J, &mut M) -> R + Sync,
 ) -> Vec<R> {
-    let threads = THREADS.min(jobs.len());
+    let threads = threads.min(jobs.len());
     let (jobs, done) = (Mutex::new(jobs.into_iter()), Mutex::new(Vec::new()));
     let turn = || {
         let mut memory = memory();
@@ -37,7 +36,7 @@ pub fn each<J: Send, R: Send, M>(
 mod tests {
     #[test]
     fn every_job_is_done_once() {
-        let mut done = super::each((0..100).collect(), || 0, |job: u32, _| job * 2);
+        let mut done = super::each(4, (0..100).collect(), || 0, |job: u32, _| job * 2);
         done.sort();
         assert!(done.into_iter().eq((0..100).map(|job| job * 2)));
     }

@@ -224,7 +224,7 @@ impl<'a> Reader<'a> {
         };
         let disks: Vec<usize> = set.present().collect();
         let read = disks.len() * all;
-        let mut bad = parallel::each(disks, Bounce::new, look).concat();
+        let mut bad = parallel::each(set.threads(), disks, Bounce::new, look).concat();
         bad.sort();
         self.count(read);
         bad

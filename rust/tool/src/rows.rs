@@ -54,7 +54,7 @@ pub fn read(
         };
         return jobs.into_iter().map(paced).collect();
     }
-    let mut done = parallel::each(jobs, Bounce::new, one);
+    let mut done = parallel::each(set.threads(), jobs, Bounce::new, one);
     done.sort_by_key(|(row, _)| *row);
     done
 }

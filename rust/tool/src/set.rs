@@ -36,6 +36,7 @@ pub struct Set {
     places: Vec<Place>,
     /// The labels of the images that are there which are not as they should be: disk, and where.
     pub bad_labels: Vec<(usize, u64)>,
+    direct: bool,
 }
 
 /// Disks as results name them: `1`, or `1+4`, or `none`.
@@ -99,7 +100,13 @@ impl Set {
         };
         let seen: Vec<Seen> = (0..MOST_DISKS).map(look).collect();
         let label = common_label(folder, &seen)?;
-        let mut set = Set { folder: folder.into(), label, places: Vec::new(), bad_labels: vec![] };
+        let mut set = Set {
+            folder: folder.into(),
+            label,
+            places: Vec::new(),
+            bad_labels: Vec::new(),
+            direct: false,
+        };
         for disk in named {
             label.geometry.shape.plan(*disk)?; // the library refuses a disk that the array lacks
         }
@@ -205,9 +212,20 @@ impl Set {
         images.filter_map(|image| Some((&*image.path, image.drive?))).collect()
     }
 
+    /// How many reads are worth having under way: without the page cache the kernel reads nothing
+    /// ahead.
+    pub fn threads(&self) -> usize {
+        if self.direct {
+            4
+        } else {
+            2
+        }
+    }
+
     /// From now on images are read past the page cache; the disks where that cannot be had.
     pub fn go_direct(&mut self) -> Vec<usize> {
         let mut cached = Vec::new();
+        self.direct = true;
         for (disk, place) in self.places.iter_mut().enumerate() {
             if let Place::Here(image) = place {
                 if !image.go_direct() {
