@@ -46,8 +46,9 @@ def flips(setting):
             images.flip(disk, images.offset(unit * images.unit, row) + 5, 64)
             images.lose(*lost)
             done = setting.call("decode", images.folder, out := setting.new())
-            expect(done.status == 0 and out.read_bytes() == film or len(lost) == 2 and done.status == 6, f"{disk, row, unit}: {done.told()}")
-            expect(done.status == 0 or not out.exists(), "a film with a gap got its name")
+            expect(done.status == 0 or len(lost) == 2 and done.status == 6, f"{disk, row, unit}: {done.told()}")
+            expect(out.exists() == (done.status == 0), f"a film with a gap got its name, or a whole one none: {done.told()}")
+            expect(done.status != 0 or out.read_bytes() == film, f"{disk, row, unit}: another film: {done.told()}")
             beyond += done.status == 6
             done = setting.call("rebuild", images.folder, status=0 if len(lost) < 2 else 6) if lost else None
             for one in lost:

@@ -115,6 +115,7 @@ def foreign_drives(setting, loops):
     setting.call("rebuild", "--overwrite", first, images.folder, status=0)
     put(first, 0, images.label(1, "part"))
     put(first, images.offset(20, 0), noise(images.end() - images.offset(20, 0)))  # as if it had been begun
+    put(first, images.offset(2, 1), noise(100))  # and a piece whose checksums are right
     linked(images, 1, second)
     before = content(second)
     setting.call("rebuild", images.folder, status=5)
@@ -235,6 +236,7 @@ def decoded_drives(setting, loops):
     setting.call("decode", "--overwrite", loops.new(4096), images.folder, drive, status=5)
     little = loops.new(8192)
     setting.call("decode", "--overwrite", little, images.folder, little, status=4)
+    expect(content(little) == bytes(8192), "a film was begun on a drive that is too short for it")
     return "4 calls"
 
 

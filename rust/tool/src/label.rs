@@ -110,10 +110,9 @@ fn parse(block: &Block) -> Option<(Label, usize)> {
     let (width, disks) = (value("width")?.parse().ok()?, value("disks")?.parse().ok()?);
     let shape = Shape::new(width, disks, value("cell")?.parse().ok()?).ok()?;
     let (unit, group) = (value("unit")?.parse().ok()?, value("group")?.parse().ok()?);
-    let stripes: u64 = value("stripes")?.parse().ok()?;
+    value("stripes")?; // follows from the length: the caller compares the whole block
     let geometry = Geometry::new(shape, unit, group, value("length")?.parse().ok()?)?;
-    let fits = disk < geometry.disks() && stripes == geometry.stripes;
-    fits.then_some((Label { set, geometry }, disk))
+    (disk < geometry.disks()).then_some((Label { set, geometry }, disk))
 }
 
 #[cfg(test)]
