@@ -111,10 +111,10 @@ def memory(setting):
     if not can_trace(setting):
         return "left out: no tracing on this machine"
     most = 0
-    for p, k, s, group, stripes in [(31, 31, 4096, None, 17), (31, 31, 4096, 40, 9), (31, 2, 4096, None, 70), (31, 31, 1, None, 33_000)]:
+    for p, k, s, group, stripes in [(31, 31, 4096, [], 17), (31, 31, 4096, ["-g", 40], 9), (31, 2, 4096, [], 70), (31, 31, 1, [], 33_000),
+                                    (31, 2, 1, ["-u", 1, "-g", 65_536], 20_000)]:
         folder, source = setting.new(), setting.new()
-        source.write_bytes(noise(1 << 20) * (stripes * k * p * s >> 20))
-        group = [] if group is None else ["-g", group]
+        source.write_bytes((noise(1 << 20) * (1 + (stripes * k * p * s >> 20)))[:stripes * k * p * s])
         calls = [["encode", "-p", p, "-k", k, "-s", s, *group, source, folder], ["check", folder], ["repair", folder],
                  ["rebuild", "--disk", 1, folder], ["rebuild", "--disk", 0, "--disk", k, folder], ["decode", folder, "/dev/null"]]
         for words in calls:

@@ -55,11 +55,13 @@ pub fn encode<R: Read>(
     mut done: impl FnMut(u64),
 ) -> Result<Label, Fault> {
     let mut geometry = geometry;
-    let (mut cells, mut blocks) = (Cells::new(geometry, MOST_BYTES), Blocks::new(set, geometry));
+    // Of a film without a known length a whole group is held, since it may be the short last one.
+    let bytes = if source.length.is_some() { MOST_BYTES } else { u64::MAX };
+    let (mut cells, mut blocks) = (Cells::new(geometry, bytes), Blocks::new(set, geometry));
     let mut stripe = vec![0; geometry.shape.stripe_len()];
     let (mut length, mut unit) = (0, 0);
     while unit < geometry.units() {
-        cells.batch = geometry.batch(unit, MOST_BYTES);
+        cells.batch = geometry.batch(unit, bytes);
         let filled = fill(source, geometry, length, &mut stripe, &mut cells)?;
         let full = (cells.batch.count * geometry.shape.data_len()) as u64;
         length += filled;
@@ -68,7 +70,7 @@ pub fn encode<R: Read>(
             if geometry.units() <= unit {
                 break;
             }
-            cells.shorten(geometry.batch(unit, MOST_BYTES));
+            cells.shorten(geometry.batch(unit, bytes));
         } else if filled < full && length < geometry.length {
             return Err(source.changed());
         }

@@ -16,8 +16,11 @@ pub const MOST_GROUP: u64 = 65_536;
 pub const MOST_PIECE: u64 = 32_768;
 /// The most bytes of a film.
 pub const MOST_LENGTH: u64 = 1 << 48;
-/// About the most bytes of stripes that are worked on at once.
+/// About the most bytes of memory for what is worked on at once.
 pub const MOST_BYTES: u64 = 32 << 20;
+
+/// About what is kept of a piece beside its cells, for sets of many small ones.
+const PIECE_BYTES: u64 = 64;
 
 /// The numbers of a set that never change.
 #[derive(Clone, Copy, Debug, PartialEq, Eq)]
@@ -155,13 +158,15 @@ impl Geometry {
         self.end() + LABEL_BYTES as u64
     }
 
-    /// Units from `unit` on that are worked on at once: of its group, of at most so many bytes of
-    /// stripes.
+    /// Units from `unit` on that are worked on at once: of its group, of at most so many bytes in
+    /// memory.
     pub fn batch(self, unit: u64, bytes: u64) -> Batch {
         let in_group = self.group / self.unit;
         let left = (in_group - unit % in_group).min(self.units() - unit);
-        let most = (bytes / (self.unit * self.shape.stripe_len() as u64)).max(1);
-        self.batch_of(unit, left.min(most))
+        let pieces = (self.disks() * self.shape.width()) as u64;
+        let stripes = self.unit * self.shape.stripe_len() as u64;
+        let each = stripes + self.block_len() as u64 + PIECE_BYTES * pieces;
+        self.batch_of(unit, left.min((bytes / each).max(1)))
     }
 
     /// A batch of so many units.
@@ -276,7 +281,7 @@ mod tests {
         let counts = |bytes| one.batches(0, bytes).map(|batch| batch.count).collect::<Vec<_>>();
         assert_eq!(counts(u64::MAX), [8, 5]);
         assert_eq!(counts(1), [2, 2, 2, 2, 2, 2, 1]);
-        assert_eq!(counts(3 * 240), [6, 2, 5]);
+        assert_eq!(counts(3 * (240 + 104 + 12 * 64)), [6, 2, 5]);
         let last = one.batch(4, u64::MAX);
         assert_eq!((one.places(last, 1), one.places(last, 2)), (2..4, 4..5));
     }

@@ -13,13 +13,10 @@ use crate::sys;
 const BOUNCE: usize = 256 << 10;
 
 /// Memory for reads past the page cache, which want their place and length in multiples of 4,096.
+#[derive(Default)]
 pub struct Bounce(Vec<u8>);
 
 impl Bounce {
-    pub fn new() -> Bounce {
-        Bounce(Vec::new())
-    }
-
     fn aligned(&mut self) -> &mut [u8] {
         self.0.resize(BOUNCE + LABEL_BYTES, 0);
         let start = self.0.as_ptr().align_offset(LABEL_BYTES).min(LABEL_BYTES);
@@ -66,7 +63,7 @@ impl Image {
         let open = || -> io::Result<File> {
             let file = open_to_read(&self.path, sys::DIRECT)?;
             // Some file systems open it and refuse to read.
-            read_direct(&file, &mut [0], 0, Bounce::new().aligned())?;
+            read_direct(&file, &mut [0], 0, Bounce::default().aligned())?;
             self.is(&file.metadata()?).then_some(file).ok_or_else(|| ErrorKind::NotFound.into())
         };
         self.direct = open().ok();

@@ -98,7 +98,7 @@ impl<'a> Reader<'a> {
             holes: Vec::new(),
             bad: Vec::new(),
             stripe: vec![0; geometry.shape.stripe_len()],
-            bounce: Bounce::new(),
+            bounce: Bounce::default(),
             pace,
             read: 0,
             mended: 0,
@@ -224,7 +224,7 @@ impl<'a> Reader<'a> {
         };
         let disks: Vec<usize> = set.present().collect();
         let read = disks.len() * all;
-        let mut bad = parallel::each(set.threads(), disks, Bounce::new, look).concat();
+        let mut bad = parallel::each(set.threads(), disks, Bounce::default, look).concat();
         bad.sort();
         self.count(read);
         bad

@@ -47,14 +47,14 @@ pub fn read(
         (row, read_row(set, geometry, blocks, batch, row, bytes, bounce))
     };
     if pace.is_limited() || jobs.len() * row_len < LEAST {
-        let mut bounce = Bounce::new();
+        let mut bounce = Bounce::default();
         let paced = |job| {
             pace.spend(row_len as u64);
             one(job, &mut bounce)
         };
         return jobs.into_iter().map(paced).collect();
     }
-    let mut done = parallel::each(set.threads(), jobs, Bounce::new, one);
+    let mut done = parallel::each(set.threads(), jobs, Bounce::default, one);
     done.sort_by_key(|(row, _)| *row);
     done
 }

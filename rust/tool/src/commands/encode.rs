@@ -117,7 +117,7 @@ fn open_film(name: &OsStr) -> Result<Source<File>, Fault> {
             path.display()
         )));
     }
-    let length = data.is_file().then(|| data.len());
+    let length = data.is_file().then_some(data.len());
     Ok(Source { film, length, name: path.display().to_string() })
 }
 
