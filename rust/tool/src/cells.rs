@@ -44,16 +44,17 @@ impl Cells {
         self.cells(disk, row, self.geometry.places(self.batch, unit))
     }
 
-    /// All rows of a disk.
-    pub fn disk(&self, disk: usize) -> &[u8] {
-        let len = self.geometry.shape.width() * self.row_len();
-        &self.bytes[disk * len..(disk + 1) * len]
+    /// Rows of a disk.
+    pub fn rows(&self, disk: usize, rows: Range<usize>) -> &[u8] {
+        let first = disk * self.geometry.shape.width();
+        &self.bytes[(first + rows.start) * self.row_len()..(first + rows.end) * self.row_len()]
     }
 
     /// The rows of the batch, disk by disk.
-    pub fn rows_mut(&mut self) -> impl Iterator<Item = &mut [u8]> {
-        let (len, rows) = (self.row_len(), self.geometry.disks() * self.geometry.shape.width());
-        self.bytes.chunks_exact_mut(len.max(1)).take(rows)
+    pub fn rows_mut(&mut self) -> &mut [u8] {
+        let rows = self.geometry.disks() * self.geometry.shape.width();
+        let len = rows * self.row_len();
+        &mut self.bytes[..len]
     }
 
     /// Leaves out stripes at the end of the batch.

@@ -127,13 +127,8 @@ pub fn write_batch(
     blocks: &Blocks,
 ) -> Result<(), Fault> {
     let batch = cells.batch;
-    if geometry.is_whole_group(batch) {
-        output.write(cells.disk(disk), geometry.cell_at(0, batch.first))?;
-    } else {
-        for row in 0..geometry.shape.width() {
-            let bytes = cells.cells(disk, row, 0..batch.count);
-            output.write(bytes, geometry.cell_at(row, batch.first))?;
-        }
+    for rows in geometry.stretches(batch, 0..geometry.shape.width()) {
+        output.write(cells.rows(disk, rows.clone()), geometry.cell_at(rows.start, batch.first))?;
     }
     write_blocks(output, geometry, batch, blocks.all())
 }

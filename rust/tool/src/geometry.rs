@@ -186,6 +186,12 @@ impl Geometry {
         batch.count as u64 == self.group_stripes(batch.first / self.group)
     }
 
+    /// Rows of a batch by those that lie together in an image: all if it is a whole group.
+    pub fn stretches(self, batch: Batch, rows: Range<usize>) -> impl Iterator<Item = Range<usize>> {
+        let together = if self.is_whole_group(batch) { rows.len().max(1) } else { 1 };
+        rows.clone().step_by(together).map(move |row| row..(row + together).min(rows.end))
+    }
+
     /// The bytes of the checksum blocks of a batch, with the zeros after them if it ends a group.
     pub fn blocks_len(self, batch: Batch) -> usize {
         let (end, len) = (batch.first + batch.count as u64, batch.units * self.block_len());

@@ -10,7 +10,7 @@ use crate::label::Block;
 use crate::sys;
 
 /// The bytes that are read past the page cache at once.
-const BOUNCE: usize = 256 << 10;
+pub const BOUNCE: usize = 512 << 10;
 
 /// Memory for reads past the page cache, which want their place and length in multiples of 4,096.
 #[derive(Default)]

@@ -133,9 +133,9 @@ impl<'a> Reader<'a> {
         }
         for Reading { disk, rows } in &wanted.readings {
             let Some(image) = self.set.image(*disk) else { continue };
-            for row in rows.clone() {
-                let len = batch.count * self.geometry.shape.cell_size();
-                image.ahead(self.geometry.cell_at(row, batch.first), len as u64);
+            for rows in self.geometry.stretches(batch, rows.clone()) {
+                let len = rows.len() * batch.count * self.geometry.shape.cell_size();
+                image.ahead(self.geometry.cell_at(rows.start, batch.first), len as u64);
             }
         }
     }
@@ -266,24 +266,22 @@ impl<'a> Reader<'a> {
 
     /// Reads all rows that are wanted and not there.
     fn read_all(&mut self, wanted: &Wanted) {
-        let mut todo = Vec::new();
-        for Reading { disk, rows } in &wanted.readings {
-            let unread = |row: &usize| {
-                let units = 0..self.cells.batch.units;
-                units.clone().any(|unit| self.states[self.at(unit, *disk, *row)] == State::Unread)
-            };
-            todo.extend(rows.clone().filter(unread).map(|row| Row { disk: *disk, row }));
-        }
-        for (Row { disk, row }, verdict) in
-            rows::read(self.set, &mut self.cells, &self.blocks, &todo, &mut self.pace)
-        {
-            let units = 0..self.cells.batch.units;
+        let units = 0..self.cells.batch.units;
+        let unread = |one: &&Reading| {
+            let mut pieces =
+                units.clone().flat_map(|unit| one.rows.clone().map(move |row| (unit, row)));
+            pieces.any(|(unit, row)| self.states[self.at(unit, one.disk, row)] == State::Unread)
+        };
+        let todo: Vec<Reading> = wanted.readings.iter().filter(unread).cloned().collect();
+        let read = rows::read(self.set, &mut self.cells, &self.blocks, &todo, &mut self.pace);
+        for (Row { disk, row }, verdict) in read {
             match verdict {
                 Ok(fits) => {
                     self.read += (self.cells.batch.count * self.geometry.shape.cell_size()) as u64;
-                    units.zip(fits).for_each(|(unit, fits)| self.judge(unit, disk, row, fits));
+                    let judged = units.clone().zip(fits);
+                    judged.for_each(|(unit, fits)| self.judge(unit, disk, row, fits));
                 }
-                Err(_) => units.for_each(|unit| self.read_piece(unit, disk, row)),
+                Err(_) => units.clone().for_each(|unit| self.read_piece(unit, disk, row)),
             }
         }
     }
@@ -291,8 +289,9 @@ impl<'a> Reader<'a> {
     /// Keeps whether a piece fits its sum.
     fn judge(&mut self, unit: usize, disk: usize, row: usize, fits: bool) {
         let at = self.at(unit, disk, row);
-        self.states[at] = if fits { State::Good } else { State::Bad };
-        if !fits && self.blocks.is_known(unit) {
+        let known =
+            std::mem::replace(&mut self.states[at], if fits { State::Good } else { State::Bad });
+        if !fits && known == State::Unread && self.blocks.is_known(unit) {
             self.bad.push(Bad { disk, row, unit, flaw: Flaw::Sum });
         }
     }

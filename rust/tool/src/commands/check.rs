@@ -104,25 +104,10 @@ fn tell_all(set: &Set, found: &Findings, count: &mut Count) -> Result<(), Fault>
         say::line(format!("beyond,{first},{cells},{}", joined(&beyond.disks)))?;
         count.beyond += 1;
     }
-    if set.lost().is_empty() {
-        for unit in (0..found.batch.units).filter(|unit| found.reader.is_sound(*unit)) {
-            tell_dirty(set, found, unit, count)?;
-        }
-    }
-    Ok(())
-}
-
-/// Prints the stripes of a unit whose pieces all fit their sums and whose parity does not fit them.
-fn tell_dirty(set: &Set, found: &Findings, unit: usize, count: &mut Count) -> Result<(), Fault> {
-    let geometry = set.label.geometry;
-    let mut stripe = vec![0; geometry.shape.stripe_len()];
-    for place in geometry.places(found.batch, unit) {
-        found.reader.cells().stripe(place, &mut stripe);
-        let number = found.batch.first + place as u64;
-        match geometry.shape.scrub(&stripe)? {
-            Scrub::Clean => continue,
-            Scrub::OneDisk(disk) => say::line(format!("dirty,{number},{disk}"))?,
-            Scrub::MoreThanOne => say::line(format!("dirty,{number},several"))?,
+    for (stripe, verdict) in found.dirty()? {
+        match verdict {
+            Scrub::OneDisk(disk) => say::line(format!("dirty,{stripe},{disk}"))?,
+            _ => say::line(format!("dirty,{stripe},several"))?,
         }
         count.dirty += 1;
     }
