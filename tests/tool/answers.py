@@ -1,55 +1,45 @@
 """Answers: info, check, judge, space, bill, and files that cannot be read."""
 
-from harness import expect, noise
+from harness import LABEL, expect, noise
 
 
 def checks(setting):
-    """check names each dirty stripe and the disk that explains it."""
-    images = setting.encoded(noise(5 * 5 * 16 * 10), 5, s=16, group=4)
+    """check names lost disks, tells how it read and what to do, and goes on where it was stopped."""
+    images = setting.encoded(noise(5 * 5 * 16 * 10), 5, s=16, group=4, unit=2)
     good = images.images()
     done = setting.call("check", images.folder, status=0)
-    stripe = images.disks * images.p * images.s
-    expect(done.out == f"checked,10,dirty,0,read,{10 * stripe}\n".encode(), done.told())
-    for disk in range(images.disks):
-        image = bytearray(good[disk])
-        image[images.offset(7, 3) + 5] ^= 1
-        images.path(disk).write_bytes(image)
-        done = setting.call("check", images.folder, status=1)
-        expect(done.out.startswith(f"dirty,7,{disk}\nchecked,10,dirty,1,".encode()), done.told())
-        images.path(disk).write_bytes(good[disk])
-    for disk in (0, 1):
-        image = bytearray(good[disk])
-        image[images.offset(2, 0)] ^= disk + 1
-        images.path(disk).write_bytes(image)
-    done = setting.call("check", images.folder, status=1)
-    expect(done.out.startswith(b"dirty,2,several\nchecked,10,dirty,1,"), done.told())
-    done = setting.call("rebuild", "--test", "--disk", 3, images.folder, status=3)
-    expect(done.err.startswith(b"cuzhaveli: refused,19: ") and done.err.endswith(b", stripe 2\n"), done.told())
-    for disk in (0, 1):
-        images.path(disk).write_bytes(good[disk])
-    setting.call("rebuild", images.folder, status=0)
-    expect(images.images() == good, "gone on after a refused test: other bytes")
+    read = images.disks * (images.end() - LABEL) + images.block_len * images.units()
+    expect(done.out.startswith(f"checked,10,bad,0,dirty,0,beyond,0,read,{read},".encode()) and done.err == b"", done.told())
+    expect(done.out.endswith((b",medium\n", b",cached 0+1+2+3+4+5+6\n")), done.told())
     images.lose(4, 6)
     done = setting.call("check", images.folder, status=1)
-    expect(done.out == b"lost,4+6\n" and b"rebuild" in done.err, done.told())
-    images.path(4).write_bytes(good[4])
-    images.path(6).write_bytes(good[6][:5000])
-    done = setting.call("check", images.folder, status=4)
-    expect(b"disk-06.img, byte " in done.err, done.told())
-    return "12 checks"
+    expect(done.out.startswith(b"lost,4,missing\nlost,6,missing\nchecked,10,bad,0,") and b"cuzhaveli rebuild " in done.err, done.told())
+    images.flip(1, images.offset(0, 0))
+    done = setting.call("check", images.folder, status=6)
+    expect(b"bad,1,0,0,2,sum\nbeyond,0,2,1+4+6\n" in done.out and b"cannot be made right" in done.err, done.told())
+    images.write({4: good[4], 6: good[6][:5000]})
+    done = setting.call("check", images.folder, status=1)
+    expect(b"lost,6,unfinished\n" in done.out and b"repair " in done.err and b"then rebuild disks 6" in done.err, done.told())
+    images.write(good)
+    for disk, stripe in ((1, 0), (2, 7), (3, 9)):
+        images.flip(disk, images.offset(stripe, 1))
+    for start, stripes, bad in ((0, 10, 3), (1, 10, 3), (2, 8, 2), (7, 4, 2), (8, 2, 1), (10, 0, 0), (1 << 60, 0, 0)):
+        done = setting.call("check", "--from", start, images.folder, status=1 if bad else 0)
+        expect(f"checked,{stripes},bad,{bad},".encode() in done.out, done.told())
+    return "11 checks"
 
 
 def infos(setting):
     images = setting.encoded(noise(7000), 7, 5, 16, 4)
     lines = setting.call("info", images.folder, status=0).out.decode().splitlines()
-    wanted = ["width,7", "disks,5", "cell,16", "group,4", "stripes,13", "length,7000", "lost,none"]
+    wanted = ["width,7", "disks,5", "cell,16", "unit,4", "group,4", "stripes,13", "length,7000", f"bytes,{images.image_bytes()}", "lost,none"]
     expect(lines[1:] == wanted and len(lines[0]) == 4 + 32, f"info says {lines}")
     images.lose(2)
     expect(setting.call("info", images.folder, status=1).out.endswith(b"lost,2\n"), "one lost")
     images.lose(5)
     expect(setting.call("info", images.folder, status=1).out.endswith(b"lost,2+5\n"), "two lost")
     images.lose(6)
-    expect(setting.call("info", images.folder, status=5).out.endswith(b"lost,2+5+6\n"), "three lost")
+    expect(b"(2+5+6)" in setting.call("info", images.folder, status=5).err, "three lost")
     setting.call("info", setting.new(), status=4)
     setting.call("info", images.path(0), status=4)
     done = setting.call("rebuild", "-n", setting.encoded(noise(10), 3).folder, status=0)
@@ -89,9 +79,24 @@ def spaces_and_bills(setting):
         done = setting.call("space", "-p", 5, *words, status=status)
         expect(done.out == answer, f"{answer} expected: {done.told()}")
     setting.call("space", "-p", 5, "--free", 1, setting.new(), status=4)
+    setting.call("space", "-p", 5, "--free", 1, setting.scratch, status=4)
+    for options in ([], ["-s", 100, "-k", 4], ["-g", 16], ["-s", 512, "-u", 3, "-g", 9]):
+        folder = setting.new()
+        setting.call("encode", "-p", 5, *options, film, folder, status=0)
+        taken = (folder / "disk-00.img").stat().st_size
+        for free, fits in ((2 * taken, "yes"), (2 * taken - 1, "no")):
+            done = setting.call("space", "-p", 5, *options, "--images", "--free", free, film, film, status=0 if fits == "yes" else 1)
+            expect(done.out.endswith(f",bytes,{2 * taken},fits,{fits}\n".encode()), f"an image has {taken}: {done.told()}")
     done = setting.call("bill", "--rates", "10,5,1", "--bytes", "65G", status=0)
     expect(done.out == b"first,68719476736,second,1073741824,third,0,cents,645\n", done.told())
-    return "7 calls"
+    images = setting.encoded(noise(5 * 5 * 16 * 9), 5, s=16, group=4)
+    images.flip(3, images.offset(0, 0))
+    done = setting.call("rebuild", "--rates", "10,5,1", "--disk", 1, images.folder, status=0)
+    rebuilt, bill = done.out.decode().splitlines()
+    read = rebuilt.split(",read,")[1].split(",")[0]
+    expect(bill.startswith(f"first,{read},second,0,") and rebuilt.endswith(",mended,1"), done.told())
+    expect(int(read) > int(setting.call("rebuild", "-n", "--disk", 1, images.folder, status=0).fields()["read"]), done.told())
+    return "20 calls"
 
 
 CHECKS = [checks, infos, judged, spaces_and_bills]

@@ -3,7 +3,6 @@
 import os
 import pty
 import subprocess
-import time
 
 from harness import CHANGES, Set, Traced, can_trace, expect, noise
 
@@ -26,9 +25,9 @@ def killed_rebuilds(setting):
     """kill -9 at every system call of a rebuild that changes something: the next call ends it, byte for byte."""
     if not can_trace(setting):
         return "left out: no tracing on this machine"
-    kills = 0
+    kills = kept = 0
     for lost in ((1,), (0, 5), (4, 6)):
-        images = setting.encoded(noise(5 * 5 * 16 * 10 - 3), 5, s=16, group=4)
+        images = setting.encoded(noise(5 * 5 * 16 * 10 - 3), 5, s=16, group=4, unit=2)
         before = images.images()
         moment = 1
         while True:
@@ -37,105 +36,107 @@ def killed_rebuilds(setting):
             for disk in lost:
                 whole = images.path(disk).exists()
                 expect(not whole or images.path(disk).read_bytes() == before[disk], f"kill {moment}: an image that is not whole")
-            setting.call("rebuild", images.folder, status=0)
+            done = setting.call("rebuild", images.folder, status=0)
             expect(images.images() == before, f"lost {lost}, kill {moment}: other bytes after going on")
             left = [path.name for path in images.folder.iterdir() if not path.name.endswith(".img")]
-            expect(set(left) <= {"rebuild.run.new"}, f"kill {moment}: {left} is left")
+            expect(not left, f"kill {moment}: {left} is left")
+            kept = max(kept, int(done.fields()["kept"]))
             if ended:
                 break
             kills, moment = kills + 1, moment + 1
-    # the last disk of two, and another disk named: a rebuild under way goes on without the name
-    images.lose(1)
-    killed_at(setting, ["rebuild", images.folder], 11)
-    setting.call("rebuild", images.folder, status=0)
-    killed_at(setting, ["rebuild", "--disk", 2, images.folder], 11)
-    done = setting.call("rebuild", images.folder, status=0)
-    expect(done.out.startswith(b"rebuilt,2,") and images.images() == before, f"a named disk gone on with: {done.told()}")
+    expect(kept == images.stripes, f"at most {kept} stripes were kept")
     return f"{kills} kills"
 
 
 def killed_encodes(setting):
-    """kill -9 in an encode: no set stands there, or the whole one."""
+    """kill -9 in an encode: no set stands there, or the whole one, perhaps with images that a rebuild names."""
     if not can_trace(setting):
         return "left out: no tracing on this machine"
     film = setting.new()
     film.write_bytes(noise(3 * 3 * 8 * 5 + 1))
-    kills, moment = 0, 1
+    kills, moment, seen = 0, 1, set()
     while True:
         folder = setting.new()
-        ended = not killed_at(setting, ["encode", "-p", 3, "-s", 8, "-g", 2, film, folder], moment)
+        ended = not killed_at(setting, ["encode", "-p", 3, "-s", 8, "-u", 1, "-g", 2, film, folder], moment)
         done = setting.call("info", folder)
         expect(done.status in (0, 1, 4, 5), done.told())
+        seen.add(done.status)
         if done.status < 2:
-            out = setting.new()
-            setting.call("decode", folder, out, status=0)
-            expect(out.read_bytes() == film.read_bytes(), f"kill {moment}: a set with labels that is not whole")
+            images = Set(folder)
+            expect(setting.film(images) == film.read_bytes(), f"kill {moment}: a set with names that is not whole")
+            setting.call("rebuild", folder, status=0)
+            setting.call("check", folder, status=0)
+        if ended:
+            break
+        kills, moment = kills + 1, moment + 1
+    expect(seen >= {0, 1, 5}, f"only the statuses {seen} were seen")
+    return f"{kills} kills"
+
+
+def killed_repairs(setting):
+    """kill -9 in a repair: the film is the same at any moment, and the next repair ends it."""
+    if not can_trace(setting):
+        return "left out: no tracing on this machine"
+    film = noise(5 * 5 * 16 * 6)
+    images = setting.encoded(film, 5, s=16, group=4, unit=2)
+    before = images.images()
+    kills, moment = 0, 1
+    while True:
+        images.write(before)
+        for disk, stripe, row in ((1, 0, 2), (4, 0, 3), (4, 5, 0), (6, 2, 1)):
+            images.flip(disk, images.offset(stripe, row))
+        images.flip(2, 5)
+        images.flip(3, images.block(1))
+        ended = not killed_at(setting, ["repair", images.folder], moment)
+        expect(setting.film(images) == film, f"kill {moment}: another film")
+        setting.call("repair", images.folder, status=0)
+        expect(images.images() == before, f"kill {moment}: other images")
         if ended:
             break
         kills, moment = kills + 1, moment + 1
     return f"{kills} kills"
 
 
+def steps(setting, *words):
+    """What a call writes, syncs and names, in order: the name of the call and of the file."""
+    traced, seen = Traced(setting, *words), []
+    for name, first, second, third in traced.calls():
+        if name in ("pwrite64", "fsync", "fdatasync"):
+            seen.append((name, traced.opened(first).rsplit("/", 1)[1]))
+        elif name in ("rename", "renameat2"):
+            seen.append(("name", traced.text(first if name == "rename" else second).rsplit("/", 1)[1]))
+    expect(traced.status == 0, f"{words} ended with {traced.status}")
+    return seen
+
+
 def order(setting):
-    """The record follows a sync of all that was written before, and so does each label; images stand after both."""
+    """All is synced before the first image gets its name, then the folder; repair syncs one disk before the next."""
     if not can_trace(setting):
         return "left out: no tracing on this machine"
-    images = setting.encoded(noise(5 * 5 * 16 * 10), 5, s=16, group=4)
-    images.lose(1)
-    traced = Traced(setting, "rebuild", images.folder)
-    steps = [(name, traced.text(first) if name == "rename" else first, third) for name, first, _, third in traced.calls()
-             if name in ("pwrite64", "fsync", "fdatasync", "rename")]
-    expect(traced.status == 0, f"rebuild ended with {traced.status}")
-    unsynced, renamed = set(), []
-    for name, first, length in steps:
-        if name == "pwrite64":
-            unsynced.add(first)
-        elif name in ("fsync", "fdatasync"):
-            unsynced.discard(first)
-        else:
-            expect(not unsynced, f"{first} renamed before what was written was synced")
-            renamed.append(first.rsplit("/", 1)[1])
-    expect(renamed == ["rebuild.run.new", "rebuild.run.new", "disk-01.img.part"], f"renamed {renamed}")
-    expect([name for name, *_ in steps[-8:]].count("fsync") >= 3, f"the last steps are {steps[-8:]}")
-    folder, film = setting.new(), setting.new()
-    film.write_bytes(noise(5000))
-    traced = Traced(setting, "encode", "-p", 3, "-s", 16, film, folder)
-    steps = [(name, first, third) for name, first, _, third in traced.calls() if name in ("pwrite64", "fdatasync", "fsync")]
-    labels = [place for place, (name, _, length) in enumerate(steps) if name == "pwrite64" and length == 4096]
-    cells = [place for place, (name, _, length) in enumerate(steps) if name == "pwrite64" and length != 4096]
-    synced = {first for name, first, _ in steps[max(cells):labels[0]] if name in ("fdatasync", "fsync")}
-    expect(len(labels) == 5 and min(labels) > max(cells) and len(synced) == 5, "encode wrote a label before all else was synced")
-    return "a rebuild and an encode"
-
-
-def goes_on(setting):
-    """After two seconds the record moves on; a rebuild that is killed just then goes on there, and loses no stripe."""
-    if not can_trace(setting):
-        return "left out: no tracing on this machine"
-    images = setting.encoded(noise(5 * 5 * 16 * 40), 5, s=16, group=1)
-    before = images.images()
-    images.lose(1)
-    traced = Traced(setting, "rebuild", images.folder)
-    writes, renames = 0, 0
-    for name, *_ in traced.calls():
-        if renames == 2:
-            traced.kill()
-            break
-        writes, renames = writes + (name == "pwrite64"), renames + (name == "rename")
-        if name == "pwrite64" and writes == 20:
-            time.sleep(2.05)
-    expect(not images.path(1).exists(), "the record did not move on before the rebuild ended")
-    next_stripe = int((images.folder / "rebuild.run").read_text().split("next ")[1])
-    info = setting.call("info", images.folder, status=1)
-    expect(f"rebuild,1,next,{next_stripe}\n".encode() in info.out, info.told())
-    left = images.stripes - next_stripe
-    expect(0 < left < images.stripes, f"the record has next {next_stripe}")
-    would = setting.call("rebuild", "-n", images.folder, status=0)
-    done = setting.call("rebuild", images.folder, status=0)
-    expect(images.images() == before, "gone on after a kill: other bytes")
-    for told in (would, done):
-        expect(int(told.fields()["stripes"]) == left and int(told.fields()["read"]) == left * 19 * 16, told.told())
-    return f"gone on at stripe {next_stripe} of {images.stripes}"
+    film = setting.new()
+    film.write_bytes(noise(5 * 5 * 16 * 10))
+    folder = setting.new()
+    taken = {"encode": steps(setting, "encode", "-p", 5, "-s", 16, "-g", 4, film, folder)}
+    images = Set(folder)
+    images.lose(1, 4)
+    taken["rebuild"] = steps(setting, "rebuild", folder)
+    for what, seen in taken.items():
+        names = [place for place, (name, _) in enumerate(seen) if name == "name"]
+        expect(len(names) == {"encode": 7, "rebuild": 2}[what], f"{what}: {len(names)} names are given")
+        unsynced = set()
+        for name, file in seen[:names[0]]:
+            unsynced = unsynced | {file} if name == "pwrite64" else unsynced - {file}
+        expect(not unsynced, f"{what}: {unsynced} named before it was synced")
+        expect(("fsync", folder.name) in seen[names[-1]:], f"{what}: the folder is not synced after the names")
+        expect(not any(name == "pwrite64" for name, _ in seen[names[0]:]), f"{what}: written after a name was given")
+    out = setting.new()
+    seen = steps(setting, "decode", folder, out)
+    expect([name for name, _ in seen[-3:]] == ["fsync", "name", "fsync"], f"decode ends with {seen[-3:]}")
+    for disk in (1, 4):
+        images.flip(disk, images.offset(0, 0))
+    seen = steps(setting, "repair", folder)
+    expect([name for name, _ in seen] == ["pwrite64", "fsync", "pwrite64", "fsync"], f"repair does {seen}")
+    return "an encode, a rebuild, a decode and a repair"
 
 
 def full_devices(setting):
@@ -144,14 +145,23 @@ def full_devices(setting):
     full = open("/dev/full", "wb")
     setting.call("decode", images.folder, "/dev/full", status=4)
     for words in (["decode", images.folder, "-"], ["plan", "-p", 5, "-d", 1], ["help"], ["info", images.folder], ["check", images.folder],
-                  ["--version"], ["bill", "--rates", "1,2,3", "--bytes", 5]):
+                  ["--version"], ["bill", "--rates", "1,2,3", "--bytes", 5], ["repair", images.folder]):
         done = setting.call(*words, status=4, stdout=full)
         expect(b"standard output" in done.err, done.told())
+        done = setting.call(*words, status=4, stdout=None, preexec_fn=lambda: os.close(1))
+        expect(b"standard output: closed" in done.err, done.told())
+    # a set whose line cannot be printed stands all the same
+    folder = setting.new()
+    setting.call("encode", "-p", 3, "-", folder, input=b"film", status=4, stdout=full)
+    expect(setting.film(Set(folder)) == b"film", "a set was taken away because its line could not be printed")
+    Set(folder).lose(0)
+    setting.call("rebuild", folder, status=4, stdout=full)
+    setting.call("check", folder, status=0)
     film, folder = setting.new(), setting.new()
     film.write_bytes(noise(40_000))
     limit = ["sh", "-c", 'ulimit -f 8; trap "" XFSZ; exec "$0" "$@"', setting.program]
     done = subprocess.run([*limit, "encode", "-p", "3", film, folder], capture_output=True)
-    expect(done.returncode == 4 and b"disk-00.img, byte" in done.stderr, f"encode on a full disk: {done}")
+    expect(done.returncode == 4 and b"disk-00.img.part, byte" in done.stderr, f"encode on a full disk: {done}")
     expect(not list(folder.iterdir()), "an encode that failed left images")
     out = setting.new()
     done = subprocess.run([*limit, "decode", images.folder, out], capture_output=True)
@@ -167,7 +177,7 @@ def full_devices(setting):
     expect(done.returncode == 4 and not Set(folder).path(1).exists(), f"rebuild on a full disk: {done}")
     setting.call("rebuild", folder, status=0)
     expect(Set(folder).images() == good, "gone on after a full disk: other bytes")
-    return "12 calls"
+    return "24 calls"
 
 
 def closed_pipes(setting):
@@ -183,6 +193,18 @@ def closed_pipes(setting):
     return "5 calls"
 
 
+def all_of(terminal):
+    """What was written to a terminal that is closed at the other end."""
+    text = b""
+    try:
+        while more := os.read(terminal, 4096):
+            text += more
+    except OSError:
+        pass
+    os.close(terminal)
+    return text
+
+
 def progress(setting):
     """The bar is on standard error if that is a terminal, and not with -q; results are one line all the same."""
     images = setting.encoded(noise(5 * 5 * 16 * 10), 5, s=16)
@@ -191,11 +213,7 @@ def progress(setting):
         ours, theirs = pty.openpty()
         done = setting.call("rebuild", *quiet, "--disk", 1, images.folder, stderr=theirs, status=0)
         os.close(theirs)
-        try:
-            shown[len(quiet)] = os.read(ours, 4096)
-        except OSError:
-            shown[len(quiet)] = b""
-        os.close(ours)
+        shown[len(quiet)] = all_of(ours)
         expect(done.out.count(b"\n") == 1, done.told())
     expect(b"rebuild disk 1 [" in shown[0] and b" % " in shown[0], f"no bar: {shown[0]}")
     expect(shown[1] == b"", f"a bar with -q: {shown[1]}")
@@ -204,4 +222,4 @@ def progress(setting):
     return "on a terminal, quiet, and without"
 
 
-CHECKS = [killed_rebuilds, killed_encodes, order, goes_on, full_devices, closed_pipes, progress]
+CHECKS = [killed_rebuilds, killed_encodes, killed_repairs, order, full_devices, closed_pipes, progress]

@@ -1,58 +1,38 @@
-"""What is read: exactly the listed cells, and around survivors that cannot be read."""
+"""What is read: the listed cells and a checksum block a unit, and around survivors that cannot be read."""
 
 import os
 
-from harness import Traced, can_trace, expect, noise
+from harness import LABEL, Traced, can_trace, expect, noise
 
 
-def listed(setting, images, lost):
-    """The cells that the picture of the plan marks as read."""
+def listed(images, setting, lost):
+    """How many cells of a stripe a rebuild reads, by the count of our plan or the balanced one."""
     text = setting.call("plan", "-p", images.p, "-k", images.k, "-d", lost, status=0).out.decode()
-    rows = [line.split() for line in text.splitlines()[3:3 + images.p]]
-    return [(row, disk) for row, marks in enumerate(rows) for disk, mark in enumerate(marks[1:images.disks + 1]) if mark in "-/#"]
-
-
-def unlisted_cells(setting):
-    """Cells off the list hold noise before a rebuild of one disk: the same bytes."""
-    count = 0
-    for p, k, s, group in [(5, None, 32, 3), (7, 5, 16, 1), (11, None, 8, None)]:
-        images = setting.encoded(noise(4 * (k or p) * p * s), p, k, s, group)
-        before = images.images()
-        for lost in range(images.disks):
-            cells = set(listed(setting, images, lost))
-            for disk in set(range(images.disks)) - {lost}:
-                image = bytearray(before[disk])
-                for stripe in range(images.stripes):
-                    for row in range(p):
-                        if (row, disk) not in cells:
-                            start = images.offset(stripe, row)
-                            image[start:start + s] = noise(s, seed=start)
-                images.path(disk).write_bytes(image)
-            images.lose(lost)
-            setting.call("rebuild", images.folder, status=0)
-            expect(images.path(lost).read_bytes() == before[lost], f"p {p}: disk {lost} depends on cells off the list")
-            for disk, image in before.items():
-                images.path(disk).write_bytes(image)
-            count += 1
-    return f"{count} disks"
+    return int(text.split(":")[1].split()[0])
 
 
 def bytes_asked(setting):
-    """The bytes that pread asks for are the listed cells', stripes of the film alone."""
+    """The bytes that pread asks for are the listed cells' and one checksum block a unit: what the rebuild tells."""
     if not can_trace(setting):
         return "left out: no tracing on this machine"
     count = 0
-    for p, k, s, group, stripes in [(5, None, 64, 4, 10), (7, 5, 512, 1, 3), (31, None, 16, 8, 9)]:
-        images = setting.encoded(noise(stripes * (k or p) * p * s), p, k, s, group)
+    for p, k, s, unit, group, stripes in [(5, None, 64, 2, 4, 10), (7, 5, 512, 1, 1, 3), (31, None, 16, 4, 8, 9)]:
+        images = setting.encoded(noise(stripes * (k or p) * p * s), p, k, s, group, unit=unit)
         for lost in (0, 1, images.k, images.k + 1):
             images.lose(lost)
-            wanted = len(listed(setting, images, lost)) * s * stripes
-            would = setting.call("rebuild", "-n", images.folder, status=0)
+            most = listed(images, setting, lost) * s * stripes
+            would = int(setting.call("rebuild", "-n", images.folder, status=0).fields()["read"])
+            expect(would <= most and (k or would == most), f"lost {lost}: would read {would}, our plan {most}")
             traced = Traced(setting, "rebuild", images.folder)
-            asked = sum(length for name, file, _, length in traced.calls() if name == "pread64" and traced.opened(file).endswith(".img"))
+            asked = sum(length for name, file, _, length in traced.calls()
+                        if name == "pread64" and traced.opened(file).endswith(".img"))
             expect(traced.status == 0, f"rebuild of disk {lost} ended with {traced.status}")
-            expect(asked == wanted, f"p {p}, lost {lost}: {asked} bytes asked, the listed cells have {wanted}")
-            expect(int(would.fields()["read"]) == wanted, f"{wanted} expected: {would.told()}")
+            # the labels of the survivors, first and last, are read when they are opened
+            wanted = would + images.block_len * images.units() + 2 * 4096 * (images.disks - 1)
+            expect(asked == wanted, f"p {p}, lost {lost}: {asked} bytes asked, {wanted} expected")
+            images.lose(lost)
+            told = int(setting.call("rebuild", images.folder, status=0).fields()["read"])
+            expect(told == would + images.block_len * images.units(), f"p {p}, lost {lost}: {told} bytes told")
             count += 1
     return f"{count} rebuilds"
 
@@ -68,54 +48,62 @@ def cold(images):
 
 
 def device_reads(setting):
-    """What the device reads for a rebuild with a cold cache: the listed cells, and each survivor's label."""
-    images = setting.encoded(noise(5 * 5 * 4096 * 200), 5, where=setting.on_disk)
+    """What the device reads for a rebuild with a cold cache: within 1 % of the listed cells, and check reads all."""
+    images = setting.encoded(noise(5 * 5 * 4096 * 320), 5, where=setting.on_disk)
     cold(images)
     whole = setting.measured("check", images.folder).usage.ru_inblock * 512
     stripes = images.disks * images.p * images.s * images.stripes
     if whole < stripes:
         return "left out: the file system does not count device reads"
+    setting.call("decode", images.folder, "/dev/null", status=0)  # all data is in the cache now
+    again = setting.measured("check", images.folder)
+    if again.out.endswith(b",medium\n"):
+        read = again.usage.ru_inblock * 512
+        expect(read >= stripes, f"check says medium, and {read} bytes of {stripes} were read from the device")
     seen = []
     for lost in (1, 3):
         images.lose(lost)
+        asked = int(setting.call("rebuild", "-n", images.folder, status=0).fields()["read"])
+        expect(asked == listed(images, setting, lost) * images.s * images.stripes, f"{asked} bytes would be read")
         cold(images)
-        done = setting.measured("rebuild", images.folder)
-        asked, read = int(done.fields()["read"]), done.usage.ru_inblock * 512
-        expect(asked == len(listed(setting, images, lost)) * images.s * images.stripes, done.told())
-        # labels, and a few blocks of the folder and the file system
-        expect(asked <= read <= asked + (images.disks - 1) * 4096 + 64 * 1024, f"lost {lost}: {asked} bytes asked, {read} read")
+        read = setting.measured("rebuild", images.folder).usage.ru_inblock * 512
+        expect(asked <= read <= asked * 1.01, f"lost {lost}: {asked} bytes listed, {read} read")
         seen.append(f"{read} for {asked}")
     return f"bytes read: {', '.join(seen)}, by rows {images.k * images.p * images.s * images.stripes}"
 
 
-def around(setting):
-    """A survivor that cannot be read counts as lost there; two of them end the rebuild, and it can go on later."""
-    for p, s, group, stripes in [(5, 64, 4, 19), (7, 16, 1, 5)]:
-        film = noise(stripes * p * p * s)
-        images = setting.encoded(film, p, None, s, group)
-        before = images.images()
-        for lost, short in ((1, 3), (p, 0), (p + 1, 2), (0, p)):
-            images.lose(lost)
-            cut = images.offset(stripes // 2, 0)
-            images.path(short).write_bytes(before[short][:cut])
-            out = setting.new()
-            done = setting.call("decode", images.folder, out, status=0)
-            expect(out.read_bytes() == film, f"decode around disk {short}: another film")
-            expect(short >= p or int(done.fields()["around"]) > 0, done.told())
-            done = setting.call("rebuild", images.folder, status=0)
-            expect(images.path(lost).read_bytes() == before[lost], f"around disk {short}: other bytes of disk {lost}")
-            expect(int(done.fields()["around"]) > 0 and images.path(short).name.encode() in done.err, done.told())
-            images.path(short).write_bytes(before[short])
-        images.lose(1)
-        for short in (2, 3):
-            images.path(short).write_bytes(before[short][:cut])
-        done = setting.call("rebuild", images.folder, status=4)
-        expect(not images.path(1).exists(), "an image that is not whole stands in its place")
-        for short in (2, 3):
-            images.path(short).write_bytes(before[short])
-        setting.call("rebuild", images.folder, status=0)
-        expect(images.images() == before, "gone on after a failure: other bytes")
-    return "2 sets, 5 losses each"
+def unreadable(setting):
+    """Survivors that cannot be read: whole ones, and single cells of a piece, are mended from the rest of the unit."""
+    if not can_trace(setting):
+        return "left out: no tracing on this machine"
+    film = noise(9 * 5 * 5 * 512)
+    images = setting.encoded(film, 5, None, 512, 4, unit=2)
+    before = images.images()
+    all_of, count = [(LABEL, images.end())], 0
+
+    def cells(stripe, *rows):
+        return [(images.offset(stripe, row), images.offset(stripe, row) + images.s) for row in rows]
+
+    # the last one: three disks are bad in a unit, and two in each of its stripes
+    for lost, dead in (((1,), {3: all_of}), ((1,), {3: cells(2, 1), 4: cells(2, 2)}), ((), {0: all_of, 6: all_of}), ((0, 5), {}),
+                       ((6,), {0: cells(2, 0), 2: cells(2, 3)}), ((1,), {3: cells(2, *range(5)), 4: cells(3, *range(5))})):
+        images.lose(*lost)
+        out = setting.new()
+        spoil = {str(images.path(disk)): stretches for disk, stretches in dead.items()}
+        traced = Traced(setting, "decode", images.folder, out)
+        traced.fail_reads(spoil)
+        expect(traced.status == 0 and out.read_bytes() == film, f"lost {lost}, unreadable {dead}: status {traced.status}")
+        traced = Traced(setting, "rebuild", images.folder)
+        traced.fail_reads(spoil)
+        expect(traced.status == 0 and images.images() == before, f"lost {lost}, unreadable {dead}: {traced.status}")
+        count += 1
+    images.lose(1)
+    traced = Traced(setting, "rebuild", images.folder)
+    traced.fail_reads({str(images.path(disk)): all_of for disk in (2, 3)})
+    expect(traced.status == 6 and not images.path(1).exists(), f"three disks unreadable: status {traced.status}")
+    done = setting.call("rebuild", images.folder, status=0)
+    expect(images.images() == before, "gone on after a failure: other bytes")
+    return f"{count + 1} sets of unreadable disks"
 
 
 def memory(setting):
@@ -123,13 +111,12 @@ def memory(setting):
     if not can_trace(setting):
         return "left out: no tracing on this machine"
     most = 0
-    for p, k, group, stripes in [(31, 31, None, 17), (31, 31, 40, 9), (31, 2, None, 70)]:
-        film = noise(stripes * k * p * 4096)
+    for p, k, s, group, stripes in [(31, 31, 4096, [], 17), (31, 31, 4096, ["-g", 40], 9), (31, 2, 4096, [], 70), (31, 31, 1, [], 33_000),
+                                    (31, 2, 1, ["-u", 1, "-g", 65_536], 20_000)]:
         folder, source = setting.new(), setting.new()
-        source.write_bytes(film)
-        group = [] if group is None else ["-g", group]
-        calls = [["encode", "-p", p, "-k", k, *group, source, folder], ["check", folder], ["rebuild", "--disk", 1, folder],
-                 ["rebuild", "--disk", 0, "--disk", k, folder], ["decode", folder, "/dev/null"]]
+        source.write_bytes((noise(1 << 20) * (1 + (stripes * k * p * s >> 20)))[:stripes * k * p * s])
+        calls = [["encode", "-p", p, "-k", k, "-s", s, *group, source, folder], ["check", folder], ["repair", folder],
+                 ["rebuild", "--disk", 1, folder], ["rebuild", "--disk", 0, "--disk", k, folder], ["decode", folder, "/dev/null"]]
         for words in calls:
             traced = Traced(setting, *words)
             for name, *_ in traced.calls():
@@ -139,4 +126,16 @@ def memory(setting):
     return f"at most {most} KiB of 65536"
 
 
-CHECKS = [unlisted_cells, bytes_asked, device_reads, around, memory]
+def rates(setting):
+    """--rate: no more than so many bytes a second are read."""
+    images = setting.encoded(noise(3 * 3 * 4096 * 8), 3)
+    column = images.p * images.s * images.stripes
+    for words, read in ((["check"], 5 * column), (["repair"], 5 * column), (["rebuild", "--disk", 1], 7 * column // 3)):
+        done = setting.measured(*words, "--rate", 4 * read, images.folder)
+        expect(0.2 < done.seconds < 2, f"{words}: {done.seconds} s for {read} bytes at {4 * read} a second")
+        expect(setting.measured(*words, images.folder).seconds < 0.15, f"{words} is slow without a rate")
+    setting.call("check", "--rate", 0, images.folder, status=2)
+    return "3 commands"
+
+
+CHECKS = [bytes_asked, device_reads, unreadable, memory, rates]

@@ -1,16 +1,17 @@
-"""Images that a mistake cannot ruin: what does not belong together is refused, and nothing is written."""
+"""Images that a mistake cannot ruin: what does not belong together is told and not believed, and nothing is overwritten."""
 
 import fcntl
 import os
 import shutil
 import subprocess
-import zlib
 
-from harness import LABEL, expect, noise
+from harness import LABEL, MEMORY, Set, Traced, can_trace, expect, label_block, noise
+
+FILM = noise(5 * 5 * 16 * 9 - 3)
 
 
-def small(setting, seed=1, **more):
-    return setting.encoded(noise(5 * 5 * 16 * 9, seed), 5, s=16, group=4, **more)
+def small(setting, film=FILM, **more):
+    return setting.encoded(film, 5, s=16, group=4, unit=2, **more)
 
 
 def stands(setting, images, status, *words, says=b""):
@@ -22,79 +23,120 @@ def stands(setting, images, status, *words, says=b""):
     expect(status in (0, 1) or done.err.startswith(b"cuzhaveli: "), done.told())
 
 
-def belonging(setting):
-    """Swapped images, another set's, damaged labels, three lost: status 5, and nothing written."""
-    images, other = small(setting), small(setting, seed=2)
+def refused(setting, images, says):
+    """No set can be opened: status 5 for every command, and nothing written."""
+    for words in (["rebuild", images.folder], ["rebuild", "-n", images.folder], ["decode", images.folder, setting.new()],
+                  ["check", images.folder], ["repair", images.folder], ["info", images.folder]):
+        stands(setting, images, 5, *words, says=says)
+
+
+def strangers(setting):
+    """Swapped images, another set's, damaged ones: told, not believed; rebuild replaces them only if they are named."""
+    images, other = small(setting), small(setting, noise(3000, 2))
     good = images.images()
+    short = bytearray(good[4])
+    short[10] ^= 4
+    short[-10] ^= 4
+    cases = [({1: good[2], 2: good[1]}, b"disk-01.img is the image of disk 2"), ({3: other.path(3).read_bytes()}, b"disk-03.img is of set"),
+             ({4: bytes(short)}, b"disk-04.img has damaged labels"), ({0: bytes(len(good[0]))}, b"disk-00.img has no label"),
+             ({6: b"mine"}, b"disk-06.img has damaged labels")]
+    for changes, says in cases:
+        images.write(changes)
+        expect(setting.film(images) == FILM, f"{says}: another film")
+        done = setting.call("info", images.folder, status=1)
+        expect(says in done.err, done.told())
+        named = [word for disk in changes for word in ("--disk", str(disk))]
+        stands(setting, images, 5, "rebuild", images.folder, says=" ".join(["cuzhaveli rebuild", *named, str(images.folder)]).encode())
+        stands(setting, images, 5 if len(changes) > 1 else 0, "rebuild", "-n" if len(changes) == 1 else "-q", *named[:2], images.folder)
+        setting.call("rebuild", *named, images.folder, status=0)
+        expect(images.images() == good, f"{says}: other images after a rebuild")
+    return f"{len(cases)} sorts of strange images"
 
-    def refused(says):
-        for words in (["rebuild", images.folder], ["rebuild", "-n", images.folder], ["decode", images.folder, setting.new()],
-                      ["check", images.folder], ["info", images.folder]):
-            stands(setting, images, 5, *words, says=says)
-        for disk, image in good.items():
-            images.path(disk).write_bytes(image)
 
-    images.path(1).write_bytes(good[2])
-    images.path(2).write_bytes(good[1])
-    refused(b"disk-01.img is the image of disk 2")
-    images.path(3).write_bytes(other.path(3).read_bytes())
-    refused(b"disk-03.img is of set")
-    images.path(7).write_bytes(good[6])
-    refused(b"disk-07.img is the image of disk 6")
-    images.path(7).unlink()
-    for place in (0, 20, 100, LABEL - 1):
-        damaged = bytearray(good[4])
-        damaged[place] ^= 4
-        images.path(4).write_bytes(damaged)
-        refused(b"disk-04.img has a damaged label")
+def no_set(setting):
+    """Three lost, two sets in one folder, no labels, the first layout: refused by every command."""
+    images = small(setting)
+    good = images.images()
     images.lose(0, 3, 6)
-    refused(b"3 disks are lost (0+3+6)")
-    for disk in range(images.disks):
-        images.path(disk).write_bytes(bytes(len(good[disk])))
-    refused(b"no disk-NN.img with a label")
-    return "9 sorts of wrong images, 5 commands each"
-
-
-def sealed(lines):
-    """A label with the right sum."""
-    text = "".join(line + "\n" for line in lines)
-    return (text + f"sum {zlib.crc32(text.encode()):08x}\n").encode().ljust(LABEL, b"\0")
+    refused(setting, images, b"3 disks of set")
+    images.write(good)
+    for disk in (0, 1, 2):
+        os.truncate(images.path(disk), LABEL)
+    refused(setting, images, b"3 disks of set")
+    images.write({disk: bytes(len(image)) for disk, image in good.items()})
+    refused(setting, images, b"no disk-NN.img with a label")
+    first = b"cuzhaveli image 1\nset 0\n".ljust(len(good[0]), b"\0")
+    images.write({disk: first for disk in good})
+    refused(setting, images, b"images of the first layout")
+    narrow = [setting.encoded(noise(500, seed), 3, 2, 16) for seed in (1, 2)]
+    for disk in (0, 1):
+        narrow[0].path(disk).write_bytes(narrow[1].path(disk).read_bytes())
+    refused(setting, narrow[0], b"images of two whole sets")
+    for words in (["info"], ["check"], ["repair"], ["rebuild"], ["decode"]):
+        more = [setting.new()] if words == ["decode"] else []
+        setting.call(*words, setting.new(), *more, status=4)
+        setting.call(*words, images.path(0), *more, status=4)
+    return "5 folders, 6 commands each"
 
 
 def odd_labels(setting):
-    """Labels with a right sum that no set has."""
+    """Labels with a right sum that no set has: not believed."""
     images = small(setting)
-    good = images.path(0).read_bytes()
-    lines = good[:LABEL].rstrip(b"\0").decode().splitlines()[:-1]
-    expect(sealed(lines) == good[:LABEL], "the label is not as the manual has it")
-    changes = ["cuzhaveli image 2", "set x", "disk 7", "disk -1", "width 9", "disks 6", "cell 0", "cell 4097", "group 0",
-               "group 65537", "stripes 10", "stripes 18446744073709551615", "length 0", "length 18446744073709551615", "width 05"]
+    good = images.images()
+    lines = good[0][:LABEL].rstrip(b"\0").decode().splitlines()[:-1]
+    expect(label_block(lines) == good[0][:LABEL], "the label is not as the manual has it")
+    changes = ["cuzhaveli image 3", "set x", "set " + "g" * 32, "disk 7", "disk -1", "width 9", "disks 6", "cell 0", "cell 4097", "unit 0",
+               "unit 3", "unit 4096", "group 0", "group 5", "group 65538", "stripes 10", "stripes 18446744073709551615", "length 0",
+               "length 18446744073709551615", "length 281474976710657", "width 05", "unit 18446744073709551615"]
     for change in changes:
         name = change.split()[0]
         changed = [change if line.split()[0] == name else line for line in lines]
-        images.path(0).write_bytes(sealed(changed) + good[LABEL:])
-        stands(setting, images, 5, "rebuild", images.folder, says=b"disk-00.img has a damaged label")
+        block = label_block(changed)
+        images.path(0).write_bytes(block + good[0][LABEL:-LABEL] + block)
+        done = setting.call("info", images.folder, status=1)
+        expect(done.out.endswith(b"lost,0\n") and b"disk-00.img has damaged labels" in done.err, f"{change}: {done.told()}")
+    for change in changes:  # all labels: no set, no crash, nothing of that size taken
+        name = change.split()[0]
+        for disk, image in good.items():
+            own = [f"disk {disk}" if line.startswith("disk ") else line for line in lines]
+            block = label_block([change if line.split()[0] == name else line for line in own])
+            images.path(disk).write_bytes(block + image[LABEL:-LABEL] + block)
+        expect(setting.call("decode", images.folder, setting.new()).status == 5, f"{change} in all labels")
     return f"{len(changes)} labels"
 
 
+def large_labels(setting):
+    """Labels of a huge set on small images: the lengths are compared when images are opened."""
+    images = small(setting)
+    for disk in range(images.disks):
+        lines = [f"cuzhaveli image 2", images.lines[1], f"disk {disk}", "width 31", "disks 31", "cell 4096", "unit 8", "group 65536",
+                 "stripes 71507379", "length 281474976710656"]
+        lines[8] = f"stripes {-(-(1 << 48) // (31 * 31 * 4096))}"
+        images.path(disk).write_bytes(label_block(lines) + bytes(8192))
+    for words in (["decode", images.folder, setting.new()], ["check", images.folder], ["repair", images.folder], ["rebuild", images.folder]):
+        done = setting.call(*words, status=5)
+    return "4 commands"
+
+
 def lost_disks(setting):
-    """A disk is lost if its image is missing, blank, unfinished, or named; a damaged one can be named."""
+    """A disk is lost if its image is missing, empty, short, unfinished, or named; these are rebuilt without a word more."""
     images = small(setting)
     good = images.images()
-    for content in (b"", bytes(LABEL), bytes(len(good[2])), good[2].replace(b"image 1", b"image 9", 1)):
+    cases = (b"", good[2][:-1], good[2] + b"\0", good[2][:LABEL], images.label(2, "part") + good[2][LABEL:])
+    for content in cases:
         images.path(2).write_bytes(content)
-        named = ["--disk", 2] if b"image 9" in content else []
-        if not named:
-            setting.call("info", images.folder, status=1)
-        setting.call("rebuild", *named, images.folder, status=0)
+        done = setting.call("info", images.folder, status=1)
+        expect(done.out.endswith(b"lost,2\n") and b"it counts as lost" in done.err, done.told())
+        expect(setting.film(images) == FILM, f"{content[:20]}..: another film")
+        setting.call("rebuild", images.folder, status=0)
         expect(images.images() == good, f"{content[:20]}..: other images")
     stands(setting, images, 3, "rebuild", "--disk", 7, images.folder, says=b"refused,3: ")
     stands(setting, images, 0, "rebuild", images.folder)
-    return "5 sorts of lost disks"
+    return f"{len(cases)} sorts of lost disks"
 
 
 def nothing_overwritten(setting):
-    """encode and decode leave what is there, and take away what they cannot finish."""
+    """encode and decode leave what is there, links too, and take away what they cannot finish."""
     images = small(setting)
     film = setting.new()
     film.write_bytes(noise(1000))
@@ -105,36 +147,82 @@ def nothing_overwritten(setting):
     other = small(setting)
     setting.call("decode", other.folder, film, status=4)
     expect(film.read_bytes() == noise(1000), "decode wrote over a film")
-    part = film.with_suffix(".part")
+    out = setting.new()
+    part = out.with_name(out.name + ".part")
     part.write_bytes(b"mine")
-    setting.call("decode", other.folder, film.with_suffix(""), status=4)
+    setting.call("decode", other.folder, out, status=4)
+    expect(part.read_bytes() == b"mine" and not out.exists(), "decode wrote over a part")
+    setting.call("decode", other.folder, setting.scratch, status=4)
     stands(setting, other, 4, "encode", "-p", 5, setting.new(), other.folder / "new", says=b"No such file")
-    return "6 calls"
+    setting.call("encode", "-p", 5, setting.scratch, setting.new(), status=4)
+    return "8 calls"
 
 
-def record(images, lost, next_stripe):
-    """The record of a rebuild under way."""
-    return f"cuzhaveli run 1\nset {images.set}\nlost {lost}\nnext {next_stripe}\n"
-
-
-def foreign_parts(setting):
-    """Files of other rebuilds in the folder: a .part, a record, a record of another loss."""
-    images, other = small(setting), small(setting, seed=3)
-    good = images.images()
-    part = images.folder / "disk-01.img.part"
-    images.lose(1)
-    part.write_bytes(other.path(1).read_bytes())
-    stands(setting, images, 5, "rebuild", images.folder, says=b"is not of this rebuild")
-    part.unlink()
-    kept = images.folder / "rebuild.run"
-    for lines in ("", "x", record(images, 1, "07"), record(other, 1, 2), record(images, 2, 0), record(images, 1, 10)):
-        kept.write_text(lines)
-        stands(setting, images, 5, "rebuild", images.folder, says=b"rebuild.run")
-    # a record whose image is gone: begun anew
-    kept.write_text(record(images, 1, 4))
+def outside(setting):
+    """Links, hard links and pipes in the place of a part are not written through, and not waited for."""
+    precious = setting.new()
+    for kind in ("symlink", "hardlink", "fifo", "folder", "symlink to nothing"):
+        images = small(setting)
+        precious.write_bytes(b"precious")
+        images.lose(1)
+        part = images.part(1)
+        make = {"symlink": lambda: part.symlink_to(precious), "hardlink": lambda: os.link(precious, part), "fifo": lambda: os.mkfifo(part),
+                "folder": part.mkdir, "symlink to nothing": lambda: part.symlink_to(precious.with_suffix(".gone"))}
+        make[kind]()
+        done = setting.call("rebuild", images.folder, status=5)
+        expect(b"is not of this rebuild" in done.err and precious.read_bytes() == b"precious", done.told())
+        expect(not precious.with_suffix(".gone").exists() and not images.path(1).exists(), f"{kind}: written outside")
+        folder = setting.new()
+        folder.mkdir()
+        shutil.move(part, folder / "disk-02.img.part")
+        source = images.path(0)
+        done = setting.call("encode", "-p", 3, source, folder, status=4)
+        expect(precious.read_bytes() == b"precious" and len(list(folder.iterdir())) == 1, f"{kind}: {done.told()}")
+    images = small(setting)
+    images.lose(2)
+    os.mkfifo(images.path(2))
+    expect(setting.film(images) == FILM, "a pipe in an image's place")
+    stands(setting, images, 5, "rebuild", images.folder, says=b"neither a file nor a drive")
+    images.path(2).unlink()
+    images.path(2).symlink_to("/dev/zero")
+    expect(setting.film(images) == FILM, "a device in an image's place")
+    done = setting.call("judge", "-p", 5, "-d", 1, "/dev/zero", status=1)
+    expect(done.out == b"refused,22,0\n", done.told())
+    target = images.path(3).rename(setting.new())
+    images.path(3).symlink_to(target)
+    images.path(2).unlink()
     setting.call("rebuild", images.folder, status=0)
-    expect(images.images() == good, "a record without its image was gone on with")
-    return "8 foreign files"
+    images.flip(3, images.offset(0, 0))
+    before = target.read_bytes()
+    setting.call("repair", images.folder, status=4)
+    expect(target.read_bytes() == before, "repair wrote through a link to a file")
+    return "13 links, pipes and devices"
+
+
+def parts(setting):
+    """A part that is foreign is refused; one that is cut, stale or spoiled is gone on with to the same bytes."""
+    images, other = small(setting), small(setting, noise(3000, 3))
+    good = images.images()
+    images.lose(1)
+    for content in (other.path(1).read_bytes(), b"mine", noise(LABEL), good[2], images.label(2, "part") + good[2][LABEL:]):
+        images.part(1).write_bytes(content)
+        stands(setting, images, 5, "rebuild", images.folder, says=b"is not of this rebuild")
+    mark = images.label(1, "part")
+    spoiled = bytearray(mark + good[1][LABEL:])
+    for unit in (1, 3):
+        spoiled[images.offset(2 * unit, 2)] ^= 1
+    block = bytearray(mark + good[1][LABEL:])
+    block[images.block(2)] ^= 1
+    cases = [(mark, 0), (mark[:LABEL] + bytes(images.image_bytes() - LABEL), 0), (b"", 0), (bytes(100), 0), (mark + good[1][LABEL:], 9),
+             (bytes(spoiled), 5), (bytes(block), 7), (mark + good[1][LABEL:images.block(2)], 4), (mark + other.path(1).read_bytes()[LABEL:], 0),
+             (good[1], 9), (mark + good[1][LABEL:] + bytes(500), 9)]
+    for content, kept in cases:
+        images.part(1).write_bytes(content)
+        done = setting.call("rebuild", images.folder, status=0)
+        expect(images.images() == good, f"a part of {len(content)} bytes, {kept} stripes good: other images")
+        expect(done.fields()["kept"] == str(kept) and done.fields()["stripes"] == str(9 - kept), f"{kept} kept expected: {done.told()}")
+        images.lose(1)
+    return f"{5 + len(cases)} parts"
 
 
 def locked(setting):
@@ -143,50 +231,12 @@ def locked(setting):
     images.lose(2)
     folder = os.open(images.folder, os.O_RDONLY)
     fcntl.flock(folder, fcntl.LOCK_EX)
-    stands(setting, images, 4, "rebuild", images.folder, says=b"another cuzhaveli")
-    stands(setting, images, 4, "encode", "-p", 5, images.path(0), images.folder, says=b"another cuzhaveli")
+    for words in (["rebuild", images.folder], ["repair", images.folder], ["encode", "-p", 5, images.path(0), images.folder]):
+        stands(setting, images, 4, *words, says=b"another cuzhaveli")
     stands(setting, images, 0, "rebuild", "-n", images.folder)
     os.close(folder)
     setting.call("rebuild", images.folder, status=0)
-    return "4 calls"
+    return "5 calls"
 
 
-def drives(setting):
-    """An image that is a link to a block device is written in place, its label last."""
-    if os.geteuid() != 0 or not shutil.which("losetup"):
-        return "left out: no loop devices for this user"
-    images = setting.encoded(noise(100_000), 3, s=512, where=setting.on_disk)
-    good = images.images()
-    backing = setting.new(setting.on_disk)
-    backing.write_bytes(bytes(images.image_bytes() + 4096))
-    made = subprocess.run(["losetup", "--find", "--show", backing], capture_output=True, text=True)
-    if made.returncode != 0:
-        return "left out: no loop device can be had"
-    drive = made.stdout.strip()
-    try:
-        images.lose(2)
-        images.path(2).symlink_to(drive)
-        setting.call("info", images.folder, status=1)
-        setting.call("rebuild", images.folder, status=0)
-        expect(images.path(2).is_symlink(), "the link to the drive was replaced")
-        expect(images.path(2).read_bytes()[:len(good[2])] == good[2], "other bytes on the drive")
-        setting.call("check", images.folder, status=0)
-        # a new drive in the place of one that was rebuilt in part: the record is not gone on with
-        with open(drive, "r+b") as bytes_of:
-            bytes_of.write(bytes(len(good[2])))
-        (images.folder / "rebuild.run").write_text(record(images, 2, images.stripes - 1))
-        setting.call("rebuild", images.folder, status=0)
-        expect(images.path(2).read_bytes()[:len(good[2])] == good[2], "a new drive was gone on with as if it were the old one")
-        second = setting.new()
-        second.mkdir()
-        (second / "disk-02.img").symlink_to(drive)
-        film = setting.new()
-        film.write_bytes(noise(5000))
-        done = setting.call("encode", "-p", 3, film, second, status=4)
-        expect(b"is there already" in done.err and len(list(second.iterdir())) == 1, done.told())
-    finally:
-        subprocess.run(["losetup", "--detach", drive], check=False)
-    return "a loop device rebuilt in place"
-
-
-CHECKS = [belonging, odd_labels, lost_disks, nothing_overwritten, foreign_parts, locked, drives]
+CHECKS = [strangers, no_set, odd_labels, large_labels, lost_disks, nothing_overwritten, outside, parts, locked]

@@ -4,6 +4,8 @@ use std::ffi::{OsStr, OsString};
 use std::path::Path;
 
 use cuzhaveli::Shape;
+use cuzhaveli_tool::drives::Overwrite;
+use cuzhaveli_tool::pace::Pace;
 
 use crate::fault::Fault;
 
@@ -81,6 +83,20 @@ impl Given {
     fn values<'a>(&'a self, name: &'a str) -> impl Iterator<Item = &'a OsStr> {
         let named = move |(given, _): &&(&str, OsString)| *given == name;
         self.options.iter().filter(named).map(|(_, value)| &**value)
+    }
+
+    /// The drives that may be overwritten.
+    pub fn overwrite(&self) -> Result<Overwrite, Fault> {
+        Overwrite::of(self.values("--overwrite"))
+    }
+
+    /// The most bytes that are read a second.
+    pub fn pace(&self) -> Result<Pace, Fault> {
+        let rate = self.number("--rate")?;
+        if rate == Some(0) {
+            return Err(usage("--rate 0: nothing would ever be read".into()));
+        }
+        Ok(Pace::new(rate))
     }
 
     /// A number, if the option is given.

@@ -18,6 +18,8 @@ pub enum Fault {
     Failed(String),
     /// More than two disks are lost, or images do not belong together.
     Images(String),
+    /// Film that cannot be made right.
+    Beyond(String),
 }
 
 impl Fault {
@@ -28,6 +30,7 @@ impl Fault {
             Fault::Refused(..) => 3,
             Fault::Failed(_) => 4,
             Fault::Images(_) => 5,
+            Fault::Beyond(_) => 6,
         }
     }
 
@@ -54,9 +57,8 @@ impl fmt::Display for Fault {
             Fault::Refused(refusal, place) => {
                 write!(f, "{}{place}", refusal.to_string().replacen("refused, ", "refused,", 1))
             }
-            Fault::No(text) | Fault::Usage(text) | Fault::Failed(text) | Fault::Images(text) => {
-                f.write_str(text)
-            }
+            Fault::No(text) | Fault::Usage(text) | Fault::Failed(text) => f.write_str(text),
+            Fault::Images(text) | Fault::Beyond(text) => f.write_str(text),
         }
     }
 }

@@ -1,34 +1,17 @@
-//! Images that are being written.
+//! All that is written: images, films, names. A file is written under another name and gets its own
+//! once it is whole and synced; a drive is marked first and gets its labels last.
 
 use std::fs::{self, File, OpenOptions};
 use std::io::{self, ErrorKind, Seek, SeekFrom};
-use std::os::unix::fs::{FileExt, FileTypeExt};
+use std::os::unix::fs::{FileExt, MetadataExt, OpenOptionsExt};
 use std::path::{Path, PathBuf};
 
+use crate::drives::Overwrite;
 use crate::fault::Fault;
-use crate::images::first_block;
-use crate::label::{Block, Found};
-use crate::layout::{Batch, Layout};
-
-/// An image that is being written: a file, or a drive in place.
-pub struct Output {
-    pub disk: usize,
-    /// Where it is to stand.
-    image: PathBuf,
-    /// Where it is written.
-    path: PathBuf,
-    file: File,
-    drive: bool,
-}
-
-/// Whether the image is a drive, which is written in place.
-fn is_drive(image: &Path) -> bool {
-    fs::metadata(image).is_ok_and(|data| data.file_type().is_block_device())
-}
-
-fn open(path: &Path, options: &OpenOptions) -> Result<File, Fault> {
-    options.open(path).map_err(|error| Fault::path(path, error))
-}
+use crate::geometry::LABEL_BYTES;
+use crate::image::Image;
+use crate::label::{Block, Found, Label};
+use crate::sys;
 
 /// Locks a folder against a second program that writes there, until the file is closed.
 pub fn lock(folder: &Path) -> Result<File, Fault> {
@@ -43,135 +26,225 @@ pub fn lock(folder: &Path) -> Result<File, Fault> {
     }
 }
 
-/// Makes renames and removals in a folder last.
+/// Makes names in a folder last.
 pub fn sync_folder(folder: &Path) -> Result<(), Fault> {
     let synced = File::open(folder).and_then(|file| file.sync_all());
     synced.map_err(|error| Fault::path(folder, error))
 }
 
+/// The folder that has a path.
+pub fn folder_of(path: &Path) -> &Path {
+    match path.parent() {
+        Some(folder) if folder != Path::new("") => folder,
+        _ => Path::new("."),
+    }
+}
+
+/// Where a file is written until it is whole.
+pub fn part_path(path: &Path) -> PathBuf {
+    let mut part = path.as_os_str().to_owned();
+    part.push(".part");
+    part.into()
+}
+
+pub fn taken(path: &Path) -> Fault {
+    Fault::Failed(format!(
+        "{} is there already, and nothing is overwritten; remove it or give another name",
+        path.display()
+    ))
+}
+
+/// A file or drive that is being written.
+pub struct Output {
+    /// Where it is to stand.
+    target: PathBuf,
+    /// Where it is written: the same for a drive.
+    path: PathBuf,
+    file: File,
+    /// The drive's number, if it is one.
+    pub drive: Option<u64>,
+    /// Whether it may take the place of what has its name.
+    replaces: bool,
+}
+
 impl Output {
-    /// A new image without a label: a file that is not there yet, or a drive whose first block is all zeros.
-    pub fn create(image: &Path, disk: usize) -> Result<Output, Fault> {
-        let drive = is_drive(image);
-        let mut options = OpenOptions::new();
-        options.read(true).write(true).create_new(!drive);
-        let file = match open(image, &options) {
-            Ok(file) => file,
-            Err(_) if image.exists() => return Err(taken(image)),
-            Err(fault) => return Err(fault),
-        };
-        let output = Output { disk, image: image.into(), path: image.into(), file, drive };
-        if drive && !matches!(Found::of(&output.block()?), Found::Blank) {
-            return Err(taken(image));
+    /// A new file that nothing stands in the way of.
+    pub fn create(target: &Path) -> Result<Output, Fault> {
+        if target.symlink_metadata().is_ok() {
+            return Err(taken(target));
         }
-        Ok(output)
+        Output::create_part(target)
     }
 
-    /// Whether an earlier call has begun this image: its file or drive has one of the first blocks. A file that has
-    /// another one is somebody else's.
-    pub fn begun(image: &Path, blocks: &[Block]) -> Result<bool, Fault> {
-        let path = part_path(image);
-        let file = match File::open(&path) {
-            Err(error) if error.kind() == ErrorKind::NotFound => return Ok(false),
+    /// A new file beside what may have its name.
+    pub fn create_part(target: &Path) -> Result<Output, Fault> {
+        let path = part_path(target);
+        let mut options = OpenOptions::new();
+        options.read(true).write(true).create_new(true).custom_flags(sys::NO_FOLLOW);
+        let file = match options.open(&path) {
+            Err(error) if error.kind() == ErrorKind::AlreadyExists => return Err(taken(&path)),
             file => file.map_err(|error| Fault::path(&path, error))?,
         };
-        let block = first_block(&file).map_err(|error| Fault::path(&path, error))?;
-        if blocks.contains(&block) {
-            return Ok(true);
-        }
-        if is_drive(image) || matches!(Found::of(&block), Found::Blank) {
-            return Ok(false);
+        Ok(Output { target: target.into(), path, file, drive: None, replaces: false })
+    }
+
+    /// A drive that no one else has and that may be overwritten: it is named, or begins with one of
+    /// these blocks.
+    pub fn drive(path: &Path, named: &Overwrite, ours: &[Block]) -> Result<Output, Fault> {
+        let mut options = OpenOptions::new();
+        options.read(true).write(true).custom_flags(sys::EXCLUSIVE | sys::NO_WAIT);
+        let file = options.open(path).map_err(|error| busy(path, error))?;
+        let data = file.metadata().map_err(|error| Fault::path(path, error))?;
+        let Some(number) = sys::drive(&data) else {
+            return Err(Fault::Failed(format!("{} is no drive any more", path.display())));
+        };
+        let output = Output {
+            target: path.into(),
+            path: path.into(),
+            file,
+            drive: Some(number),
+            replaces: true,
+        };
+        if named.has(number) || ours.contains(&output.first_block()?) {
+            return Ok(output);
         }
         Err(Fault::Images(format!(
-            "{} is not of this rebuild; remove it to begin anew",
+            "{0} is a drive that is not marked as this set and disk; if what is on it may be overwritten, say so: \
+             --overwrite {0}",
             path.display()
         )))
     }
 
-    /// The image of a lost disk, gone on with or begun anew with the mark and a length.
-    pub fn part(
-        image: &Path,
-        disk: usize,
-        begun: bool,
-        mark: &Block,
-        len: u64,
-    ) -> Result<Output, Fault> {
-        let (drive, path) = (is_drive(image), part_path(image));
+    /// A file that is an image, to be repaired in place.
+    pub fn image(image: &Image) -> Result<Output, Fault> {
+        let path = &image.path;
         let mut options = OpenOptions::new();
-        options.read(true).write(true).create(!drive).truncate(!drive && !begun);
-        let file = open(&path, &options)?;
-        let mut output = Output { disk, image: image.into(), path, file, drive };
-        output.set_len(len)?;
-        if !begun {
-            output.write_label(mark)?;
+        options.read(true).write(true).custom_flags(sys::NO_FOLLOW | sys::NO_WAIT);
+        let file = options.open(path).map_err(|error| Fault::path(path, error))?;
+        let data = file.metadata().map_err(|error| Fault::path(path, error))?;
+        if !image.is(&data) {
+            return Err(Fault::Failed(format!("{} is another file now", path.display())));
         }
-        Ok(output)
+        Ok(Output { target: path.into(), path: path.into(), file, drive: None, replaces: false })
     }
 
-    /// Gives a file its length, with zeros at its end; a drive must have it.
+    /// The file in which a rebuild of this disk was begun, if there is one that begins with one of
+    /// these blocks.
+    pub fn begun(target: &Path, ours: &[Block]) -> Result<Option<Output>, Fault> {
+        let path = part_path(target);
+        match path.symlink_metadata() {
+            Ok(data) if data.is_file() && data.nlink() == 1 => {}
+            Ok(_) => return Err(not_ours(&path)), // links would be written through, a pipe waited for
+            Err(error) if error.kind() == ErrorKind::NotFound => return Ok(None),
+            Err(error) => return Err(Fault::path(&path, error)),
+        }
+        let mut options = OpenOptions::new();
+        options.read(true).write(true).custom_flags(sys::NO_FOLLOW | sys::NO_WAIT);
+        let file = options.open(&path).map_err(|error| Fault::path(&path, error))?;
+        let data = file.metadata().map_err(|error| Fault::path(&path, error))?;
+        let target = target.to_path_buf();
+        let output = Output { target, path, file, drive: None, replaces: false };
+        let block = output.first_block()?;
+        // One that was cut off before its mark was on the disk has nothing else in it.
+        let blank = data.len() <= LABEL_BYTES as u64 && Found::of(&block) == Found::Blank;
+        if data.is_file() && data.nlink() == 1 && (blank || ours.contains(&block)) {
+            return Ok(Some(output));
+        }
+        Err(not_ours(&output.path))
+    }
+
+    /// It may take the place of what has its name.
+    pub fn replacing(self) -> Output {
+        Output { replaces: true, ..self }
+    }
+
+    pub fn path(&self) -> &Path {
+        &self.path
+    }
+
+    /// The first block, filled up with zeros if the file is shorter.
+    pub fn first_block(&self) -> Result<Block, Fault> {
+        let mut block = [0; LABEL_BYTES];
+        let mut done = 0;
+        while done < LABEL_BYTES {
+            match self.file.read_at(&mut block[done..], done as u64) {
+                Ok(0) => break,
+                Ok(more) => done += more,
+                Err(error) if error.kind() == ErrorKind::Interrupted => {}
+                Err(error) => return Err(self.fault(0, &error)),
+            }
+        }
+        Ok(block)
+    }
+
+    /// Reads back what was written.
+    pub fn read(&self, bytes: &mut [u8], offset: u64) -> io::Result<()> {
+        self.file.read_exact_at(bytes, offset)
+    }
+
+    /// Gives a file its length; a drive must have it.
     pub fn set_len(&mut self, len: u64) -> Result<(), Fault> {
-        if !self.drive {
+        if self.drive.is_none() {
             return self.file.set_len(len).map_err(|error| self.fault(0, &error));
         }
         let has = self.file.seek(SeekFrom::End(0)).map_err(|error| self.fault(0, &error))?;
         if has < len {
             let path = self.path.display();
-            return Err(Fault::Failed(format!("{path} has {has} bytes, and the image {len}")));
+            return Err(Fault::Failed(format!("{path} has {has} bytes, and {len} are needed")));
         }
         Ok(())
     }
 
-    /// Writes the disk's cells of a batch of stripes; `rows` has room for them.
-    pub fn write(
-        &self,
-        layout: Layout,
-        batch: Batch,
-        stripes: &[u8],
-        rows: &mut [u8],
-    ) -> Result<(), Fault> {
-        for piece in layout.pieces(batch, 0..layout.shape.width()) {
-            let bytes = &mut rows[..piece.len];
-            let mut cells = bytes.chunks_exact_mut(layout.shape.cell_size());
-            for cell in piece.rows.map(|row| layout.shape.cell_range(row, self.disk)) {
-                let stripes = stripes.chunks_exact(layout.shape.stripe_len()).take(batch.count);
-                for (stripe, bytes) in stripes.zip(&mut cells) {
-                    bytes.copy_from_slice(&stripe[cell.clone()]);
-                }
-            }
-            let written = self.file.write_all_at(bytes, piece.offset);
-            written.map_err(|error| self.fault(piece.offset, &error))?;
-        }
-        Ok(())
-    }
-
-    pub fn write_label(&self, block: &Block) -> Result<(), Fault> {
-        let written = self.file.write_all_at(block, 0).and_then(|()| self.file.sync_all());
-        written.map_err(|error| self.fault(0, &error))
+    pub fn write(&self, bytes: &[u8], offset: u64) -> Result<(), Fault> {
+        let written = self.file.write_all_at(bytes, offset);
+        written.map_err(|error| self.fault(offset, &error))
     }
 
     pub fn sync(&self) -> Result<(), Fault> {
-        self.file.sync_data().map_err(|error| self.fault(0, &error))
+        self.file.sync_all().map_err(|error| self.fault(0, &error))
     }
 
-    /// Writes the label and puts the image where it is to stand.
-    pub fn finish(&self, label: &Block) -> Result<(), Fault> {
-        self.sync()?;
-        self.write_label(label)?;
-        if self.drive {
-            return Ok(());
+    /// Marks an image as one that is being written, so that none takes it for whole. A drive must
+    /// be long enough; a file gets its length once its mark is on the disk.
+    pub fn mark(&mut self, label: &Label, disk: usize, len: u64) -> Result<(), Fault> {
+        if self.drive.is_some() {
+            self.set_len(len)?;
         }
-        fs::rename(&self.path, &self.image).map_err(|error| Fault::path(&self.path, error))
+        self.write(&label.mark(disk), 0)?;
+        self.sync()?;
+        self.set_len(len)
     }
 
-    /// Takes a new image away again, as far as that can be done.
+    /// Labels an image whose cells and checksum blocks are all written: a drive's after a sync of
+    /// these.
+    pub fn label(&self, label: &Label, disk: usize) -> Result<(), Fault> {
+        if self.drive.is_some() {
+            self.sync()?;
+        }
+        let block = label.block(disk);
+        self.write(&block, label.geometry.end())?;
+        self.write(&block, 0)?;
+        self.sync()
+    }
+
+    /// Gives a file its name; the folder is to be synced.
+    pub fn name(&self) -> Result<(), Fault> {
+        let named = match (self.drive, self.replaces) {
+            (Some(_), _) => Ok(()),
+            (None, true) => fs::rename(&self.path, &self.target),
+            (None, false) => sys::rename_new(&self.path, &self.target),
+        };
+        named.map_err(|error| match error.kind() {
+            ErrorKind::AlreadyExists => taken(&self.target),
+            _ => Fault::path(&self.path, error),
+        })
+    }
+
+    /// Takes a new file away again, as far as that can be done.
     pub fn discard(self) {
-        if !self.drive {
+        if self.drive.is_none() {
             let _ = fs::remove_file(&self.path);
         }
-    }
-
-    fn block(&self) -> Result<Block, Fault> {
-        first_block(&self.file).map_err(|error| Fault::path(&self.path, error))
     }
 
     fn fault(&self, byte: u64, error: &io::Error) -> Fault {
@@ -179,19 +252,16 @@ impl Output {
     }
 }
 
-/// Where an image is written until it is whole.
-pub fn part_path(image: &Path) -> PathBuf {
-    if is_drive(image) {
-        return image.into();
+fn busy(path: &Path, error: io::Error) -> Fault {
+    if error.kind() == ErrorKind::ResourceBusy {
+        return Fault::Failed(format!(
+            "{}: a file system or another program has this drive; unmount it, or give another",
+            path.display()
+        ));
     }
-    let mut path = image.as_os_str().to_owned();
-    path.push(".part");
-    path.into()
+    Fault::path(path, error)
 }
 
-fn taken(image: &Path) -> Fault {
-    Fault::Failed(format!(
-        "{} is there already, and nothing is overwritten; remove it or give another folder",
-        image.display()
-    ))
+fn not_ours(path: &Path) -> Fault {
+    Fault::Images(format!("{} is not of this rebuild; remove it to begin anew", path.display()))
 }

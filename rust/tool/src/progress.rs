@@ -28,7 +28,7 @@ impl Progress {
         if self.on && self.shown.is_none_or(|shown| shown.elapsed() >= PAUSE) {
             self.shown = Some(Instant::now());
             let line = line(&self.what, self.done, self.total, self.begun.elapsed());
-            let _ = write!(io::stderr(), "\r{line}\x1b[K");
+            let _ = io::stderr().write_all(format!("\r{line}\x1b[K").as_bytes());
         }
     }
 }

@@ -3,6 +3,10 @@
 use std::fmt::Display;
 use std::io::{self, Write};
 
+use cuzhaveli_tool::reader::Beyond;
+use cuzhaveli_tool::set::Set;
+use cuzhaveli_tool::sys;
+
 use crate::fault::Fault;
 
 /// Writes a line of results.
@@ -10,11 +14,20 @@ pub fn line(text: impl Display) -> Result<(), Fault> {
     bytes(format!("{text}\n").as_bytes())
 }
 
-/// Writes results as they are. A pipe that was closed is an error like any other.
+/// Writes results as they are. An output that was closed is an error like any other.
 pub fn bytes(text: &[u8]) -> Result<(), Fault> {
+    is_open()?;
     let mut output = io::stdout().lock();
     let written = output.write_all(text).and_then(|()| output.flush());
     written.map_err(|error| Fault::Failed(format!("standard output: {error}")))
+}
+
+/// Refuses a standard output that the program was started without.
+pub fn is_open() -> Result<(), Fault> {
+    if sys::output_was_closed() {
+        return Err(Fault::Failed("standard output: closed".into()));
+    }
+    Ok(())
 }
 
 /// Tells the user why the program ends; nothing for an empty text.
@@ -29,12 +42,12 @@ pub fn warn(text: &str) {
     let _ = writeln!(io::stderr(), "cuzhaveli: {text}");
 }
 
-/// Disks as results name them: `1`, or `1+4`, or `none`.
-pub fn disks(disks: &[usize]) -> String {
-    let names: Vec<String> = disks.iter().map(usize::to_string).collect();
-    if names.is_empty() {
-        "none".into()
-    } else {
-        names.join("+")
-    }
+/// Tells of images that are there and are not believed.
+pub fn notes(set: &Set) {
+    set.notes().iter().for_each(|note| warn(note));
+}
+
+/// Tells of stripes that cannot be made right.
+pub fn beyond(set: &Set, beyond: &Beyond) {
+    warn(&format!("{}, {}", set.folder().display(), beyond.told()));
 }

@@ -15,15 +15,25 @@ pub const COMMAND: Command = Command {
 };
 
 fn run(given: &Given) -> Result<(), Fault> {
-    let rates = given.value("--rates").ok_or_else(|| usage("--rates is missing".into()))?;
+    let rates = rates(given)?.ok_or_else(|| usage("--rates is missing".into()))?;
+    say::line(bill(given.needed("--bytes")?, rates)?)
+}
+
+/// The three rates, if they are given.
+pub fn rates(given: &Given) -> Result<Option<[u64; 3]>, Fault> {
+    let Some(rates) = given.value("--rates") else { return Ok(None) };
     let fields = rates.to_string_lossy();
     let rates: Vec<u64> = fields
         .split(',')
         .map(|field| number("--rates", field.as_ref()))
         .collect::<Result<_, _>>()?;
-    let rates: [u64; 3] =
-        rates.try_into().map_err(|_| usage(format!("--rates {fields}: not three numbers")))?;
-    let bill = cuzhaveli::bill(given.needed("--bytes")?, rates)?;
+    let three = rates.try_into();
+    three.map(Some).map_err(|_| usage(format!("--rates {fields}: not three numbers")))
+}
+
+/// The bill of so many bytes, as a line.
+pub fn bill(bytes: u64, rates: [u64; 3]) -> Result<String, Fault> {
+    let bill = cuzhaveli::bill(bytes, rates)?;
     let [first, second, third] = bill.bands;
-    say::line(format!("first,{first},second,{second},third,{third},cents,{}", bill.cents))
+    Ok(format!("first,{first},second,{second},third,{third},cents,{}", bill.cents))
 }

@@ -1,67 +1,143 @@
-//! `check`: is every stripe clean?
+//! `check`: does every byte fit its checksum, and is every stripe clean?
+
+use std::time::{Duration, Instant};
 
 use cuzhaveli::Scrub;
+use cuzhaveli_tool::examine::{examine, Findings};
+use cuzhaveli_tool::reader::Flaw;
+use cuzhaveli_tool::set::{joined, Absence, Set};
 
 use crate::args::{Form, Given};
 use crate::commands::Command;
 use crate::fault::Fault;
-use crate::images::Images;
 use crate::progress::Progress;
 use crate::say;
-use crate::source::{Reading, Source};
 
 pub const COMMAND: Command = Command {
     name: "check",
-    usage: "[-q] DIR",
-    about: "is every stripe clean? prints `dirty,STRIPE,DISK` lines, with the one disk that explains it, or `several`",
-    options: &[Form::Flag("-q")],
+    usage: "[-q] [--rate BYTES] [--from STRIPE] DIR",
+    about: "read every byte from the medium and compare it with its checksum, and every stripe with its parity; --rate: \
+            read no more than BYTES a second; --from: begin at STRIPE",
+    options: &[Form::Flag("-q"), Form::Value("--rate"), Form::Value("--from")],
     operands: 1..=1,
     run,
 };
 
-fn run(given: &Given) -> Result<(), Fault> {
-    let images = Images::open(given.path(0), &[])?;
-    let lost = images.lost_few()?;
-    if !lost.is_empty() {
-        let (disks, folder) = (say::disks(&lost), images.folder().display());
-        say::line(format!("lost,{disks}"))?;
-        return Err(Fault::No(format!(
-            "disks {disks} are lost; rebuild them first: cuzhaveli rebuild {folder}"
-        )));
-    }
-    let (layout, stripes) = (images.label.layout, images.label.stripes);
-    let readings: Vec<Reading> =
-        images.present().map(|disk| Reading::whole(layout.shape, disk)).collect();
-    let total = stripes * layout.shape.stripe_len() as u64;
-    let mut progress = Progress::new("check".into(), Some(total), given.flag("-q"));
-    let mut source = Source::new(&images);
-    let mut dirty = 0;
-    let mut batches = layout.batches(0, stripes).peekable();
-    source.ahead(batches.peek().copied(), &readings);
-    while let Some(batch) = batches.next() {
-        source.ahead(batches.peek().copied(), &readings);
-        source.read(batch, &readings).map_err(|unread| source.fault(&unread))?;
-        for place in 0..batch.count {
-            let verdict = layout.shape.scrub(source.stripe(place))?;
-            dirty += tell(batch.first + place as u64, verdict)?;
-        }
-        progress.add((batch.count * layout.shape.stripe_len()) as u64);
-    }
-    drop(progress);
-    say::line(format!("checked,{stripes},dirty,{dirty},read,{}", source.read))?;
-    if dirty == 0 {
-        Ok(())
-    } else {
-        Err(Fault::No(String::new()))
-    }
+/// How often a check says how far it is, for one that is stopped.
+const SAID_EVERY: Duration = Duration::from_secs(60);
+
+/// What was found so far.
+#[derive(Default)]
+struct Count {
+    bad: u64,
+    dirty: u64,
+    beyond: u64,
 }
 
-/// Says whether a stripe is dirty; gives 1 if it is.
-fn tell(stripe: u64, verdict: Scrub) -> Result<u64, Fault> {
-    match verdict {
-        Scrub::Clean => return Ok(0),
-        Scrub::OneDisk(disk) => say::line(format!("dirty,{stripe},{disk}"))?,
-        Scrub::MoreThanOne => say::line(format!("dirty,{stripe},several"))?,
+fn run(given: &Given) -> Result<(), Fault> {
+    let (pace, from) = (given.pace()?, given.number("--from")?.unwrap_or(0));
+    let mut set = Set::open(given.path(0), &[])?;
+    say::notes(&set);
+    let geometry = set.label.geometry;
+    let mut count = Count { bad: set.bad_labels.len() as u64, ..Count::default() };
+    tell_images(&set)?;
+    let cached = set.go_direct();
+    let each = geometry.shape.stripe_len() as u64;
+    let first = (from / geometry.unit).min(geometry.units());
+    let begun = geometry.stripes - (first * geometry.unit).min(geometry.stripes);
+    let mut progress = Progress::new("check".into(), Some(each * begun), given.flag("-q"));
+    let mut said = Instant::now();
+    let read = examine(&set, first, pace, |found| {
+        tell_all(&set, &found, &mut count)?;
+        progress.add(found.batch.count as u64 * each);
+        if said.elapsed() >= SAID_EVERY {
+            said = Instant::now();
+            say::line(format!("at,{}", found.batch.first + found.batch.count as u64))?;
+        }
+        Ok(())
+    })?;
+    drop(progress);
+    let Count { bad, dirty, beyond } = count;
+    let way =
+        if cached.is_empty() { "medium".into() } else { format!("cached {}", joined(&cached)) };
+    say::line(format!(
+        "checked,{begun},bad,{bad},dirty,{dirty},beyond,{beyond},read,{read},{way}"
+    ))?;
+    what_to_do(&set, &count)
+}
+
+/// Prints which disks are lost, and which labels are bad.
+fn tell_images(set: &Set) -> Result<(), Fault> {
+    for disk in set.lost() {
+        let why = match set.absence(disk) {
+            Some(Absence::Unfinished(_)) => "unfinished",
+            Some(Absence::Foreign(_)) => "foreign",
+            _ => "missing",
+        };
+        say::line(format!("lost,{disk},{why}"))?;
     }
-    Ok(1)
+    for (disk, at) in &set.bad_labels {
+        say::line(format!("label,{disk},{}", if *at == 0 { "first" } else { "last" }))?;
+    }
+    Ok(())
+}
+
+/// Prints what was found in a batch.
+fn tell_all(set: &Set, found: &Findings, count: &mut Count) -> Result<(), Fault> {
+    let geometry = set.label.geometry;
+    let stripes = |unit: usize| geometry.stripes_of(found.batch.unit + unit as u64);
+    for bad in found.reader.bad() {
+        let (stripes, why) =
+            (stripes(bad.unit), if bad.flaw == Flaw::Sum { "sum" } else { "read" });
+        let (first, cells) = (stripes.start, stripes.end - stripes.start);
+        say::line(format!("bad,{},{},{first},{cells},{why}", bad.disk, bad.row))?;
+        count.bad += 1;
+    }
+    for bad in &found.blocks {
+        let stripes = stripes(bad.unit);
+        let (first, cells) = (stripes.start, stripes.end - stripes.start);
+        say::line(format!("block,{},{first},{cells}", bad.disk))?;
+        count.bad += 1;
+    }
+    for beyond in &found.beyond {
+        let (first, cells) = (beyond.stripes.start, beyond.stripes.end - beyond.stripes.start);
+        say::line(format!("beyond,{first},{cells},{}", joined(&beyond.disks)))?;
+        count.beyond += 1;
+    }
+    for (stripe, verdict) in found.dirty()? {
+        match verdict {
+            Scrub::OneDisk(disk) => say::line(format!("dirty,{stripe},{disk}"))?,
+            _ => say::line(format!("dirty,{stripe},several"))?,
+        }
+        count.dirty += 1;
+    }
+    Ok(())
+}
+
+/// Ends with what is to be done.
+fn what_to_do(set: &Set, count: &Count) -> Result<(), Fault> {
+    let (folder, lost) = (set.folder().display(), set.lost());
+    if count.beyond > 0 {
+        return Err(Fault::Beyond(format!(
+            "{folder}: film that cannot be made right; put back images that are somewhere else, or save the rest: \
+             cuzhaveli decode {folder} FILM"
+        )));
+    }
+    let mut todo = Vec::new();
+    if count.bad > 0 {
+        todo.push(format!("repair what is bad: cuzhaveli repair {folder}"));
+    }
+    if !lost.is_empty() {
+        todo.push(format!("rebuild disks {}: cuzhaveli rebuild {folder}", joined(&lost)));
+    }
+    if count.dirty > 0 {
+        todo.push(format!(
+            "the parity was wrong when the film was encoded: cuzhaveli decode {folder} FILM, compare it with its \
+             source, encode it anew"
+        ));
+    }
+    if todo.is_empty() {
+        return Ok(());
+    }
+    Err(Fault::No(todo.join("; then ")))
 }

@@ -1,144 +1,144 @@
 //! `decode`: the film back from its images.
 
-use std::ffi::OsStr;
 use std::fs::{self, File, OpenOptions};
 use std::io::{self, Write};
 use std::os::fd::AsFd;
-use std::path::{Path, PathBuf};
+
+use cuzhaveli_tool::drives::{apart, drive_at};
+use cuzhaveli_tool::film::{read_all, Account, Sink};
+use cuzhaveli_tool::output::{folder_of, sync_folder, taken, Output};
+use cuzhaveli_tool::reader::Beyond;
+use cuzhaveli_tool::set::Set;
 
 use crate::args::{Form, Given};
 use crate::commands::Command;
 use crate::fault::Fault;
-use crate::images::Images;
-use crate::output::part_path;
 use crate::progress::Progress;
 use crate::say;
-use crate::source::{Reading, Source};
 
 pub const COMMAND: Command = Command {
     name: "decode",
-    usage: "[-q] DIR FILM",
-    about: "the film back (- for stdout), with up to two images lost",
-    options: &[Form::Flag("-q")],
+    usage: "[-q] [--overwrite DRIVE] DIR FILM",
+    about: "the film back (- for stdout), with up to two images lost; --overwrite: FILM is DRIVE, and may be written",
+    options: &[Form::Flag("-q"), Form::Values("--overwrite")],
     operands: 2..=2,
     run,
 };
 
 /// Where the film goes.
-struct Film {
-    /// Where it is to stand; none for a pipe, a terminal, a device.
-    path: Option<PathBuf>,
-    name: PathBuf,
-    file: File,
+enum Target {
+    /// A pipe, a terminal, a device that is no drive.
+    Stream(File, String),
+    Output(Output),
+}
+
+/// A film on its way, and the bar.
+struct Way<'a> {
+    set: &'a Set,
+    target: Target,
+    progress: Progress,
+    gaps: u64,
 }
 
 fn run(given: &Given) -> Result<(), Fault> {
-    let images = Images::open(given.path(0), &[])?;
-    let lost = images.lost_few()?;
-    let film = Film::create(&given.operands[1])?;
-    let mut source = Source::new(&images);
-    match write_film(given, &images, &lost, &mut source, &film).and_then(|()| film.finish()) {
+    let set = Set::open(given.path(0), &[])?;
+    say::notes(&set);
+    let length = set.label.geometry.length;
+    let target = Target::open(given, &set)?;
+    let progress = Progress::new("decode".into(), Some(length), given.flag("-q"));
+    let mut way = Way { set: &set, target, progress, gaps: 0 };
+    let done = read_all(&set, &mut way);
+    drop(way.progress);
+    let account = match done {
+        Ok(account) => account,
         Err(fault) => {
-            film.discard();
-            Err(fault)
+            way.target.discard();
+            return Err(fault);
         }
-        Ok(()) if given.operands[1] == "-" => Ok(()),
-        Ok(()) => {
-            let (length, read, around) = (images.label.length, source.read, source.around);
-            say::line(format!("decoded,{length},read,{read},around,{around}"))
+    };
+    if let Err(fault) = way.target.finish(length, way.gaps) {
+        if !matches!(fault, Fault::Beyond(_)) {
+            way.target.discard();
         }
+        return Err(fault);
+    }
+    if given.operands[1] == "-" {
+        return Ok(());
+    }
+    let Account { read, mended } = account;
+    say::line(format!("decoded,{length},read,{read},mended,{mended}"))
+}
+
+impl Sink for Way<'_> {
+    fn film(&mut self, at: u64, bytes: &[u8]) -> Result<(), Fault> {
+        self.progress.add(bytes.len() as u64);
+        match &mut self.target {
+            Target::Output(output) => output.write(bytes, at),
+            Target::Stream(file, name) => file
+                .write_all(bytes)
+                .map_err(|error| Fault::Failed(format!("{name}, byte {at}: {error}"))),
+        }
+    }
+
+    /// A gap stays a hole in a file and ends a stream, which can have none.
+    fn gap(&mut self, at: u64, bytes: u64, beyond: &Beyond) -> Result<(), Fault> {
+        let what = format!("{bytes} bytes of film from byte {at}: {}", beyond.told());
+        if matches!(self.target, Target::Stream(..)) {
+            return Err(Fault::Beyond(format!("{what}; the film ends here")));
+        }
+        say::warn(&format!("{}: {what}", self.set.folder().display()));
+        self.gaps += bytes;
+        Ok(())
     }
 }
 
-/// What to read for the film: the data disks and, for one that is lost, the parity cells of our plan; all of the
-/// others where two are lost.
-fn readings(images: &Images, lost: &[usize]) -> Result<Vec<Reading>, Fault> {
-    let shape = images.label.layout.shape;
-    let data = |disk: &usize| *disk < shape.disks();
-    let whole = |disk| Reading::whole(shape, disk);
-    match *lost {
-        [one] if data(&one) => {
-            let listed = Reading::listed(shape, one)?;
-            let parity = listed.into_iter().filter(|reading| !data(&reading.disk));
-            Ok(images.present().filter(data).map(whole).chain(parity).collect())
-        }
-        [_, _] if lost.iter().any(data) => Ok(images.present().map(whole).collect()),
-        _ => Ok(images.present().filter(data).map(whole).collect()),
-    }
-}
-
-fn write_film(
-    given: &Given,
-    images: &Images,
-    lost: &[usize],
-    source: &mut Source,
-    film: &Film,
-) -> Result<(), Fault> {
-    let (layout, length) = (images.label.layout, images.label.length);
-    let readings = readings(images, lost)?;
-    // A lost parity disk is of no use for the film.
-    let wanted: &[usize] =
-        if lost.iter().any(|disk| *disk < layout.shape.disks()) { lost } else { &[] };
-    let mut progress = Progress::new("decode".into(), Some(length), given.flag("-q"));
-    let mut batches = layout.batches(0, images.label.stripes).peekable();
-    source.ahead(batches.peek().copied(), &readings);
-    let mut left = length;
-    while let Some(batch) = batches.next() {
-        source.ahead(batches.peek().copied(), &readings);
-        source.restore(batch, wanted, &readings)?;
-        for place in 0..batch.count {
-            let bytes = left.min(layout.shape.data_len() as u64);
-            film.write(length - left, &source.stripe(place)[..bytes as usize])?;
-            left -= bytes;
-            progress.add(bytes);
-        }
-    }
-    Ok(())
-}
-
-impl Film {
-    fn create(name: &OsStr) -> Result<Film, Fault> {
+impl Target {
+    fn open(given: &Given, set: &Set) -> Result<Target, Fault> {
+        let (name, path) = (&given.operands[1], given.path(1));
+        let named = given.overwrite()?;
         if name == "-" {
-            let output = io::stdout().as_fd().try_clone_to_owned();
+            say::is_open()?;
+            let output = io::stdout().as_fd().try_clone_to_owned().map(File::from);
             let file =
                 output.map_err(|error| Fault::Failed(format!("standard output: {error}")))?;
-            return Ok(Film { path: None, name: "standard output".into(), file: file.into() });
+            return Ok(Target::Stream(file, "standard output".into()));
         }
-        let path = Path::new(name);
-        let mut options = OpenOptions::new();
-        options.write(true);
-        let (name, target) = match fs::metadata(path) {
-            Ok(data) if data.is_file() => return Err(Film::taken(path)),
-            Ok(_) => (path.to_path_buf(), None),
-            Err(_) => (part_path(path), Some(path.to_path_buf())),
-        };
-        match options.create_new(target.is_some()).open(&name) {
-            Ok(file) => Ok(Film { path: target, name, file }),
-            Err(error) if error.kind() == io::ErrorKind::AlreadyExists => Err(Film::taken(&name)),
-            Err(error) => Err(Fault::path(&name, error)),
+        if let Some(drive) = drive_at(path) {
+            apart(path, drive, &set.drives())?;
+            let mut output = Output::drive(path, &named, &[])?;
+            output.set_len(set.label.geometry.length)?;
+            return Ok(Target::Output(output));
+        }
+        match fs::metadata(path) {
+            Ok(data) if data.is_file() || data.is_dir() => Err(taken(path)),
+            Ok(_) => {
+                let file = OpenOptions::new().write(true).open(path);
+                let file = file.map_err(|error| Fault::path(path, error))?;
+                Ok(Target::Stream(file, path.display().to_string()))
+            }
+            Err(_) => Ok(Target::Output(Output::create(path)?)),
         }
     }
 
-    fn taken(path: &Path) -> Fault {
-        let path = path.display();
-        Fault::Failed(format!("{path} is there already; remove it or give another name"))
-    }
-
-    fn write(&self, place: u64, bytes: &[u8]) -> Result<(), Fault> {
-        let mut file = &self.file;
-        file.write_all(bytes).map_err(|error| Fault::byte(&self.name, place, &error))
-    }
-
-    fn finish(&self) -> Result<(), Fault> {
-        let Some(path) = &self.path else { return Ok(()) };
-        let done = self.file.sync_all().and_then(|()| fs::rename(&self.name, path));
-        done.map_err(|error| Fault::path(&self.name, error))
+    /// Makes the film last; one with gaps keeps the name of a part.
+    fn finish(&mut self, length: u64, gaps: u64) -> Result<(), Fault> {
+        let Target::Output(output) = self else { return Ok(()) };
+        output.set_len(length)?;
+        output.sync()?;
+        if gaps > 0 {
+            return Err(Fault::Beyond(format!(
+                "{} has gaps of {gaps} bytes of zeros, where the film cannot be made right",
+                output.path().display()
+            )));
+        }
+        output.name()?;
+        sync_folder(folder_of(output.path()))
     }
 
     /// Takes an unfinished film away again, as far as that can be done.
-    fn discard(&self) {
-        if self.path.is_some() {
-            let _ = fs::remove_file(&self.name);
+    fn discard(self) {
+        if let Target::Output(output) = self {
+            output.discard();
         }
     }
 }

@@ -2,164 +2,175 @@
 
 use std::ffi::OsStr;
 use std::fs::{self, File};
-use std::io::{self, ErrorKind, Read};
+use std::io::{self, ErrorKind};
 use std::os::fd::AsFd;
 use std::path::Path;
+
+use cuzhaveli_tool::drives::{apart, drive_at, Overwrite};
+use cuzhaveli_tool::encode::{encode, Source};
+use cuzhaveli_tool::geometry::{Geometry, MOST_GROUP, MOST_LENGTH, MOST_PIECE};
+use cuzhaveli_tool::label::{hex, new_name, Label};
+use cuzhaveli_tool::output::{folder_of, lock, sync_folder, taken, Output};
+use cuzhaveli_tool::set::{image_path, MOST_DISKS};
 
 use crate::args::{usage, Form, Given};
 use crate::commands::Command;
 use crate::fault::Fault;
-use crate::images::{image_path, MOST_DISKS};
-use crate::label::Label;
-use crate::layout::{Batch, Layout, MOST_GROUP};
-use crate::output::{lock, sync_folder, Output};
 use crate::progress::Progress;
 use crate::say;
 
 pub const COMMAND: Command = Command {
     name: "encode",
-    usage: "-p WIDTH [-k DISKS] [-s CELL] [-g GROUP] [-q] FILM DIR",
-    about: "make DISKS + 2 images of FILM (- for stdin) in DIR",
+    usage: "-p WIDTH [-k DISKS] [-s CELL] [-u UNIT] [-g GROUP] [-q] [--overwrite DRIVE]... FILM DIR",
+    about: "make DISKS + 2 images of FILM (- for stdin) in DIR; --overwrite: DRIVE, to which an image is a link, may be \
+            written",
     options: &[
         Form::Value("-p"),
         Form::Value("-k"),
         Form::Value("-s"),
+        Form::Value("-u"),
         Form::Value("-g"),
         Form::Flag("-q"),
+        Form::Values("--overwrite"),
     ],
     operands: 2..=2,
     run,
 };
 
 fn run(given: &Given) -> Result<(), Fault> {
-    let mut layout = Layout::usual(given.shape()?);
-    if let Some(group) = given.number("-g")? {
-        if !(1..=MOST_GROUP).contains(&group) {
-            return Err(usage(format!("-g {group}: a group has 1 to {MOST_GROUP} stripes")));
-        }
-        layout.group = group;
-    }
-    let film = open_film(&given.operands[0])?;
+    let shape = given.shape()?;
+    let mut source = open_film(&given.operands[0])?;
+    let geometry = geometry(given, shape, source.length)?;
+    let named = given.overwrite()?;
     let folder = given.path(1);
-    match fs::create_dir(folder) {
-        Err(error) if error.kind() != ErrorKind::AlreadyExists => {
-            return Err(Fault::path(folder, error))
-        }
-        _ => {}
-    }
+    make_folder(folder)?;
     let _lock = lock(folder)?;
+    let name = new_name().map_err(|error| Fault::path(Path::new("/dev/urandom"), error))?;
     let mut outputs = Vec::new();
-    let done = create_all(folder, layout, &mut outputs)
-        .and_then(|()| write_all(given, film, layout, &mut outputs))
-        .and_then(|length| finish(folder, layout, length, &mut outputs));
-    if done.is_err() {
-        outputs.into_iter().for_each(Output::discard);
+    let mut progress = Progress::new("encode".into(), source.length, given.flag("-q"));
+    let (label, known) = (Label { set: name, geometry }, source.length.is_some());
+    let done = create_all(folder, &label, known, &named, &mut outputs)
+        .and_then(|()| encode(&mut source, name, geometry, &outputs, |film| progress.add(film)))
+        .and_then(|label| label_all(&label, &mut outputs).map(|()| label));
+    drop(progress);
+    let label = match done {
+        Ok(label) => label,
+        Err(fault) => {
+            outputs.into_iter().for_each(Output::discard);
+            return Err(fault);
+        }
+    };
+    // From here on the images are whole, and nothing takes them away again.
+    for output in &outputs {
+        output.name()?;
     }
-    done
+    sync_folder(folder)?;
+    let (set, disks) = (hex(&label.set), outputs.len());
+    let Geometry { stripes, length, .. } = label.geometry;
+    say::line(format!("encoded,{set},disks,{disks},stripes,{stripes},length,{length}"))
+}
+
+/// The numbers of the set; of a film whose length is not known yet, as if it were the longest.
+pub fn geometry(
+    given: &Given,
+    shape: cuzhaveli::Shape,
+    length: Option<u64>,
+) -> Result<Geometry, Fault> {
+    let asked = given.number("-g")?;
+    let unit = match given.number("-u")? {
+        Some(unit) => unit,
+        None => Geometry::unit_within(shape, asked),
+    };
+    let usual = Geometry::usual_group(shape, unit.clamp(1, MOST_GROUP));
+    let group = asked.unwrap_or(usual);
+    if group > usual && length.is_none() {
+        return Err(usage(format!(
+            "-g {group}: of a film without a known length a group has at most {usual} stripes here"
+        )));
+    }
+    if length.is_some_and(|length| length > MOST_LENGTH) {
+        return Err(Fault::Failed("the film has more than 2^48 bytes".into()));
+    }
+    let (cell, length) = (shape.cell_size(), length.unwrap_or(MOST_LENGTH));
+    let misfit = || {
+        usage(format!(
+            "-u {unit} -g {group}: a unit has one stripe, or {MOST_PIECE} / {cell} at most, and a group a multiple of \
+             it, 1 to {MOST_GROUP}"
+        ))
+    };
+    Geometry::new(shape, unit, group, length).ok_or_else(misfit)
 }
 
 /// Opens the film, or standard input for `-`.
-fn open_film(name: &OsStr) -> Result<File, Fault> {
+fn open_film(name: &OsStr) -> Result<Source<File>, Fault> {
     if name == "-" {
-        let input = io::stdin().as_fd().try_clone_to_owned();
-        return input
-            .map(File::from)
-            .map_err(|error| Fault::Failed(format!("standard input: {error}")));
+        let input = io::stdin().as_fd().try_clone_to_owned().map(File::from);
+        let film = input.map_err(|error| Fault::Failed(format!("standard input: {error}")))?;
+        return Ok(Source { film, length: None, name: "standard input".into() });
     }
-    File::open(name).map_err(|error| Fault::path(Path::new(name), error))
+    let path = Path::new(name);
+    let film = File::open(path).map_err(|error| Fault::path(path, error))?;
+    let data = film.metadata().map_err(|error| Fault::path(path, error))?;
+    if data.is_dir() {
+        return Err(Fault::Failed(format!(
+            "{} is a folder, and a set holds one file",
+            path.display()
+        )));
+    }
+    let length = data.is_file().then_some(data.len());
+    Ok(Source { film, length, name: path.display().to_string() })
 }
 
-/// Creates the images, in a folder that has none of any number.
-fn create_all(folder: &Path, layout: Layout, outputs: &mut Vec<Output>) -> Result<(), Fault> {
-    let disks = layout.shape.disks() + 2;
-    for disk in disks..MOST_DISKS {
-        let path = image_path(folder, disk);
+fn make_folder(folder: &Path) -> Result<(), Fault> {
+    match fs::create_dir(folder) {
+        Ok(()) => sync_folder(folder_of(folder)),
+        Err(error) if error.kind() == ErrorKind::AlreadyExists => Ok(()),
+        Err(error) => Err(Fault::path(folder, error)),
+    }
+}
+
+/// Creates the images, in a folder that has none of any number; drives are marked as being written,
+/// if the film's length is known and they are long enough.
+fn create_all(
+    folder: &Path,
+    label: &Label,
+    known: bool,
+    named: &Overwrite,
+    outputs: &mut Vec<Output>,
+) -> Result<(), Fault> {
+    let disks = label.geometry.disks();
+    let bytes = if known { label.geometry.image_bytes() } else { 0 };
+    for path in (disks..MOST_DISKS).map(|disk| image_path(folder, disk)) {
         if path.symlink_metadata().is_ok() {
-            return Err(Fault::Failed(format!(
-                "{} is there already, and would not be of this set; give another folder",
-                path.display()
-            )));
+            return Err(taken(&path));
         }
     }
     for disk in 0..disks {
-        outputs.push(Output::create(&image_path(folder, disk), disk)?);
+        let path = image_path(folder, disk);
+        outputs.push(match drive_at(&path) {
+            Some(_) => Output::drive(&path, named, &[])?,
+            None => Output::create(&path)?,
+        });
+    }
+    for (disk, output) in outputs.iter().enumerate() {
+        let before = outputs[..disk].iter().filter_map(|other| Some((other.path(), other.drive?)));
+        if let Some(drive) = output.drive {
+            apart(output.path(), drive, &before.collect::<Vec<_>>())?;
+        }
+    }
+    for (disk, output) in outputs.iter_mut().enumerate().filter(|(_, one)| one.drive.is_some()) {
+        output.mark(label, disk, bytes)?;
     }
     Ok(())
 }
 
-/// Reads the film to its end and writes its stripes; gives its length.
-fn write_all(
-    given: &Given,
-    film: File,
-    layout: Layout,
-    outputs: &mut [Output],
-) -> Result<u64, Fault> {
-    let shape = layout.shape;
-    let total = film.metadata().ok().filter(|data| data.is_file()).map(|data| data.len());
-    let mut progress = Progress::new("encode".into(), total, given.flag("-q"));
-    let (mut film, mut length, mut first) = (film, 0, 0);
-    let most = layout.batch(0, u64::MAX).count;
-    let mut stripes = vec![0; most * shape.stripe_len()];
-    let mut rows = vec![0; most * shape.column_len()];
-    loop {
-        let room = layout.batch(first, u64::MAX);
-        let filled = read_film(&mut film, layout, room, &mut stripes)
-            .map_err(|error| Fault::byte(Path::new(&given.operands[0]), length, &error))?;
-        let batch = Batch { first, count: filled.div_ceil(shape.data_len()) };
-        for stripe in stripes.chunks_exact_mut(shape.stripe_len()).take(batch.count) {
-            shape.encode(stripe)?;
-        }
-        for output in &*outputs {
-            output.write(layout, batch, &stripes, &mut rows)?;
-        }
-        length += filled as u64;
-        first = batch.end();
-        progress.add(filled as u64);
-        if filled < room.count * shape.data_len() {
-            return Ok(length);
-        }
-    }
-}
-
-/// Reads film to the stripes of a batch, with zeros after its end; gives the bytes of film.
-fn read_film(
-    film: &mut File,
-    layout: Layout,
-    batch: Batch,
-    stripes: &mut [u8],
-) -> io::Result<usize> {
-    let mut filled = 0;
-    for stripe in stripes.chunks_exact_mut(layout.shape.stripe_len()).take(batch.count) {
-        let room = &mut stripe[..layout.shape.data_len()];
-        let mut here = 0;
-        while here < room.len() {
-            match film.read(&mut room[here..]) {
-                Ok(0) => {
-                    room[here..].fill(0);
-                    return Ok(filled + here);
-                }
-                Ok(more) => here += more,
-                Err(error) if error.kind() == ErrorKind::Interrupted => {}
-                Err(error) => return Err(error),
-            }
-        }
-        filled += here;
-    }
-    Ok(filled)
-}
-
-/// Writes the labels, once all else is on the disks.
-fn finish(folder: &Path, layout: Layout, length: u64, outputs: &mut [Output]) -> Result<(), Fault> {
-    let label = Label::new(layout, length)
-        .map_err(|error| Fault::path(Path::new("/dev/urandom"), error))?;
+/// Labels all images, once all else is on the disks.
+fn label_all(label: &Label, outputs: &mut [Output]) -> Result<(), Fault> {
     for output in &mut *outputs {
-        output.set_len(label.image_bytes())?;
-        output.sync()?;
+        output.set_len(label.geometry.image_bytes())?;
     }
-    for output in &*outputs {
-        output.write_label(&label.block(output.disk))?;
+    for (disk, output) in outputs.iter().enumerate() {
+        output.label(label, disk)?;
     }
-    sync_folder(folder)?;
-    let (set, disks, stripes) = (&label.set, outputs.len(), label.stripes);
-    say::line(format!("encoded,{set},disks,{disks},stripes,{stripes},length,{length}"))
+    Ok(())
 }

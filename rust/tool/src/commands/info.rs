@@ -1,36 +1,37 @@
 //! `info`: what a set of images is, and what is lost of it.
 
+use cuzhaveli_tool::label::hex;
+use cuzhaveli_tool::set::{joined, Set};
+
 use crate::args::Given;
 use crate::commands::Command;
 use crate::fault::Fault;
-use crate::images::Images;
-use crate::record::Record;
 use crate::say;
 
 pub const COMMAND: Command = Command {
     name: "info",
     usage: "DIR",
-    about: "label, lost disks, a rebuild under way",
+    about: "label and lost disks",
     options: &[],
     operands: 1..=1,
     run,
 };
 
 fn run(given: &Given) -> Result<(), Fault> {
-    let images = Images::open(given.path(0), &[])?;
-    let (label, shape) = (&images.label, images.label.layout.shape);
-    say::line(format!("set,{}", label.set))?;
-    say::line(format!("width,{}", shape.width()))?;
-    say::line(format!("disks,{}", shape.disks()))?;
-    say::line(format!("cell,{}", shape.cell_size()))?;
-    say::line(format!("group,{}", label.layout.group))?;
-    say::line(format!("stripes,{}", label.stripes))?;
-    say::line(format!("length,{}", label.length))?;
-    say::line(format!("lost,{}", say::disks(&images.lost())))?;
-    if let Some(record) = Record::read(images.folder())? {
-        say::line(format!("rebuild,{},next,{}", say::disks(&record.lost), record.next))?;
-    }
-    if images.lost_few()?.is_empty() {
+    let set = Set::open(given.path(0), &[])?;
+    say::notes(&set);
+    let (geometry, lost) = (set.label.geometry, set.lost());
+    say::line(format!("set,{}", hex(&set.label.set)))?;
+    say::line(format!("width,{}", geometry.shape.width()))?;
+    say::line(format!("disks,{}", geometry.shape.disks()))?;
+    say::line(format!("cell,{}", geometry.shape.cell_size()))?;
+    say::line(format!("unit,{}", geometry.unit))?;
+    say::line(format!("group,{}", geometry.group))?;
+    say::line(format!("stripes,{}", geometry.stripes))?;
+    say::line(format!("length,{}", geometry.length))?;
+    say::line(format!("bytes,{}", geometry.image_bytes()))?;
+    say::line(format!("lost,{}", joined(&lost)))?;
+    if lost.is_empty() {
         Ok(())
     } else {
         Err(Fault::No(String::new()))

@@ -1,6 +1,6 @@
 //! `judge`: a host's plan.
 
-use std::fs;
+use std::fs::File;
 use std::io::{self, Read};
 
 use cuzhaveli::{Refusal, Shape};
@@ -19,6 +19,9 @@ pub const COMMAND: Command = Command {
     run,
 };
 
+/// More than any plan has: a text of so many bytes is refused as any that is too long.
+const MOST_TEXT: u64 = 4096;
+
 /// What the judge says of a plan.
 enum Verdict {
     Accepted(u32),
@@ -27,14 +30,14 @@ enum Verdict {
 
 fn run(given: &Given) -> Result<(), Fault> {
     let (shape, lost) = (given.shape()?, given.needed("-d")? as usize);
-    let text = match given.operands[0] == "-" {
-        true => {
-            let mut text = Vec::new();
-            io::stdin().read_to_end(&mut text).map(|_| text)
+    let mut text = Vec::new();
+    let read = match given.operands[0] == "-" {
+        true => io::stdin().take(MOST_TEXT).read_to_end(&mut text),
+        false => {
+            File::open(given.path(0)).and_then(|file| file.take(MOST_TEXT).read_to_end(&mut text))
         }
-        false => fs::read(given.path(0)),
     };
-    let text = text.map_err(|error| Fault::path(given.path(0), error))?;
+    read.map_err(|error| Fault::path(given.path(0), error))?;
     match judge(shape, lost, &text)? {
         Verdict::Accepted(reads) => say::line(format!("accepted,{reads}")),
         Verdict::Refused(number, place) => {

@@ -9,6 +9,7 @@ mod info;
 mod judge;
 mod plan;
 mod rebuild;
+mod repair;
 mod space;
 
 use std::ffi::OsString;
@@ -27,12 +28,13 @@ pub struct Command {
     run: fn(&Given) -> Result<(), Fault>,
 }
 
-pub const COMMANDS: [&Command; 10] = [
+pub const COMMANDS: [&Command; 11] = [
     &encode::COMMAND,
     &decode::COMMAND,
     &info::COMMAND,
     &check::COMMAND,
     &rebuild::COMMAND,
+    &repair::COMMAND,
     &plan::COMMAND,
     &judge::COMMAND,
     &space::COMMAND,

@@ -1,27 +1,33 @@
 //! `rebuild`: the lost images of a set.
 
-use std::path::Path;
+use cuzhaveli_tool::drives::{apart, drive_at, Overwrite};
+use cuzhaveli_tool::output::{lock, Output};
+use cuzhaveli_tool::rebuild::{rebuild, Account, Spare};
+use cuzhaveli_tool::set::{joined, Absence, Set};
+use cuzhaveli_tool::wanted::{Choice, Wanted};
 
 use crate::args::{usage, Form, Given};
+use crate::commands::bill::{bill, rates};
 use crate::commands::Command;
 use crate::fault::Fault;
-use crate::images::Images;
-use crate::output::{lock, Output};
-use crate::rebuild::{bytes_of, finish, Rebuild, Way};
-use crate::record::Record;
+use crate::progress::Progress;
 use crate::say;
 
 pub const COMMAND: Command = Command {
     name: "rebuild",
-    usage: "[-q] [-n] [--test] [--by-rows] [--disk D]... DIR",
+    usage: "[-q] [-n] [--test] [--by-rows] [--rate BYTES] [--rates A,B,C] [--disk D]... [--overwrite DRIVE]... DIR",
     about: "rebuild the lost images, or go on with it; -n: say what it would read; --test: test the survivors first; \
-            --by-rows: read every row, for comparison only",
+            --by-rows: read every row, for comparison only; --rate: read no more than BYTES a second; --rates: bill \
+            what was read; --disk: D counts as lost; --overwrite: DRIVE, to which the image is a link, may be written",
     options: &[
         Form::Flag("-q"),
         Form::Flag("-n"),
         Form::Flag("--test"),
         Form::Flag("--by-rows"),
+        Form::Value("--rate"),
+        Form::Value("--rates"),
         Form::Values("--disk"),
+        Form::Values("--overwrite"),
     ],
     operands: 1..=1,
     run,
@@ -29,72 +35,43 @@ pub const COMMAND: Command = Command {
 
 fn run(given: &Given) -> Result<(), Fault> {
     let folder = given.path(0);
-    let way = match (given.flag("--test"), given.flag("--by-rows")) {
-        (false, false) => Way::Plan,
-        (true, false) => Way::Tested,
-        (false, true) => Way::Rows,
+    let choice = match (given.flag("--test"), given.flag("--by-rows")) {
+        (false, false) => Choice::Fewest,
+        (true, false) => Choice::Tested,
+        (false, true) => Choice::Rows,
         (true, true) => return Err(usage("--test and --by-rows exclude each other".into())),
     };
-    let named = given.numbers("--disk")?;
+    let (pace, named, rates) = (given.pace()?, given.overwrite()?, rates(given)?);
+    if let Some(rates) = rates {
+        bill(0, rates)?; // refused before anything is read
+    }
+    let _lock = if given.flag("-n") { None } else { Some(lock(folder)?) };
+    let set = Set::open(folder, &given.numbers("--disk")?)?;
+    say::notes(&set);
+    let lost = set.lost();
+    testable(choice, &lost)?;
+    let wanted = Wanted::rebuild(&set, &lost, choice)?;
     if given.flag("-n") {
-        return would(folder, &named, way);
+        return would(&set, &lost, &wanted);
     }
-    let _lock = lock(folder)?;
-    let (images, record) = open(folder, &named)?;
-    let (images, record) = match record {
-        Some(record) if record.next == images.label.stripes => {
-            finish_begun(&images, &record)?;
-            (Images::open(folder, &[])?, None)
-        }
-        record => (images, record),
-    };
-    let lost = images.lost_few()?;
     if lost.is_empty() {
-        return say::line("rebuilt,none,stripes,0,read,0,rows,0,around,0");
+        return say::line("rebuilt,none,stripes,0,kept,0,read,0,rows,0,mended,0");
     }
-    testable(way, &lost)?;
-    Rebuild::begin(&images, way, record)?.run(given.flag("-q"))
-}
-
-/// Opens the images and the record of a rebuild under way, whose disks count as lost.
-fn open(folder: &Path, named: &[usize]) -> Result<(Images, Option<Record>), Fault> {
-    let record = Record::read(folder)?;
-    let mut named = named.to_vec();
-    named.extend(record.iter().flat_map(|record| &record.lost));
-    let images = Images::open(folder, &named)?;
-    let Some(record) = record else { return Ok((images, None)) };
-    let lost = images.lost();
-    if record.set == images.label.set && record.lost == lost && record.next <= images.label.stripes
-    {
-        return Ok((images, Some(record)));
-    }
-    Err(Fault::Images(format!(
-        "{}/rebuild.run is of a rebuild of disks {} of set {}, and lost are disks {} of set {}; to begin anew remove it \
-         and the .part files beside it",
-        folder.display(),
-        say::disks(&record.lost),
-        record.set,
-        say::disks(&lost),
-        images.label.set
-    )))
-}
-
-/// Says what a rebuild would read.
-fn would(folder: &Path, named: &[usize], way: Way) -> Result<(), Fault> {
-    let (images, record) = open(folder, named)?;
-    let (lost, shape) = (images.lost_few()?, images.label.layout.shape);
-    testable(way, &lost)?;
-    let done =
-        if lost.is_empty() { images.label.stripes } else { record.map_or(0, |record| record.next) };
-    let stripes = images.label.stripes - done;
-    let read = bytes_of(shape, &way.readings(&images, &lost)?, stripes);
-    let (disks, rows) = (say::disks(&lost), stripes * shape.data_len() as u64);
-    say::line(format!("would,{disks},stripes,{stripes},read,{read},rows,{rows}"))
+    let spares = spares(&set, &lost, &named)?;
+    let what = format!("rebuild disk {}", joined(&lost));
+    let each = wanted.reads() as u64 * set.label.geometry.shape.cell_size() as u64;
+    let mut progress =
+        Progress::new(what, Some(each * set.label.geometry.stripes), given.flag("-q"));
+    let done = rebuild(&set, &spares, &wanted, pace, |stripes| progress.add(stripes * each));
+    drop(progress);
+    let account = done?;
+    tell(&set, &lost, &account)?;
+    rates.map_or(Ok(()), |rates| say::line(bill(account.read, rates)?))
 }
 
 /// With two disks lost there is nothing to test survivors by.
-fn testable(way: Way, lost: &[usize]) -> Result<(), Fault> {
-    if way == Way::Tested && lost.len() == 2 {
+fn testable(choice: Choice, lost: &[usize]) -> Result<(), Fault> {
+    if choice == Choice::Tested && lost.len() == 2 {
         return Err(usage(
             "--test: with two disks lost any survivors belong together; leave it out".into(),
         ));
@@ -102,15 +79,89 @@ fn testable(way: Way, lost: &[usize]) -> Result<(), Fault> {
     Ok(())
 }
 
-/// Ends a rebuild of which all stripes are on the disks: labels and renames what is not in its place yet.
-fn finish_begun(images: &Images, record: &Record) -> Result<(), Fault> {
-    let label = &images.label;
-    let mut outputs = Vec::new();
-    for disk in &record.lost {
-        let (path, mark) = (images.path(*disk), label.mark(*disk));
-        if Output::begun(&path, &[mark, label.block(*disk)])? {
-            outputs.push(Output::part(&path, *disk, true, &mark, label.image_bytes())?);
-        }
+/// Says what a rebuild would read of cells, if nothing of it is there yet.
+fn would(set: &Set, lost: &[usize], wanted: &Wanted) -> Result<(), Fault> {
+    let geometry = set.label.geometry;
+    let stripes = if lost.is_empty() { 0 } else { geometry.stripes };
+    let read = (wanted.reads() * geometry.shape.cell_size()) as u64 * stripes;
+    let rows = stripes * geometry.shape.data_len() as u64;
+    say::line(format!("would,{},stripes,{stripes},read,{read},rows,{rows}", joined(lost)))
+}
+
+/// The images to be written, gone on with or begun.
+fn spares(set: &Set, lost: &[usize], named: &Overwrite) -> Result<Vec<Spare>, Fault> {
+    strangers(set, lost)?;
+    let mut spares: Vec<Spare> = Vec::new();
+    for disk in lost {
+        spares.push(spare(set, *disk, named)?);
     }
-    finish(images, &outputs)
+    for (number, spare) in spares.iter().enumerate() {
+        let Some(drive) = spare.output.drive else { continue };
+        let written = spares[..number].iter().map(|spare| &spare.output);
+        let written = written.filter_map(|output| Some((output.path(), output.drive?)));
+        apart(spare.output.path(), drive, &written.chain(set.drives()).collect::<Vec<_>>())?;
+    }
+    for spare in &mut spares {
+        spare.output.mark(&set.label, spare.disk, set.label.geometry.image_bytes())?;
+    }
+    Ok(spares)
+}
+
+fn spare(set: &Set, disk: usize, named: &Overwrite) -> Result<Spare, Fault> {
+    let (path, label) = (set.path(disk), &set.label);
+    let ours = [label.mark(disk), label.block(disk)];
+    if drive_at(&path).is_some() {
+        let output = Output::drive(&path, named, &ours)?;
+        let begun = ours.contains(&output.first_block()?);
+        return Ok(Spare { disk, output, begun });
+    }
+    let (output, begun) = match Output::begun(&path, &ours)? {
+        Some(output) => (output, true),
+        None => (Output::create_part(&path)?, false),
+    };
+    let stands = path.symlink_metadata().is_ok(); // and counts as lost
+    Ok(Spare { disk, output: if stands { output.replacing() } else { output }, begun })
+}
+
+/// What stands in a lost disk's place is not overwritten unless that disk is named; drives have
+/// their own rule.
+fn strangers(set: &Set, lost: &[usize]) -> Result<(), Fault> {
+    let (mut told, mut options) = (Vec::new(), String::new());
+    for disk in lost {
+        match set.absence(*disk) {
+            Some(Absence::Foreign(what)) if drive_at(&set.path(*disk)).is_none() => {
+                told.push(format!("{} {what}", set.path(*disk).display()));
+            }
+            Some(Absence::Named) => {}
+            _ => continue,
+        }
+        options += &format!("--disk {disk} ");
+    }
+    if told.is_empty() {
+        return Ok(());
+    }
+    Err(Fault::Images(format!(
+        "{}; put the right images there, or let these be replaced: cuzhaveli rebuild {options}{}",
+        told.join("; "),
+        set.folder().display()
+    )))
+}
+
+fn tell(set: &Set, lost: &[usize], account: &Account) -> Result<(), Fault> {
+    let Account { stripes, kept, read, mended, beyond } = account;
+    if beyond.is_empty() {
+        let rows = stripes * set.label.geometry.shape.data_len() as u64;
+        let disks = joined(lost);
+        return say::line(format!(
+            "rebuilt,{disks},stripes,{stripes},kept,{kept},read,{read},rows,{rows},mended,{mended}"
+        ));
+    }
+    beyond.iter().for_each(|beyond| say::beyond(set, beyond));
+    Err(Fault::Beyond(format!(
+        "{} of the stripes cannot be rebuilt; the others are, in {}, which gets no label. Put back images that are \
+         somewhere else and run it again, or save the film: cuzhaveli decode {} FILM",
+        beyond.iter().map(|beyond| beyond.stripes.end - beyond.stripes.start).sum::<u64>(),
+        lost.iter().map(|disk| set.path(*disk).display().to_string() + ".part").collect::<Vec<_>>().join(", "),
+        set.folder().display()
+    )))
 }

@@ -1,0 +1,111 @@
+//! What is lost or bad comes back: by a plan where all that it reads is good, else from all of the
+//! unit that is.
+
+use cuzhaveli::Refusal;
+
+use super::{Hole, Reader, State};
+use crate::fault::Fault;
+use crate::wanted::{Wanted, Way};
+
+impl Reader<'_> {
+    /// Brings lost disks back by their plan, if all that it reads is good, and compares them.
+    pub(super) fn bring_back(&mut self, unit: usize, wanted: &Wanted) -> Result<(), Fault> {
+        if !self.is_read(unit, wanted) {
+            return Ok(());
+        }
+        let shape = self.geometry.shape;
+        let mut column = vec![0; shape.column_len()];
+        for place in self.geometry.places(self.cells.batch, unit) {
+            for need in &wanted.needs {
+                self.cells.take(need.row, need.disk, place, &mut self.stripe, need.as_disk);
+            }
+            let stripe = &mut self.stripe[..];
+            let done = match wanted.way {
+                Way::None => Ok(()),
+                Way::Ours(lost) => shape.rebuild_one(lost, stripe, &mut column),
+                Way::Balanced(lost) => shape.rebuild_balanced(lost, stripe, &mut column),
+                Way::Tested(lost) => shape.rebuild_tested(lost, stripe, &mut column),
+                Way::Rows(_) => shape.rebuild_one(shape.disks(), stripe, &mut column),
+                Way::Two(both) => shape.rebuild_two(both, stripe),
+            };
+            let number = self.cells.batch.first + place as u64;
+            done.map_err(|refusal| Fault::Refused(refusal, format!(", stripe {number}")))?;
+            match wanted.way {
+                Way::Two(both) => both.iter().for_each(|disk| {
+                    self.cells.put(*disk, place, &self.stripe[shape.disk_range(*disk)]);
+                }),
+                _ => {
+                    wanted.way.lost().iter().for_each(|disk| self.cells.put(*disk, place, &column))
+                }
+            }
+        }
+        self.compare(unit, wanted.way.lost());
+        Ok(())
+    }
+
+    /// Compares the pieces of disks in a unit that are not known to be good with their sums.
+    fn compare(&mut self, unit: usize, disks: &[usize]) {
+        for disk in disks {
+            for row in 0..self.geometry.shape.width() {
+                let at = self.at(unit, *disk, row);
+                let piece = self.cells.piece(*disk, row, unit);
+                if self.states[at] != State::Good && self.blocks.fits(unit, *disk, row, piece) {
+                    self.states[at] = State::Good;
+                }
+            }
+        }
+    }
+
+    /// Reads the rest of a unit and mends what of it is lost or bad, as far as that can be done.
+    pub(super) fn mend(&mut self, unit: usize) {
+        let disks: Vec<usize> = (0..self.geometry.disks()).collect();
+        for disk in self.set.present() {
+            for row in 0..self.geometry.shape.width() {
+                if self.states[self.at(unit, disk, row)] == State::Unread {
+                    self.read_piece(unit, disk, row);
+                }
+            }
+        }
+        if !self.blocks.is_known(unit) {
+            return;
+        }
+        // First with what could be read of pieces that cannot be read whole, then without it.
+        for all in [false, true] {
+            if !self.has(unit, &disks) && self.solve(unit, all).is_ok() {
+                self.compare(unit, &disks);
+            }
+        }
+    }
+
+    /// Computes the cells of a unit that are missing: those that cannot be read, or all of their
+    /// pieces.
+    fn solve(&mut self, unit: usize, all: bool) -> Result<(), Refusal> {
+        let (shape, width) = (self.geometry.shape, self.geometry.shape.width());
+        let mut missing = vec![0; self.pieces()];
+        for place in self.geometry.places(self.cells.batch, unit) {
+            for (cell, mark) in missing.iter_mut().enumerate() {
+                let (disk, row) = (cell / width, cell % width);
+                let good = self.states[self.at(unit, disk, row)] == State::Good;
+                *mark = u8::from(!good && (all || !self.is_readable(unit, disk, row, place)));
+                if *mark == 0 {
+                    self.cells.take(row, disk, place, &mut self.stripe, disk);
+                }
+            }
+            shape.rebuild_cells(&missing, &mut self.stripe)?;
+            for cell in (0..missing.len()).filter(|cell| missing[*cell] == 1) {
+                let (disk, row) = (cell / width, cell % width);
+                let bytes = &self.stripe[shape.cell_range(row, disk)];
+                self.cells.cells_mut(disk, row, place..place + 1).copy_from_slice(bytes);
+            }
+        }
+        Ok(())
+    }
+
+    /// Whether a cell could be read, of a piece of which others could not.
+    fn is_readable(&self, unit: usize, disk: usize, row: usize, place: usize) -> bool {
+        let places = self.geometry.places(self.cells.batch, unit);
+        let torn = |hole: &&Hole| (hole.0, hole.1) == (row, disk) && places.contains(&hole.2);
+        let mut holes = self.holes.iter().filter(torn).peekable();
+        holes.peek().is_some() && holes.all(|hole| hole.2 != place)
+    }
+}

@@ -1,0 +1,176 @@
+//! What is read of each stripe, and how what is lost comes back from it.
+
+use std::ops::Range;
+
+use cuzhaveli::{ReadList, Refusal, Shape};
+
+use crate::set::Set;
+
+/// Rows of a disk that are read.
+#[derive(Clone, Debug, PartialEq, Eq)]
+pub struct Reading {
+    pub disk: usize,
+    pub rows: Range<usize>,
+}
+
+/// A cell that a call of the library needs, and the disk whose place it takes: its own, but by
+/// rows.
+#[derive(Clone, Copy, Debug)]
+pub struct Need {
+    pub row: usize,
+    pub disk: usize,
+    pub as_disk: usize,
+}
+
+/// How lost disks come back where all that is read fits its checksums.
+#[derive(Clone, Copy, Debug, PartialEq, Eq)]
+pub enum Way {
+    /// Nothing is lost of what is wanted.
+    None,
+    /// By our plan.
+    Ours(usize),
+    /// By the balanced plan.
+    Balanced(usize),
+    /// By our plan, after all survivors of a stripe were tested.
+    Tested(usize),
+    /// By every row, for comparison.
+    Rows(usize),
+    Two([usize; 2]),
+}
+
+/// How a rebuild was asked for.
+#[derive(Clone, Copy, Debug, PartialEq, Eq)]
+pub enum Choice {
+    Fewest,
+    Tested,
+    Rows,
+}
+
+pub struct Wanted {
+    pub readings: Vec<Reading>,
+    pub needs: Vec<Need>,
+    pub way: Way,
+}
+
+fn whole(shape: Shape, disk: usize) -> Reading {
+    Reading { disk, rows: 0..shape.width() }
+}
+
+fn runs(list: &ReadList) -> Vec<Reading> {
+    list.runs().map(|(disk, rows)| Reading { disk, rows }).collect()
+}
+
+/// The plan that reads the fewest cells, the balanced one if there are two, and its cells.
+fn fewest(shape: Shape, lost: usize) -> Result<(Way, ReadList), Refusal> {
+    let ours = shape.read_list(lost)?;
+    if lost < shape.disks() {
+        let balanced = shape.plan_list(lost, &shape.balanced_plan(lost)?.bytes())?;
+        if balanced.len() <= ours.len() {
+            return Ok((Way::Balanced(lost), balanced));
+        }
+    }
+    Ok((Way::Ours(lost), ours))
+}
+
+impl Way {
+    /// The disks that come back.
+    pub fn lost(&self) -> &[usize] {
+        match self {
+            Way::None => &[],
+            Way::Ours(one) | Way::Balanced(one) | Way::Tested(one) | Way::Rows(one) => {
+                std::slice::from_ref(one)
+            }
+            Way::Two(both) => both,
+        }
+    }
+}
+
+impl Wanted {
+    /// Readings, and the cells of some of them that the way needs.
+    fn of(readings: Vec<Reading>, needed: &[Reading], way: Way) -> Wanted {
+        let need = |reading: &Reading| {
+            let disk = reading.disk;
+            reading.rows.clone().map(move |row| Need { row, disk, as_disk: disk })
+        };
+        let needs = needed.iter().flat_map(need).collect();
+        Wanted { readings, needs, way }
+    }
+
+    /// Some cells of disks that are there.
+    pub fn cells(readings: Vec<Reading>) -> Wanted {
+        Wanted::of(readings, &[], Way::None)
+    }
+
+    /// Every cell of every disk that is there.
+    pub fn all(set: &Set) -> Wanted {
+        let shape = set.label.geometry.shape;
+        Wanted::cells(set.present().map(|disk| whole(shape, disk)).collect())
+    }
+
+    /// What a rebuild of the lost disks reads.
+    pub fn rebuild(set: &Set, lost: &[usize], choice: Choice) -> Result<Wanted, Refusal> {
+        let shape = set.label.geometry.shape;
+        let all = || Wanted::all(set).readings;
+        Ok(match (choice, lost) {
+            (_, []) => Wanted::cells(Vec::new()),
+            (Choice::Tested, [one]) => Wanted::of(all(), &all(), Way::Tested(*one)),
+            (Choice::Rows, [one]) if *one < shape.disks() => Wanted::by_rows(set, *one),
+            (_, [one]) => {
+                let (way, list) = fewest(shape, *one)?;
+                Wanted::of(runs(&list), &runs(&list), way)
+            }
+            (_, [first, second, ..]) => Wanted::of(all(), &all(), Way::Two([*first, *second])),
+        })
+    }
+
+    /// Every row. P stands in the place of a lost data disk, and the XOR of each row, which is P
+    /// otherwise, is what was lost.
+    fn by_rows(set: &Set, lost: usize) -> Wanted {
+        let shape = set.label.geometry.shape;
+        let disks = set.present().filter(|disk| *disk <= shape.disks());
+        let readings: Vec<Reading> = disks.map(|disk| whole(shape, disk)).collect();
+        let mut wanted = Wanted::of(readings.clone(), &readings, Way::Rows(lost));
+        for need in wanted.needs.iter_mut().filter(|need| need.disk == shape.disks()) {
+            need.as_disk = lost;
+        }
+        wanted
+    }
+
+    /// What the film needs: the data disks and, for one that is lost, the parity cells of a plan;
+    /// all of the others where two are lost.
+    pub fn film(set: &Set) -> Result<Wanted, Refusal> {
+        let shape = set.label.geometry.shape;
+        let data = |disk: &usize| *disk < shape.disks();
+        let lost = set.lost();
+        let readings: Vec<Reading> =
+            set.present().filter(data).map(|disk| whole(shape, disk)).collect();
+        match lost[..] {
+            [one] if data(&one) => {
+                let (way, list) = fewest(shape, one)?;
+                let needed = runs(&list);
+                let parity = needed.iter().filter(|reading| !data(&reading.disk)).cloned();
+                Ok(Wanted::of(readings.into_iter().chain(parity).collect(), &needed, way))
+            }
+            [first, second] if data(&first) || data(&second) => {
+                let all = Wanted::all(set).readings;
+                Ok(Wanted::of(all.clone(), &all, Way::Two([first, second])))
+            }
+            _ => Ok(Wanted::cells(readings)),
+        }
+    }
+
+    /// The cells that are read of a stripe.
+    pub fn reads(&self) -> usize {
+        self.readings.iter().map(|reading| reading.rows.len()).sum()
+    }
+
+    /// Disks by how much is read of them, the least first.
+    pub fn quietest(&self, set: &Set) -> Vec<usize> {
+        let read = |disk: &usize| -> usize {
+            self.readings.iter().filter(|one| one.disk == *disk).map(|one| one.rows.len()).sum()
+        };
+        let mut disks: Vec<usize> = set.present().collect();
+        disks.sort_by_key(read);
+        disks
+    }
+}
