@@ -8,6 +8,7 @@
 #                                libcuzhaveli_fast.a is not there, shared library and command have the plain compilation alone
 #   make demo                    shows the command at work on a film that it makes: encodes, loses disks, rebuilds, plays
 #   make examples                builds and runs examples/ from a scratch install, and compares their output
+#   make selftest                the Python package's own test of the shared library
 #   make install PREFIX= DESTDIR=   header, archives, shared library, cuzhaveli.pc, command and manual (PREFIX is /usr/local if
 #                                   not given)
 #   make uninstall PREFIX= DESTDIR=
@@ -30,7 +31,7 @@ scratch = $(CURDIR)/build/scratch
 warnings = -std=c99 -Wall -Wextra -pedantic -Werror
 dist = cuzhaveli-$(VERSION)-x86_64-linux
 
-.PHONY: all demo examples install uninstall dist clean FORCE
+.PHONY: all demo examples selftest install uninstall dist clean FORCE
 .DELETE_ON_ERROR:
 
 all: $(archives) $(shared) $(tool)
@@ -98,6 +99,9 @@ examples: $(archives) $(shared)
 	@rm -rf "$(scratch)" && mkdir -p "$(scratch)"
 	@$(MAKE) -s install PREFIX="$(scratch)/usr" DESTDIR=
 	@CC="$(CC)" CFLAGS="$(CFLAGS) $(warnings)" PKG_CONFIG="$(PKG_CONFIG)" examples/run "$(scratch)"
+
+selftest: $(shared)
+	@CUZHAVELI_LIBRARY="$(CURDIR)/$(shared)" PYTHONPATH="$(CURDIR)/python" PYTHONDONTWRITEBYTECODE=1 python3 -m cuzhaveli.selftest
 
 # The archive, the command and what belongs to them, with the sums, the kit's identity and the gate's log.
 dist: $(archives) $(shared) build/cuzhaveli
