@@ -2,6 +2,8 @@
 
 from __future__ import annotations
 
+from collections import Counter
+
 from .. import (
     DIAGONAL,
     Plan,
@@ -68,7 +70,8 @@ def _accepted(check: Check, shape: Shape, lost: int, plan: Plan) -> list[int]:
     check.same(bytes(plan_list(*array, plan)), wanted, "plan_list", shape, lost, plan)
     routes = sum(1 << step.row for step in plan.steps if step.kind == DIAGONAL)
     check.same(plan.routes, routes, "routes of a plan", shape, lost, plan)
-    return [sum(disk == of for _, disk in reads) for of in range(shape.disks + 2)]
+    of_disk = Counter(disk for _, disk in reads)
+    return [of_disk[disk] for disk in range(shape.disks + 2)]
 
 
 def _balanced(check: Check, shape: Shape, lost: int) -> None:
