@@ -49,7 +49,8 @@ TEXTS: dict[int, str] = {
     RefusalKind.STEP_REPEATED: "the row of a step was rebuilt by an earlier one",
     RefusalKind.STEP_EARLY: "another lost cell of a step's set is still missing",
     RefusalKind.NOT_NEXT: (
-        "the run is over, the stripe is not its next, or more stripes are skipped than passed"
+        "next is not below the stripes of the run, the stripe is not next, "
+        "or more are skipped than passed"
     ),
     RefusalKind.PACKAGE_TOO_LONG: "the package has more than 2^48 bytes",
     RefusalKind.BAD_TEXT: "the input is not of the plan program's form",
