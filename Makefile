@@ -1,15 +1,16 @@
 # Builds the library and hands it to its users. What computes is the proved archive alone; nothing here is proved.
 #
-#   make                         build/libcuzhaveli.a, proved and compiled by the Rattle kit, and build/libcuzhaveli_plans.a,
-#                                planner and judge alone, for programs that move no bytes of a stripe; with cargo also
-#                                build/cuzhaveli, the command
-#   make LIB=FILE                the same from a ready libcuzhaveli.a with the other one beside it, without the kit
+#   make                         build/libcuzhaveli.a, proved and compiled by the Rattle kit; build/libcuzhaveli_plans.a, planner
+#                                and judge alone, for programs that move no bytes of a stripe; build/libcuzhaveli_fast.a and
+#                                build/libcuzhaveli.so.1, the same proved source compiled for x86-64 and for x86-64-v3 (AVX2), of
+#                                which the processor's is taken at load (docs/TRUST.md); with cargo build/cuzhaveli, the command
+#   make LIB=FILE                the same from a ready libcuzhaveli.a with the other archives beside it, without the kit; where
+#                                libcuzhaveli_fast.a is not there, shared library and command have the plain compilation alone
 #   make demo                    shows the command at work on a film that it makes: encodes, loses disks, rebuilds, plays
 #   make examples                builds and runs examples/ from a scratch install, and compares their output
-#   make ARCH=x86-64-v3          besides these build/libcuzhaveli-x86-64-v3.a, the same proved source compiled for processors with
-#                                AVX2 (x86-64-v4: AVX-512); never installed, and not what rt staticlib builds (docs/TRUST.md)
-#   make ARCH=x86-64-v3 test-arch   compares that archive with the second implementation and Jerasure's vectors
-#   make install PREFIX= DESTDIR=   header, archives, cuzhaveli.pc, command and manual (PREFIX is /usr/local if not given)
+#   make selftest                the Python package's own test of the shared library
+#   make install PREFIX= DESTDIR=   header, archives, shared library, cuzhaveli.pc, command and manual (PREFIX is /usr/local if
+#                                   not given)
 #   make uninstall PREFIX= DESTDIR=
 #   make dist                    build/cuzhaveli-VERSION-x86_64-linux.tar.gz, after .ci/run
 #   make clean                   removes build/
@@ -18,26 +19,27 @@ VERSION = 0.1.0
 PREFIX = /usr/local
 DESTDIR =
 LIB =
-ARCH =
 CFLAGS = -O2
 PKG_CONFIG = pkg-config
 comma = ,
 
-archives = build/libcuzhaveli.a build/libcuzhaveli_plans.a
+fast = $(if $(LIB),$(patsubst $(dir $(LIB))%,build/%,$(wildcard $(dir $(LIB))libcuzhaveli_fast.a)),build/libcuzhaveli_fast.a)
+archives = build/libcuzhaveli.a build/libcuzhaveli_plans.a $(fast)
+shared = build/libcuzhaveli.so.1
 tool = $(if $(shell command -v cargo),build/cuzhaveli)
 scratch = $(CURDIR)/build/scratch
 warnings = -std=c99 -Wall -Wextra -pedantic -Werror
 dist = cuzhaveli-$(VERSION)-x86_64-linux
-for_arch = $(ARCH:%=build/libcuzhaveli-%.a)
 
-.PHONY: all demo examples install uninstall dist test-arch clean FORCE
+.PHONY: all demo examples selftest install uninstall dist clean FORCE
 .DELETE_ON_ERROR:
 
-all: $(archives) $(tool) $(for_arch)
-	@[ -n "$(tool)" ] || echo "make: no cargo on PATH, so the command cuzhaveli is not built; the archives are"
+all: $(archives) $(shared) $(tool)
+	@[ -n "$(tool)" ] || echo "make: no cargo on PATH, so the command cuzhaveli is not built; the libraries are"
+	@[ -n "$(fast)" ] || echo "make: no libcuzhaveli_fast.a beside $(LIB), so $(shared)$(if $(tool), and $(tool)) have the plain compilation alone"
 
 ifeq ($(LIB),)
-$(shell [ ! -e build/from-lib ] || rm -f $(archives) build/from-lib) # archives that LIB= brought are not built ones
+$(shell [ ! -e build/from-lib ] || rm -f $(archives) $(shared) build/from-lib) # archives that LIB= brought are not built ones
 build/libcuzhaveli.a: archive.sh crates.txt $(shell find crates -name '*.rt' -o -name '*.antt')
 	@command -v rt >/dev/null || { echo "make: the library is built by the Rattle kit, whose command rt is not on PATH; install the kit, or take a ready archive: make LIB=FILE" >&2; exit 1; }
 	@echo "make: proving and compiling: 4 to 6 minutes on two cores the first time, then only what changed; build/archive.log says how far"
@@ -47,11 +49,15 @@ build/libcuzhaveli.a: archive.sh crates.txt $(shell find crates -name '*.rt' -o 
 build/libcuzhaveli_plans.a: build/libcuzhaveli.a
 	@[ -f $@ ] || cp build/members/cuzhaveli_plans.a $@
 	@echo "make: wrote $@"
-build/libcuzhaveli-%.a: build/libcuzhaveli.a
-	@./archive.sh build/for-$* $* >build/$*.log 2>&1 || { tail -n 20 build/$*.log >&2; echo "make: $@ was not built; the lines above are the end of build/$*.log" >&2; exit 1; }
-	@cp build/for-$*/libcuzhaveli.a $@
+build/x86-64-v3/libcuzhaveli.a: build/libcuzhaveli.a
+	@echo "make: compiling for x86-64-v3: a minute; build/x86-64-v3.log says how far"
+	@./archive.sh build/x86-64-v3 x86-64-v3 >build/x86-64-v3.log 2>&1 || { tail -n 20 build/x86-64-v3.log >&2; echo "make: $@ was not built; the lines above are the end of build/x86-64-v3.log" >&2; exit 1; }
+build/libcuzhaveli_fast.a: build/libcuzhaveli.a build/x86-64-v3/libcuzhaveli.a dispatch/fast.sh dispatch/pick.c include/cuzhaveli.h
+	@dispatch/fast.sh build/libcuzhaveli.a build/x86-64-v3/libcuzhaveli.a build
 	@echo "make: wrote $@"
 else
+# Where the fast archive comes or goes, the plain one is taken anew: its date is what cargo looks at.
+$(shell [ "$(fast)" = "$(wildcard build/libcuzhaveli_fast.a)" ] || rm -f build/libcuzhaveli.a build/libcuzhaveli_fast.a)
 build/lib%.a: FORCE
 	@[ -f "$(dir $(LIB))lib$*.a" ] || { echo "make: LIB is $(LIB), and there is no $(dir $(LIB))lib$*.a; give the path of libcuzhaveli.a, with libcuzhaveli_plans.a beside it" >&2; exit 1; }
 	@mkdir -p build
@@ -59,7 +65,11 @@ build/lib%.a: FORCE
 	@touch build/from-lib
 endif
 
-build/cuzhaveli: build/libcuzhaveli.a $(shell find rust/cuzhaveli rust/tool -name '*.rs' -o -name Cargo.toml)
+$(shared): $(or $(fast),build/libcuzhaveli.a) dispatch/shared.sh include/cuzhaveli.h
+	@dispatch/shared.sh $< build
+	@echo "make: wrote $@"
+
+build/cuzhaveli: build/libcuzhaveli.a $(fast) $(shell find rust/cuzhaveli rust/tool -name '*.rs' -o -name Cargo.toml)
 	@command -v cargo >/dev/null || { echo "make: the command cuzhaveli is built by cargo, which is not on PATH; install Rust 1.89 or newer" >&2; exit 1; }
 	@CUZHAVELI_LIB_DIR="$(CURDIR)/build" CARGO_TARGET_DIR="$(CURDIR)/build/tool" cargo build -q --release --offline --manifest-path rust/tool/Cargo.toml
 	@cp build/tool/release/cuzhaveli $@
@@ -69,40 +79,40 @@ demo: build/cuzhaveli
 	@rm -rf build/demo
 	@examples/demo build/cuzhaveli build/demo
 
-test-arch: all
-	@[ -n "$(ARCH)" ] || { echo "make: say which: make ARCH=x86-64-v3 test-arch" >&2; exit 1; }
-	@tests/arch/run $(ARCH)
-
-install: $(archives) $(tool)
+install: $(archives) $(shared) $(tool)
 	@install -d "$(DESTDIR)$(PREFIX)/include" "$(DESTDIR)$(PREFIX)/lib/pkgconfig"
 	@install -m 644 include/cuzhaveli.h "$(DESTDIR)$(PREFIX)/include/"
-	@install -m 644 $(archives) "$(DESTDIR)$(PREFIX)/lib/"
+	@install -m 644 $(archives) $(shared) "$(DESTDIR)$(PREFIX)/lib/"
+	@ln -sf libcuzhaveli.so.1 "$(DESTDIR)$(PREFIX)/lib/libcuzhaveli.so"
 ifneq ($(tool),)
 	@install -d "$(DESTDIR)$(PREFIX)/bin" "$(DESTDIR)$(PREFIX)/share/man/man1"
 	@install -m 755 $(tool) "$(DESTDIR)$(PREFIX)/bin/"
 	@install -m 644 docs/cuzhaveli.1 "$(DESTDIR)$(PREFIX)/share/man/man1/"
 endif
 	@sed 's|@PREFIX@|$(PREFIX)|; s|@VERSION@|$(VERSION)|' cuzhaveli.pc.in >"$(DESTDIR)$(PREFIX)/lib/pkgconfig/cuzhaveli.pc"
-	@echo "make: installed header, archives, cuzhaveli.pc$(if $(tool),$(comma) command and manual) under $(DESTDIR)$(PREFIX)"
+	@echo "make: installed header, archives, shared library, cuzhaveli.pc$(if $(tool),$(comma) command and manual) under $(DESTDIR)$(PREFIX)"
 
 uninstall:
-	rm -f "$(DESTDIR)$(PREFIX)/include/cuzhaveli.h" "$(DESTDIR)$(PREFIX)/lib/libcuzhaveli.a" "$(DESTDIR)$(PREFIX)/lib/libcuzhaveli_plans.a" "$(DESTDIR)$(PREFIX)/lib/pkgconfig/cuzhaveli.pc" "$(DESTDIR)$(PREFIX)/bin/cuzhaveli" "$(DESTDIR)$(PREFIX)/share/man/man1/cuzhaveli.1"
+	rm -f "$(DESTDIR)$(PREFIX)/include/cuzhaveli.h" "$(DESTDIR)$(PREFIX)/lib/libcuzhaveli.a" "$(DESTDIR)$(PREFIX)/lib/libcuzhaveli_plans.a" "$(DESTDIR)$(PREFIX)/lib/libcuzhaveli_fast.a" "$(DESTDIR)$(PREFIX)/lib/libcuzhaveli.so" "$(DESTDIR)$(PREFIX)/lib/libcuzhaveli.so.1" "$(DESTDIR)$(PREFIX)/lib/pkgconfig/cuzhaveli.pc" "$(DESTDIR)$(PREFIX)/bin/cuzhaveli" "$(DESTDIR)$(PREFIX)/share/man/man1/cuzhaveli.1"
 
-examples: $(archives)
+examples: $(archives) $(shared)
 	@rm -rf "$(scratch)" && mkdir -p "$(scratch)"
 	@$(MAKE) -s install PREFIX="$(scratch)/usr" DESTDIR=
 	@CC="$(CC)" CFLAGS="$(CFLAGS) $(warnings)" PKG_CONFIG="$(PKG_CONFIG)" examples/run "$(scratch)"
 
+selftest: $(shared)
+	@CUZHAVELI_LIBRARY="$(CURDIR)/$(shared)" PYTHONPATH="$(CURDIR)/python" PYTHONDONTWRITEBYTECODE=1 python3 -m cuzhaveli.selftest
+
 # The archive, the command and what belongs to them, with the sums, the kit's identity and the gate's log.
-dist: $(archives) build/cuzhaveli
+dist: $(archives) $(shared) build/cuzhaveli
 	@[ -f build/gate.log ] || { echo "make: no build/gate.log, which goes into the archive; run .ci/run first" >&2; exit 1; }
-	@for one in $(archives); do grep -q "$$(sha256sum <$$one | cut -d ' ' -f 1)" build/gate.log || { echo "make: $$one is not the one that build/gate.log tells of; run .ci/run again" >&2; exit 1; }; done
+	@for one in $(archives) $(shared); do grep -q "$$(sha256sum <$$one | cut -d ' ' -f 1)" build/gate.log || { echo "make: $$one is not the one that build/gate.log tells of; run .ci/run again" >&2; exit 1; }; done
 	@command -v rt >/dev/null || { echo "make: the kit's identity goes into the archive, and its command rt is not on PATH" >&2; exit 1; }
 	@rm -rf build/$(dist) && mkdir -p build/$(dist)
 	@$(MAKE) -s install PREFIX=/usr DESTDIR="$(CURDIR)/build/$(dist)"
 	@mv build/$(dist)/usr/* build/$(dist)/ && rmdir build/$(dist)/usr
 	@sed 's|@PREFIX@|$${pcfiledir}/../..|; s|@VERSION@|$(VERSION)|' cuzhaveli.pc.in >build/$(dist)/lib/pkgconfig/cuzhaveli.pc
-	@cp -r README.md docs examples rust build/$(dist)/ && rm -rf build/$(dist)/rust/*/target
+	@cp -r README.md docs examples rust python build/$(dist)/ && rm -rf build/$(dist)/rust/*/target && find build/$(dist)/python -name __pycache__ -exec rm -rf {} +
 	@rt version >build/$(dist)/KIT && cp build/gate.log build/$(dist)/
 	@cd build/$(dist) && find . -type f ! -name SHA256SUMS | LC_ALL=C sort | xargs sha256sum >SHA256SUMS
 	@cd build && tar --sort=name --mtime=@0 --owner=0 --group=0 --numeric-owner -cf - $(dist) | gzip -n >$(dist).tar.gz

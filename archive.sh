@@ -2,8 +2,8 @@
 # Compiles the archives that users link, libcuzhaveli.a and libcuzhaveli_plans.a, and proves what it compiles.
 # Usage: ./archive.sh FOLDER [ARCH]
 #   FOLDER: where they go; the members stay in FOLDER/members
-#   ARCH:   x86-64-v3 or x86-64-v4 compiles for newer processors; x86-64 gives the bytes that come without it. The crates below
-#           the exports have to be proved: run make first
+#   ARCH:   x86-64-v3 compiles for processors with AVX2, for dispatch/fast.sh; x86-64 gives the bytes that come without it. The
+#           crates below the exports have to be proved: run it without ARCH first
 # The exports stand in the crates cuzhaveli_* of crates.txt. `rt staticlib` writes an archive of one crate; here each becomes a
 # member of libcuzhaveli.a, so that a program takes the members that it calls. libcuzhaveli_plans.a is the member on plans alone.
 # For ARCH, `rattle build --toolchain` takes the folder of the compiler that it runs, which has the kit's own programs, clang by
@@ -13,8 +13,8 @@ die() { echo "archive.sh: $1" >&2; exit 1; }
 [ $# -eq 1 ] || [ $# -eq 2 ] || { echo "usage: ./archive.sh FOLDER [ARCH]" >&2; exit 2; }
 arch=${2:-}
 case $arch in
-'' | x86-64 | x86-64-v3 | x86-64-v4) ;;
-*) echo "archive.sh: ARCH is $arch, and x86-64, x86-64-v3 and x86-64-v4 are known" >&2; exit 2 ;;
+'' | x86-64 | x86-64-v3) ;;
+*) echo "archive.sh: ARCH is $arch, and x86-64 and x86-64-v3 are known" >&2; exit 2 ;;
 esac
 command -v rt >/dev/null || die "the library is built by the Rattle kit, whose command rt is not on PATH"
 mkdir -p "$1"
@@ -45,7 +45,7 @@ compiled() { # NAME FILE
             set -- "$@" --extern "$crate=$own/rlib/$crate.rlib" # a library of the kit
             continue
         fi
-        [ -d "target/rlib/$crate.rlib" ] || die "the crate $crate is not proved yet; run make first"
+        [ -d "target/rlib/$crate.rlib" ] || die "the crate $crate is not proved yet; run ./archive.sh without ARCH first"
         set -- "$@" --extern "$crate=$PWD/target/rlib/$crate.rlib"
     done
     "$own/bin/rattle" build "$@" -L "dependency=$PWD/target/rlib" -L "dependency=$own/rlib" \

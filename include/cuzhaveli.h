@@ -1,4 +1,4 @@
-/* cuzhaveli.h: a proved Liberation RAID-6 code. C99 and C++; x86-64 Linux; link libcuzhaveli.a.
+/* cuzhaveli.h: a proved Liberation RAID-6 code. C99 and C++; x86-64 Linux; link with -lcuzhaveli.
  *
  * An array has a width p (3, 5, 7, 11, 13, 17, 19, 23, 29 or 31), k data disks (2 to p; disks 0 to k - 1), row
  * parity P (disk k) and diagonal parity Q (disk k + 1). In a stripe each disk holds p cells of s bytes, s = 1 to

@@ -1,11 +1,13 @@
 //! Finds libcuzhaveli.a: in the folder that CUZHAVELI_LIB_DIR names, else in build/ of the
-//! repository or lib/ of a release, else where the program pkg-config says.
+//! repository or lib/ of a release, else where the program pkg-config says. Where that folder has
+//! libcuzhaveli_fast.a too, it is taken instead, unless the feature `plain` is on.
 
 use std::env;
 use std::path::{Path, PathBuf};
 use std::process::Command;
 
 const ARCHIVE: &str = "libcuzhaveli.a";
+const FAST: &str = "libcuzhaveli_fast.a";
 
 fn main() {
     println!("cargo:rerun-if-env-changed=CUZHAVELI_LIB_DIR");
@@ -17,9 +19,21 @@ fn main() {
              that holds {ARCHIVE}"
         )
     });
-    println!("cargo:rerun-if-changed={}", folder.join(ARCHIVE).display());
+    let name = if takes_fast(&folder) { "cuzhaveli_fast" } else { "cuzhaveli" };
+    // The plain one too: it is new whenever the other comes or goes.
+    for archive in [ARCHIVE, &format!("lib{name}.a")] {
+        println!("cargo:rerun-if-changed={}", folder.join(archive).display());
+    }
     println!("cargo:rustc-link-search=native={}", folder.display());
-    println!("cargo:rustc-link-lib=static=cuzhaveli");
+    println!("cargo:rustc-link-lib=static={name}");
+}
+
+/// Whether to link the archive that chooses by the processor: its choice is made by the loader of
+/// glibc, which other C libraries lack.
+fn takes_fast(folder: &Path) -> bool {
+    let glibc = env::var("CARGO_CFG_TARGET_ENV").is_ok_and(|env| env == "gnu");
+    let plain = env::var_os("CARGO_FEATURE_PLAIN").is_some();
+    glibc && !plain && folder.join(FAST).is_file()
 }
 
 /// The folder that the environment names; one without an archive is an error, not a reason to look on.

@@ -2,14 +2,14 @@
 """Holds the interface that users see to the proved source, field by field.
 
 Usage: tests/interface/check.py ARCHIVES FOLDER BOUNDARY
-  ARCHIVES: the folder of libcuzhaveli.a and libcuzhaveli_plans.a; FOLDER: an existing folder for
-  what is compiled; BOUNDARY: what tests/boundary printed.
+  ARCHIVES: the folder of libcuzhaveli.a, libcuzhaveli_plans.a and libcuzhaveli_fast.a; FOLDER: an
+  existing folder for what is compiled; BOUNDARY: what tests/boundary printed.
 
 The exports of crates/cuzhaveli_*/src/lib.rt and the #[repr(C)] structs that they use are the
 reference. include/cuzhaveli.h and rust/cuzhaveli/src/ffi.rs must declare the same calls and
-structs, with the same sizes and offsets; libcuzhaveli.a must define exactly these calls, and
-libcuzhaveli_plans.a those of crates/cuzhaveli_plans; an archive must hold no data and need nothing
-but memcpy and memset; the refusals must have one set of names and
+structs, with the same sizes and offsets; libcuzhaveli.a must define exactly these calls,
+libcuzhaveli_plans.a those of crates/cuzhaveli_plans, and libcuzhaveli_fast.a each call and its two
+compilations; an archive must hold no data and need nothing but memcpy and memset; the refusals must have one set of names and
 numbers in the header, the crate and the documents; the refusals that the header names for a
 call must be those that it gave in the random calls; header and Makefile must have one version.
 Exit status 1 if something differs.
@@ -248,21 +248,37 @@ def check_archive(calls, library):
     """The archive's symbols are the calls, and it needs and holds nothing else."""
     symbols = subprocess.run(["nm", "-P", library], capture_output=True, text=True, check=True).stdout
     kinds = [line.split()[:2] for line in symbols.splitlines() if " " in line]
-    defined = {name for name, kind in kinds if kind == "T"}
-    for name in calls.keys() - defined:
+    defined = {name for name, kind in kinds if kind in "Ti"}
+    for name in calls - defined:
         differs(f"the archive does not define {name}", library, "build it anew: make")
-    for name in defined - calls.keys():
+    for name in defined - calls:
         differs(f"the archive defines {name}, and no export has it", library, "export it, or take it out of the archive")
     for name, kind in kinds:
-        if kind == "U" and name not in NEEDED:
+        if kind == "U" and name not in NEEDED | defined:
             differs(f"the archive needs {name}; users were told {', '.join(sorted(NEEDED))}", library, "find the call that brought it in")
         if kind in "BbCcDdGgSs":
             differs(f"the archive has data, {name}; a call is to keep no state", library, "find the static that brought it in")
-    sections = subprocess.run(["readelf", "-SW", library], capture_output=True, text=True, check=True).stdout
-    for name, size, flags in re.findall(r"\] (\S+) +\S+ +[0-9a-f]{16} [0-9a-f]+ ([0-9a-f]+) [0-9a-f]+ +([A-Za-z]*) ", sections):
-        if "W" in flags and int(size, 16) > 0:
-            differs(f"the archive has a section that can be written, {name}", library, "find the static that brought it in")
+    for name in written_sections(library):
+        differs(f"the archive has a section that can be written, {name}", library, "find the static that brought it in")
     return len(defined)
+
+
+def written_sections(library):
+    """The sections of an archive or a library that can be written and have bytes."""
+    sections = subprocess.run(["readelf", "-SW", library], capture_output=True, text=True, check=True).stdout
+    found = re.findall(r"\] (\S+) +\S+ +[0-9a-f]{16} [0-9a-f]+ ([0-9a-f]+) [0-9a-f]+ +([A-Za-z]*) ", sections)
+    return [name for name, size, flags in found if "W" in flags and int(size, 16) > 0]
+
+
+def check_archives(calls, archives):
+    """The archives of all calls, of those on plans, and of both compilations with the choice between them."""
+    symbols = check_archive(set(calls), archives / "libcuzhaveli.a")
+    symbols += check_archive(set(read_exports([PLANS])), archives / "libcuzhaveli_plans.a")
+    fast = archives / "libcuzhaveli_fast.a"
+    if not fast.exists():
+        print(f"interface: no {fast}, so it is not looked at")
+        return symbols
+    return symbols + check_archive({name + level for name in calls for level in ("", "_x86_64", "_x86_64_v3")}, fast)
 
 
 def check_refusals():
@@ -291,14 +307,20 @@ def check_version():
         differs(f"version {header}; the Makefile has {'.'.join(numbers.groups())}", HEADER, "give both the same version")
 
 
-def check_given(boundary):
-    """The refusals that the header names for each call, and those that the random calls gave."""
-    seen = {name: set(map(int, numbers.split())) for name, numbers in re.findall(r"^refused (\w+):(.*)$", boundary.read_text(), re.M)}
+def named_refusals():
+    """The refusals that the header names for each call."""
     named_in = {}
     for comment, calls in re.findall(r"/\*((?:(?!\*/).)*)\*/\n((?:(?:struct|uint32_t)[^;{}]*\([^;{}]*\);\n)+)", HEADER.read_text(), re.S):
         listed = re.search(r"Refuses ((?:(?!\. |\.$).)*)", comment, re.S)
         for name in re.findall(r"(cuzhaveli_\w+)\(", calls):
             named_in[name] = set(map(int, re.findall(r"\d+", listed[1]))) if listed else None
+    return named_in
+
+
+def check_given(boundary):
+    """The refusals that the header names for each call, and those that the random calls gave."""
+    seen = {name: set(map(int, numbers.split())) for name, numbers in re.findall(r"^refused (\w+):(.*)$", boundary.read_text(), re.M)}
+    named_in = named_refusals()
     for name in seen.keys() | named_in.keys():
         if seen.get(name) != named_in.get(name):
             differs(f"{name} gave refusals {sorted(seen.get(name) or [])}, its comment has {sorted(named_in.get(name) or [])}",
@@ -319,8 +341,7 @@ def main():
         compare("struct", structs, given_structs, path)
     check_header(structs, folder)
     fields = check_layout(structs, folder)
-    plans = read_exports([PLANS])
-    symbols = check_archive(calls, library) + check_archive(plans, plans_library)
+    symbols = check_archives(calls, archives)
     refusals = check_refusals()
     check_version()
     check_given(boundary)
