@@ -6,6 +6,8 @@
 #   make LIB=FILE                the same from a ready libcuzhaveli.a with the other one beside it, without the kit
 #   make demo                    shows the command at work on a film that it makes: encodes, loses disks, rebuilds, plays
 #   make examples                builds and runs examples/ from a scratch install, and compares their output
+#   make conformance IMPL=FILE   compares your code, a .c, .a or .so that offers functions of conformance/yours.h, with the library;
+#                                IMPL_CFLAGS= IMPL_LIBS= what it needs, OPTIONS= options of the runner (docs/TEST-YOURS.md)
 #   make ARCH=x86-64-v3          besides these build/libcuzhaveli-x86-64-v3.a, the same proved source compiled for processors with
 #                                AVX2 (x86-64-v4: AVX-512); never installed, and not what rt staticlib builds (docs/TRUST.md)
 #   make ARCH=x86-64-v3 test-arch   compares that archive with the second implementation and Jerasure's vectors
@@ -19,6 +21,10 @@ PREFIX = /usr/local
 DESTDIR =
 LIB =
 ARCH =
+IMPL =
+IMPL_CFLAGS =
+IMPL_LIBS =
+OPTIONS =
 CFLAGS = -O2
 PKG_CONFIG = pkg-config
 comma = ,
@@ -30,7 +36,7 @@ warnings = -std=c99 -Wall -Wextra -pedantic -Werror
 dist = cuzhaveli-$(VERSION)-x86_64-linux
 for_arch = $(ARCH:%=build/libcuzhaveli-%.a)
 
-.PHONY: all demo examples install uninstall dist test-arch clean FORCE
+.PHONY: all demo examples conformance install uninstall dist test-arch clean FORCE
 .DELETE_ON_ERROR:
 
 all: $(archives) $(tool) $(for_arch)
@@ -72,6 +78,10 @@ demo: build/cuzhaveli
 test-arch: all
 	@[ -n "$(ARCH)" ] || { echo "make: say which: make ARCH=x86-64-v3 test-arch" >&2; exit 1; }
 	@tests/arch/run $(ARCH)
+
+conformance: build/libcuzhaveli.a
+	@[ -n "$(IMPL)" ] || { echo "make: say which code: make conformance IMPL=mine.c (or mine.a, mine.so); docs/TEST-YOURS.md tells the way" >&2; exit 2; }
+	@CC="$(CC)" CFLAGS="$(CFLAGS)" IMPL_CFLAGS="$(IMPL_CFLAGS)" IMPL_LIBS="$(IMPL_LIBS)" conformance/run $(IMPL) $(OPTIONS)
 
 install: $(archives) $(tool)
 	@install -d "$(DESTDIR)$(PREFIX)/include" "$(DESTDIR)$(PREFIX)/lib/pkgconfig"
