@@ -7,7 +7,7 @@
 #include <stdlib.h>
 #include <string.h>
 
-enum { MOST_ROWS = 31, MOST_CELLS = 31 * 33, MOST_SIZE = 4096, MOST_IN_SET = 33 };
+enum { MOST_CELLS = 31 * 33, MOST_SIZE = 4096, MOST_IN_SET = 33 };
 
 static void add(uint8_t *to, const uint8_t *from, size_t s)
 {
@@ -99,56 +99,59 @@ int yours_scrub(size_t p, size_t k, size_t s, const uint8_t *stripe, int *verdic
     return 0;
 }
 
-/* Gauss over the sets: sum[b] becomes one of sets in which of all missing cells just the b-th is
- * left. */
-static int eliminate(size_t sets, size_t count, uint64_t *left, uint64_t *sum)
+/* A sum of sets: which missing cells it has, and the XOR of its other cells. */
+struct sum {
+    uint64_t missing;
+    uint8_t value[MOST_SIZE];
+};
+
+static void add_sum(struct sum *to, const struct sum *from, size_t s)
 {
-    for (size_t b = 0; b < count; b++) {
+    to->missing ^= from->missing;
+    add(to->value, from->value, s);
+}
+
+/* Gauss: of all missing cells sum b is left with the b-th alone. 0 if it can be done. */
+static int eliminate(struct sum *sums, size_t count, size_t unknowns, size_t s)
+{
+    for (size_t b = 0; b < unknowns; b++) {
         size_t n = b;
-        while (n < sets && !(left[n] >> b & 1))
+        while (n < count && !(sums[n].missing >> b & 1))
             n++;
-        if (n == sets)
+        if (n == count)
             return 23;
-        if (n != b) {
-            left[b] ^= left[n];
-            sum[b] ^= sum[n];
-        }
-        for (n = 0; n < sets; n++)
-            if (n != b && left[n] >> b & 1) {
-                left[n] ^= left[b];
-                sum[n] ^= sum[b];
-            }
+        if (n != b)
+            add_sum(&sums[b], &sums[n], s);
+        for (n = 0; n < count; n++)
+            if (n != b && sums[n].missing >> b & 1)
+                add_sum(&sums[n], &sums[b], s);
     }
     return 0;
 }
 
 int yours_rebuild_cells(size_t p, size_t k, size_t s, const uint8_t *missing, uint8_t *stripe)
 {
-    uint64_t left[2 * MOST_ROWS] = {0}, sum[2 * MOST_ROWS];
-    size_t lost[2 * MOST_ROWS], lost_count = 0, cells[MOST_IN_SET];
-    for (size_t cell = 0; cell < p * (k + 2); cell++) {
-        if (missing[cell] && lost_count == 2 * p)
-            return 23;
+    size_t lost[MOST_CELLS], unknowns = 0;
+    struct sum *sums = calloc(2 * p, sizeof *sums);
+    if (!sums)
+        return YOURS_LEFT_OUT;
+    for (size_t cell = 0; cell < p * (k + 2); cell++)
         if (missing[cell])
-            lost[lost_count++] = cell;
-    }
+            lost[unknowns++] = cell;
     for (size_t n = 0; n < 2 * p; n++) {
-        size_t count = set_cells(p, k, n, cells);
-        sum[n] = (uint64_t)1 << n;
+        size_t cells[MOST_IN_SET], count = set_cells(p, k, n, cells);
         for (size_t j = 0; j < count; j++)
-            for (size_t b = 0; b < lost_count; b++)
-                left[n] ^= (uint64_t)(cells[j] == lost[b]) << b;
+            if (!missing[cells[j]])
+                add(sums[n].value, stripe + cells[j] * s, s);
+        for (size_t j = 0; j < count && unknowns <= 2 * p; j++)
+            for (size_t b = 0; b < unknowns; b++)
+                sums[n].missing ^= (uint64_t)(cells[j] == lost[b]) << b;
     }
-    if (eliminate(2 * p, lost_count, left, sum) != 0)
-        return 23;
-    for (size_t b = 0; b < lost_count; b++) {
-        uint8_t value[MOST_SIZE] = {0};
-        for (size_t n = 0; n < 2 * p; n++)
-            for (size_t j = 0, count = sum[b] >> n & 1 ? set_cells(p, k, n, cells) : 0; j < count; j++)
-                add(value, stripe + cells[j] * s, s);
-        add(stripe + lost[b] * s, value, s); /* its own noise is in the value, too */
-    }
-    return 0;
+    int refused = unknowns > 2 * p ? 23 : eliminate(sums, 2 * p, unknowns, s);
+    for (size_t b = 0; refused == 0 && b < unknowns; b++)
+        memcpy(stripe + lost[b] * s, sums[b].value, s);
+    free(sums);
+    return refused;
 }
 
 int yours_rebuild_two(size_t p, size_t k, size_t s, size_t first, size_t second, uint8_t *stripe)
