@@ -11,7 +11,8 @@
 #   make ARCH=x86-64-v3          besides these build/libcuzhaveli-x86-64-v3.a, the same proved source compiled for processors with
 #                                AVX2 (x86-64-v4: AVX-512); never installed, and not what rt staticlib builds (docs/TRUST.md)
 #   make ARCH=x86-64-v3 test-arch   compares that archive with the second implementation and Jerasure's vectors
-#   make install PREFIX= DESTDIR=   header, archives, cuzhaveli.pc, command and manual (PREFIX is /usr/local if not given)
+#   make install PREFIX= DESTDIR=   header, archives, cuzhaveli.pc, command and manual, and in share/cuzhaveli the vectors and the
+#                                conformance kit (PREFIX is /usr/local if not given)
 #   make uninstall PREFIX= DESTDIR=
 #   make dist                    build/cuzhaveli-VERSION-x86_64-linux.tar.gz, after .ci/run
 #   make clean                   removes build/
@@ -93,10 +94,13 @@ ifneq ($(tool),)
 	@install -m 644 docs/cuzhaveli.1 "$(DESTDIR)$(PREFIX)/share/man/man1/"
 endif
 	@sed 's|@PREFIX@|$(PREFIX)|; s|@VERSION@|$(VERSION)|' cuzhaveli.pc.in >"$(DESTDIR)$(PREFIX)/lib/pkgconfig/cuzhaveli.pc"
-	@echo "make: installed header, archives, cuzhaveli.pc$(if $(tool),$(comma) command and manual) under $(DESTDIR)$(PREFIX)"
+	@install -d "$(DESTDIR)$(PREFIX)/share/cuzhaveli"
+	@cp -r conformance vectors "$(DESTDIR)$(PREFIX)/share/cuzhaveli/"
+	@echo "make: installed header, archives, vectors, conformance kit, cuzhaveli.pc$(if $(tool),$(comma) command and manual) under $(DESTDIR)$(PREFIX)"
 
 uninstall:
 	rm -f "$(DESTDIR)$(PREFIX)/include/cuzhaveli.h" "$(DESTDIR)$(PREFIX)/lib/libcuzhaveli.a" "$(DESTDIR)$(PREFIX)/lib/libcuzhaveli_plans.a" "$(DESTDIR)$(PREFIX)/lib/pkgconfig/cuzhaveli.pc" "$(DESTDIR)$(PREFIX)/bin/cuzhaveli" "$(DESTDIR)$(PREFIX)/share/man/man1/cuzhaveli.1"
+	rm -rf "$(DESTDIR)$(PREFIX)/share/cuzhaveli/conformance" "$(DESTDIR)$(PREFIX)/share/cuzhaveli/vectors"
 
 examples: $(archives)
 	@rm -rf "$(scratch)" && mkdir -p "$(scratch)"
