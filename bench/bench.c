@@ -1,6 +1,7 @@
 /* Times encode, check, the rebuild of one and of two data disks, the update of
-   a cell, the scrub, the tested rebuild and the stripe of a parity server, and
-   prints the results as Markdown.
+   a cell, the scrub, the tested rebuild, the rebuilds by other plans and of
+   missing cells and the stripe of a parity server, and prints the results as
+   Markdown.
 
    Time is processor time of the thread. In a round each contestant is timed
    once, in an order that turns from round to round. A run has rounds for every
@@ -8,6 +9,7 @@
 
 #include "clock.h"
 #include "limit.h"
+#include "mends.h"
 #include "results.h"
 #include "scrub.h"
 #include "servers.h"
@@ -200,6 +202,7 @@ int main(int argc, char **argv)
     print_limits(rounds);
     print_updates(rounds);
     print_scrubs(rounds);
+    print_mends(rounds);
     print_servers(rounds);
     for (int array = 0; array < ARRAYS; array++) {
         close_array(&arrays[array]);

@@ -17,13 +17,13 @@
  *
  * What is proved, for every argument, is in docs/TRUST.md. What a C caller owes, since no proof sees it:
  *  - a pointer with a length n points to n bytes that may be read (and written, if not const), at any
- *    alignment; it may be NULL if n is not the length required (the call is then refused, at the latest by 5), and
- *    for cuzhaveli_plan_text if n is 0;
+ *    alignment; it may be NULL if n is not the length required (the call is then refused, at the latest by 5), and,
+ *    for `input` and `text`, if n is 0;
  *  - `lengths` points to `lengths_len` numbers that may be read, aligned as uint64_t; it may be NULL if that is 0 or
  *    more than CUZHAVELI_MAX_FILES;
  *  - `run` is not NULL and is aligned as struct cuzhaveli_run;
- *  - `list` points to `list_len` records, not bytes, is aligned as struct cuzhaveli_array_state (8 bytes), and may be
- *    NULL if `list_len` is 0 or over CUZHAVELI_MAX_ARRAYS;
+ *  - `list` of cuzhaveli_report_disk points to `list_len` records, not bytes, is aligned as struct
+ *    cuzhaveli_array_state (8 bytes), and may be NULL if `list_len` is 0 or over CUZHAVELI_MAX_ARRAYS;
  *  - `back` is a bool of C99 or C++: any number becomes one in a call through this header. From a language without
  *    one pass a byte 0 or 1, and no other;
  *  - memory that a call writes overlaps nothing else it is lent, and nobody else uses it meanwhile.
@@ -77,7 +77,7 @@ enum cuzhaveli_refusal {
     CUZHAVELI_STEP_SET = 7,           /* the step's set lacks that row's lost cell */
     CUZHAVELI_STEP_REPEATED = 8,      /* the row was rebuilt by an earlier step */
     CUZHAVELI_STEP_EARLY = 9,         /* another lost cell of the set is still missing */
-    CUZHAVELI_NOT_NEXT = 10,          /* the run is over, the stripe is not its next, or more skipped than passed */
+    CUZHAVELI_NOT_NEXT = 10,          /* next is N or more, the stripe is not next, or skipped is above next */
     CUZHAVELI_PACKAGE_TOO_LONG = 11,  /* a package of more than 2^48 bytes, all files together */
     CUZHAVELI_BAD_TEXT = 12,          /* input of the plan program; in its text only, no call answers it */
     CUZHAVELI_BAD_DISKS = 13,         /* k is under 2 or over p; tested right after 1 */
@@ -405,7 +405,7 @@ struct cuzhaveli_answer cuzhaveli_rebuild_server(struct cuzhaveli_shape shape, s
                                                  uint8_t *stripes, size_t stripes_len, const uint8_t *losses,
                                                  size_t losses_len);
 
-/* Runs: the rebuild of one disk over many stripes, in their order, each rebuilt or skipped. */
+/* Runs: the rebuild of one disk over N = `stripes` stripes, in their order, each rebuilt or skipped. */
 
 /* Opens a run over `stripes` stripes (0: over at once), with next = 0 and skipped = 0. A number over
  * CUZHAVELI_MAX_STRIPES is cut to 32 bits by C before the call can see it: compare first, and use a second run.
@@ -435,8 +435,8 @@ struct cuzhaveli_run cuzhaveli_resume_disks_run(struct cuzhaveli_disks_run old);
  * was lost (`back` false) or is back (`back` true): sets or clears its bit, leaves the rest of the list, and counts the
  * list as it then is. Every record is tested first, in order, by 1, 13 and 3 (a lost disk over its k + 1), so that the
  * earliest bad one decides; then the reported disk by 3. From one report to the next a disk is lost exactly if the last
- * accepted report of it was its loss. On a refusal the list stands, and the totals are zeros. Refuses 20, 1, 13, 3,
- * 21. */
+ * accepted report of it was its loss, or there was none and it was lost at the start. On a refusal the list stands, and
+ * the totals are zeros. Refuses 20, 1, 13, 3, 21. */
 struct cuzhaveli_board cuzhaveli_report_disk(struct cuzhaveli_array_state *list, size_t list_len, size_t which,
                                              size_t disk, bool back);
 

@@ -213,10 +213,11 @@ bool plain_text(struct caller *c)
     struct lent *text = &c->first, *out = &c->second;
     lend_text(c, a);
     lend(out, &c->random, CUZHAVELI_TEXT_BYTES, c->at_end);
-    SAY(c, "cuzhaveli_plain_text(%zu, %zu, %zu, %p, %zu, %p, %zu)", a.width, a.disks, a.lost, (void *)text->bytes,
+    const uint8_t *bytes = text->length == 0 && once_in(&c->random, 2) ? NULL : text->bytes;
+    SAY(c, "cuzhaveli_plain_text(%zu, %zu, %zu, %p, %zu, %p, %zu)", a.width, a.disks, a.lost, (const void *)bytes,
         text->length, (void *)out->bytes, out->length);
     struct cuzhaveli_written got =
-        cuzhaveli_plain_text(a.width, a.disks, a.lost, text->bytes, text->length, out->bytes, out->length);
+        cuzhaveli_plain_text(a.width, a.disks, a.lost, bytes, text->length, out->bytes, out->length);
     struct cuzhaveli_written wanted =
         second_plain_text(a.width, a.disks, a.lost, text->same, text->same_length, out->same, out->same_length);
     return same(c, PLAIN, got.answer, wanted.answer) && got.length == wanted.length && lent_agrees(text) &&

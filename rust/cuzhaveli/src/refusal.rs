@@ -47,7 +47,7 @@ kinds! {
     StepSet = 7, "the set of a step lacks that row's lost cell";
     StepRepeated = 8, "the row of a step was rebuilt by an earlier one";
     StepEarly = 9, "another lost cell of a step's set is still missing";
-    NotNext = 10, "the run is over, the stripe is not its next, or more stripes are skipped than passed";
+    NotNext = 10, "next is not below the stripes of the run, the stripe is not next, or more are skipped than passed";
     PackageTooLong = 11, "the package has more than 2^48 bytes";
     BadText = 12, "the input is not of the plan program's form";
     BadDisks = 13, "the data disks are fewer than 2 or more than the width";
@@ -104,10 +104,6 @@ impl Refusal {
     fn entry(self) -> (RefusalKind, &'static str) {
         let known = RefusalKind::ALL.iter().find(|(kind, _)| *kind as u8 == self.number);
         *known.unwrap_or(RefusalKind::ALL.last().expect("the last kind is Unknown"))
-    }
-
-    pub(crate) fn of(kind: RefusalKind) -> Refusal {
-        Refusal { number: kind as u8, place: 0 }
     }
 }
 

@@ -1,6 +1,6 @@
 //! Runs: the rebuild of one disk over many stripes.
 
-use crate::{ffi, Bill, Refusal, RefusalKind, Shape};
+use crate::{ffi, Bill, Refusal, Shape};
 
 /// A run's record. Keep its numbers in a file and give them to [`Shape::resume_run`].
 ///
@@ -26,17 +26,14 @@ impl Run {
         Run(run)
     }
 
-    /// A record that other software made: its numbers are tested first.
+    /// A record that other software made, if the library can read it.
     pub(crate) fn resumed(run: ffi::Run) -> Result<Run, Refusal> {
         unsafe { ffi::cuzhaveli_run_progress(&run) }.answer.accepted()?;
-        if run.next > run.stripes {
-            return Err(Refusal::of(RefusalKind::NotNext));
-        }
         Ok(Run(run))
     }
 
-    /// The run whose record was made before arrays could have fewer data disks than their width. Refuses 1, 2, 3, and
-    /// 10 where `next` is above `stripes`.
+    /// The run whose record was made before arrays could have fewer data disks than their width. Refuses 1, 2, 3; a
+    /// record whose `next` is above `stripes` can be read, and its steps and skips give 10.
     ///
     /// ```
     /// use cuzhaveli::{ffi::FullRun, Run};
@@ -49,8 +46,8 @@ impl Run {
         Run::resumed(unsafe { ffi::cuzhaveli_resume_full_run(old) })
     }
 
-    /// The run whose record was made before stripes could be skipped. Refuses 1, 13, 2, 3, and 10 where `next` is above
-    /// `stripes`.
+    /// The run whose record was made before stripes could be skipped. Refuses 1, 13, 2, 3; a record whose `next` is
+    /// above `stripes` can be read, and its steps and skips give 10.
     ///
     /// ```
     /// use cuzhaveli::{ffi, Run};
@@ -150,7 +147,7 @@ impl Run {
         self.0.skipped
     }
 
-    /// Whether all stripes have been passed.
+    /// Whether all stripes have been passed: `next` is the number of stripes.
     ///
     /// ```
     /// assert!(cuzhaveli::Shape::new(3, 3, 1)?.open_run(1, 0)?.is_over());

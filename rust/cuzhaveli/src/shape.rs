@@ -320,15 +320,16 @@ impl Shape {
         opened.answer.accepted().map(|()| Run::new(opened.run))
     }
 
-    /// A run's record from its numbers, as kept in a file. Refuses 3, and 10 where `skipped` is above `next` or `next`
-    /// above `stripes`.
+    /// A run's record from its numbers, as kept in a file. Refuses 3, and 10 where `skipped` is above `next`; a record
+    /// whose `next` is above `stripes` can be read, and its steps and skips give 10.
     ///
     /// ```
     /// let shape = cuzhaveli::Shape::new(5, 5, 1)?;
     /// let run = shape.resume_run(1, 196, 100, 40)?;
     /// assert_eq!(run.cells_read(), 60 * 19);
     /// assert_eq!(shape.resume_run(1, 196, 100, 101).unwrap_err().number(), 10);
-    /// assert_eq!(shape.resume_run(1, 196, 197, 40).unwrap_err().number(), 10);
+    /// let mut past = shape.resume_run(1, 196, 197, 40)?;
+    /// assert_eq!(past.skip(197).unwrap_err().number(), 10);
     /// # Ok::<(), cuzhaveli::Refusal>(())
     /// ```
     pub fn resume_run(

@@ -283,7 +283,12 @@ fn records_of_other_software_are_tested() {
     let shape = ffi::Shape { width: 5, disks: 4, cell_size: 512 };
     let disks = DisksRun { shape, lost: 1, stripes: 9, next: 9 };
     assert!(Run::resume_disks(disks).unwrap().is_over());
-    assert_eq!(number(Run::resume_disks(DisksRun { next: 10, ..disks })), 10);
+    let mut past = Run::resume_disks(DisksRun { next: 10, ..disks }).unwrap(); // as the library reads it
+    assert_eq!(
+        (past.is_over(), past.cells_read()),
+        (false, 10 * past.shape().plan(1).unwrap().reads() as u64)
+    );
+    assert_eq!(number(past.skip(10)), 10);
     assert_eq!(number(Run::resume_disks(DisksRun { lost: 6, ..disks })), 3);
     let few = ffi::Shape { disks: 1, ..shape };
     assert_eq!(number(Run::resume_disks(DisksRun { shape: few, ..disks })), 13);
@@ -291,7 +296,11 @@ fn records_of_other_software_are_tested() {
     assert!(Run::resume_full(full).unwrap().is_over());
     assert_eq!(number(Run::resume_full(FullRun { width: 9, ..full })), 1);
     assert_eq!(number(Run::resume_full(FullRun { size: 0, ..full })), 2);
-    assert_eq!(number(Run::resume_full(FullRun { next: u32::MAX, ..full })), 10);
+    let mut past = Run::resume_full(FullRun { next: u32::MAX, ..full }).unwrap();
+    let (stripe, mut column) =
+        (vec![7; past.shape().stripe_len()], vec![9; past.shape().column_len()]);
+    assert_eq!(number(past.step(u32::MAX.into(), &stripe, &mut column)), 10);
+    assert_eq!((past.next(), column), (u32::MAX, vec![9; past.shape().column_len()]));
 }
 
 #[test]

@@ -1,4 +1,4 @@
-//! The command `cuzhaveli`: images of disks, encoded, checked, rebuilt with the fewest reads.
+//! The command `cuzhaveli`: images of disks, encoded, checked, rebuilt with few reads, in a full array the fewest.
 //!
 //! All coding is done by the proved library; this program moves bytes between files and memory, and
 //! says what it read. docs/cuzhaveli.1 is its manual.

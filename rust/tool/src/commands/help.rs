@@ -31,8 +31,7 @@ fn text(command: &Command) -> String {
 
 fn run(given: &Given) -> Result<(), Fault> {
     let Some(name) = given.operands.first() else {
-        let about =
-            "cuzhaveli: images of disks, encoded, checked, rebuilt with the fewest reads\n\n";
+        let about = "cuzhaveli: images of disks, encoded, checked, rebuilt with few reads, in a full array the fewest\n\n";
         return say::bytes(format!("{about}{}{NOTES}", usage()).as_bytes());
     };
     match COMMANDS.iter().find(|command| name == command.name) {

@@ -43,6 +43,14 @@ pub fn any_disks(width: usize, disks: usize) -> Vec<usize> {
     numbers
 }
 
+/// Every such width with such numbers of data disks and of a disk.
+pub fn any_losses() -> impl Iterator<Item = (usize, usize, usize)> {
+    let arrays = |width| any_data_disks(width).into_iter().map(move |disks| (width, disks));
+    let losses =
+        |(width, disks)| any_disks(width, disks).into_iter().map(move |lost| (width, disks, lost));
+    any_widths().into_iter().flat_map(arrays).flat_map(losses)
+}
+
 /// Disk numbers of which an accepted k takes three: 0, P, Q, and then three that are over k + 1.
 pub fn few_disks(width: usize, disks: usize) -> [usize; 6] {
     let over = disks.wrapping_add(2);

@@ -21,12 +21,8 @@ pub fn run(setting: &mut Setting, group: &mut Group) {
     for loss in Loss::full().iter().filter(|loss| loss.disk < loss.k) {
         nobody_quieter(group, &mut setting.random, loss);
     }
-    for width in numbers::any_widths() {
-        for disks in numbers::any_data_disks(width) {
-            for lost in numbers::any_disks(width, disks) {
-                same_plan(group, width, disks, lost);
-            }
-        }
+    for (width, disks, lost) in numbers::any_losses() {
+        same_plan(group, width, disks, lost);
     }
 }
 

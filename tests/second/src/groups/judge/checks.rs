@@ -5,18 +5,15 @@ use super::model::{self, Numbers};
 use crate::harness::answer::ACCEPTED;
 use crate::harness::model::{bytes_of, full_disk, Step};
 use crate::harness::plans::{damaged, Loss};
-use crate::harness::{numbers, Group, Lent, Random, Setting};
+use crate::harness::{numbers, Group, Lent, Random, Seen, Setting};
 
 /// Rounds for each lost disk of each array; a round judges two plans.
 const ROUNDS: usize = 300;
 const PART_ROUNDS: usize = 25;
 
-/// How often the judge gave each number.
-type Seen = [u64; 256];
-
 pub fn run(setting: &mut Setting, group: &mut Group) {
     let random = &mut setting.random;
-    let mut seen = [0; 256];
+    let mut seen = Seen::new("judge_plan");
     for loss in Loss::some() {
         random_plans(group, random, &loss, &mut seen);
         refusal_at_every_place(group, random, &loss, &mut seen);
@@ -25,10 +22,7 @@ pub fn run(setting: &mut Setting, group: &mut Group) {
     }
     every_plan_of_width_3(group, random, &mut seen);
     refused_numbers(group, random, &mut seen);
-    for number in [0, 1, 3, 5, 6, 7, 8, 9, 13] {
-        let often = seen[number] >= 100;
-        group.same(|| format!("judge gave {number} at least 100 times"), true, often);
-    }
+    seen.each_came(group, &[0, 1, 3, 5, 6, 7, 8, 9, 13]);
 }
 
 /// Compares the answer, and the plan's bytes and all memory around them.
@@ -46,7 +40,7 @@ fn same_word(
     let call = || format!("judge_plan({width}, {disks}, {lost}, {plan:?})");
     group.same(call, expected, got);
     group.same_bytes(|| format!("{}, memory", call()), before.whole(), lent.whole());
-    seen[got.answer.refusal as usize] += 1;
+    seen.note(got.answer);
 }
 
 /// The full array's answer on the same plan is the same; only the reads may differ.

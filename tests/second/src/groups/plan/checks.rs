@@ -13,12 +13,8 @@ pub fn run(_: &mut Setting, group: &mut Group) {
             accepted(group, p, k, lost);
         }
     }
-    for width in numbers::any_widths() {
-        for disks in numbers::any_data_disks(width) {
-            for lost in numbers::any_disks(width, disks) {
-                same_plan(group, width, disks, lost);
-            }
-        }
+    for (width, disks, lost) in numbers::any_losses() {
+        same_plan(group, width, disks, lost);
     }
 }
 

@@ -8,17 +8,14 @@ use crate::groups::judge::calls::judge_plan;
 use crate::harness::answer::ACCEPTED;
 use crate::harness::model::{bytes_of, our_steps, steps_of, Step};
 use crate::harness::plans::{damaged as damaged_plan, Loss};
-use crate::harness::{arrays, numbers, small_stack, Group, Lent, Random, Setting};
+use crate::harness::{arrays, numbers, small_stack, Group, Lent, Random, Seen, Setting};
 
 /// Damaged texts in all.
 const DAMAGED: usize = 100_000;
 
-/// How often a text gave each refusal.
-type Seen = [u64; 256];
-
 pub fn run(setting: &mut Setting, group: &mut Group) {
     let random = &mut setting.random;
-    let mut seen = [0; 256];
+    let mut seen = Seen::new("a text");
     for (p, k) in arrays::every() {
         for lost in 0..k + 2 {
             round_trip(group, random, (p, k, lost), &our_steps(p, k, lost));
@@ -39,10 +36,7 @@ pub fn run(setting: &mut Setting, group: &mut Group) {
         same_texts(group, random, numbers_of(loss), &text, ROOM, &mut seen);
     }
     refused_numbers(group, random, &mut seen);
-    for number in [0, 1, 3, 5, 6, 7, 8, 9, 13, 22] {
-        let often = seen[number] >= 100;
-        group.same(|| format!("texts gave {number} at least 100 times"), true, often);
-    }
+    seen.each_came(group, &[0, 1, 3, 5, 6, 7, 8, 9, 13, 22]);
 }
 
 fn numbers_of(loss: &Loss) -> Numbers {
@@ -69,8 +63,8 @@ fn same_texts(
     group.same(|| call("plain_text"), model::plain_text(of, text, wanted.part()), got);
     group.same_bytes(|| call("plain_text, out"), wanted.whole(), out.whole());
     group.same_bytes(|| call("text, memory"), before.whole(), lent.whole());
-    seen[judged.answer.refusal as usize] += 1;
-    seen[got.answer.refusal as usize] += 1;
+    seen.note(judged.answer);
+    seen.note(got.answer);
     (got.answer == ACCEPTED).then(|| out.part()[..got.length].to_vec())
 }
 

@@ -6,27 +6,21 @@ use crate::groups::judge::calls::judge_plan;
 use crate::groups::read_list::calls::read_list;
 use crate::harness::model::{bytes_of, our_steps};
 use crate::harness::plans::{damaged, Loss};
-use crate::harness::{numbers, Group, Lent, Random, Setting};
+use crate::harness::{numbers, Group, Lent, Random, Seen, Setting};
 
 /// Rounds for each lost disk; a round lists an accepted plan and a damaged one.
 const ROUNDS: usize = 20;
 
-/// How often the call gave each number.
-type Seen = [u64; 256];
-
 pub fn run(setting: &mut Setting, group: &mut Group) {
     let random = &mut setting.random;
-    let mut seen = [0; 256];
+    let mut seen = Seen::new("plan_list");
     for loss in Loss::some() {
         random_plans(group, random, &loss, &mut seen);
         ours(group, (loss.p, loss.k, loss.disk));
         wrong_lengths(group, random, &loss, &mut seen);
     }
     refused_numbers(group, random, &mut seen);
-    for number in [0, 1, 3, 5, 6, 7, 8, 9, 13] {
-        let often = seen[number] >= 100;
-        group.same(|| format!("plan_list gave {number} at least 100 times"), true, often);
-    }
+    seen.each_came(group, &[0, 1, 3, 5, 6, 7, 8, 9, 13]);
 }
 
 /// How many cells of each disk an accepted plan reads, by the library's list.
@@ -60,7 +54,7 @@ fn same_list(
         let ones = list.part().iter().filter(|mark| **mark == 1).count() as u32;
         group.same(|| format!("{}, ones", call()), judge_plan(p, k, lost, plan).reads, ones);
     }
-    seen[got.refusal as usize] += 1;
+    seen.note(got);
 }
 
 fn random_plans(group: &mut Group, random: &mut Random, loss: &Loss, seen: &mut Seen) {

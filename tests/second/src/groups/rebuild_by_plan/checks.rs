@@ -12,7 +12,7 @@ use crate::harness::model::{
 };
 use crate::harness::plans::{accepted_order, damaged, Loss};
 use crate::harness::stripes::clean_stripe;
-use crate::harness::{numbers, small_stack, Group, Lent, Random, Setting, Shape};
+use crate::harness::{numbers, small_stack, Group, Lent, Random, Seen, Setting, Shape};
 
 /// Rounds for each lost disk.
 const ROUNDS: usize = 4;
@@ -20,20 +20,14 @@ const ROUNDS: usize = 4;
 /// Cell sizes that the rounds go through.
 const SIZES: [usize; 4] = [1, 7, 16, 65];
 
-/// How often the call gave each number, and how often it was sent a plan through an extra cell.
-struct Seen {
-    answers: [u64; 256],
-    extras: u64,
-}
-
 pub fn run(setting: &mut Setting, group: &mut Group) {
     let random = &mut setting.random;
-    let mut seen = Seen { answers: [0; 256], extras: 0 };
+    let (mut seen, mut by_extra) = (Seen::new("rebuild_by_plan"), 0);
     for loss in Loss::some() {
         for round in 0..ROUNDS {
             let shape = Shape::new(loss.p, loss.k, SIZES[round % SIZES.len()]);
             let steps = loss.accepted(random);
-            seen.extras += u64::from(steps.iter().any(|step| loss.choice_of(step).extra));
+            by_extra += usize::from(steps.iter().any(|step| loss.choice_of(step).extra));
             accepted(group, random, shape, &loss, &steps);
             for plan in [bytes_of(&steps), damaged(&loss, &steps, random)] {
                 noise(group, random, shape, loss.disk, &plan, &mut seen);
@@ -43,11 +37,8 @@ pub fn run(setting: &mut Setting, group: &mut Group) {
         wrong_lengths(group, random, &loss, &mut seen);
     }
     refused_numbers(group, random, &mut seen);
-    for number in [0, 1, 2, 3, 5, 6, 7, 8, 9, 13] {
-        let often = seen.answers[number] >= 100;
-        group.same(|| format!("rebuild_by_plan gave {number} at least 100 times"), true, often);
-    }
-    group.same(|| "100 plans through an extra cell".to_string(), true, seen.extras >= 100);
+    seen.each_came(group, &[0, 1, 2, 3, 5, 6, 7, 8, 9, 13]);
+    group.same(|| "100 plans through an extra cell".to_string(), true, by_extra >= 100);
     little_stack(group, random);
 }
 
@@ -106,7 +97,7 @@ fn with_lengths(
     let mut plan = Lent::of(plan, random);
     let (mut stripe, mut column) = (Lent::noise(stripe, random), Lent::noise(column, random));
     let got = same_rebuild(group, shape, lost, &mut plan, &mut stripe, &mut column);
-    seen.answers[got.refusal as usize] += 1;
+    seen.note(got);
 }
 
 // Accepted plans.

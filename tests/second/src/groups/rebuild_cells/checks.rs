@@ -11,17 +11,14 @@ use crate::harness::model::{
     cell_place, column_length, disk_place, encode, full_shape, stripe_length,
 };
 use crate::harness::stripes::clean_stripe;
-use crate::harness::{arrays, numbers, small_stack, Group, Lent, Random, Setting, Shape};
+use crate::harness::{arrays, numbers, small_stack, Group, Lent, Random, Seen, Setting, Shape};
 
 /// Random patterns for each array.
 const PATTERNS: usize = 40;
 
-/// How often the call gave each number.
-type Seen = [u64; 256];
-
 pub fn run(setting: &mut Setting, group: &mut Group) {
     let random = &mut setting.random;
-    let mut seen = [0; 256];
+    let mut seen = Seen::new("rebuild_cells");
     every_pattern(group, random, Shape::new(3, 2, 1), &mut seen);
     every_pattern(group, random, Shape::full(3, 1), &mut seen);
     for (p, k) in arrays::every() {
@@ -37,10 +34,7 @@ pub fn run(setting: &mut Setting, group: &mut Group) {
         refused_lengths(group, random, Shape::new(p, k, 2), &mut seen);
     }
     refused_numbers(group, random, &mut seen);
-    for number in [0, 1, 2, 5, 13, 23] {
-        let often = seen[number] >= 100;
-        group.same(|| format!("rebuild_cells gave {number} at least 100 times"), true, often);
-    }
+    seen.each_came(group, &[0, 1, 2, 5, 13, 23]);
     little_stack(group, random);
 }
 
@@ -73,7 +67,7 @@ fn on_noise(group: &mut Group, random: &mut Random, shape: Shape, marks: &[u8], 
     let mut stripe = Lent::noise(stripe_length(shape), random);
     let mut again = stripe.clone();
     let got = same_mend(group, shape, &mut lent, &mut stripe);
-    seen[got.refusal as usize] += 1;
+    seen.note(got);
     if got == ACCEPTED {
         scramble(random, shape, marks, &mut again);
         rebuild_cells(shape, marks, again.part());
@@ -157,7 +151,7 @@ fn with_lengths(
     let mut marks = Lent::noise(marks, random);
     let mut stripe = Lent::noise(stripe, random);
     let got = same_mend(group, shape, &mut marks, &mut stripe);
-    seen[got.refusal as usize] += 1;
+    seen.note(got);
 }
 
 /// One length wrong at a time, then both.
