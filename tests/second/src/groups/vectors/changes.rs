@@ -23,7 +23,7 @@ pub fn cells(group: &mut Group, random: &mut Random, line: &Line) {
     let answer = Answer::of(if determined { 0 } else { 23 });
     let got = rebuild_cells(shape, &marks, stripe.part());
     group.same(|| line.name("rebuild_cells"), answer, got);
-    group.same_bytes(|| line.name("rebuild_cells"), &wanted, stripe.part());
+    group.same_stripe(|| line.name("rebuild_cells"), shape, &wanted, stripe.part());
 }
 
 /// A cell and its parity cells are as the line says, all others as they were.
@@ -37,7 +37,7 @@ pub fn update(group: &mut Group, random: &mut Random, line: &Line) {
     let mut stripe = Lent::of(&line.stripe, random);
     let got = update_cell(line.shape, *cell, stripe.part(), new);
     group.same(|| line.name("update_cell"), ACCEPTED, got);
-    group.same_bytes(|| line.name("update_cell"), &wanted, stripe.part());
+    group.same_stripe(|| line.name("update_cell"), line.shape, &wanted, stripe.part());
 }
 
 pub fn scrub(group: &mut Group, random: &mut Random, line: &Line) {

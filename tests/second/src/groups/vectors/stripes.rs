@@ -29,7 +29,7 @@ pub fn encoded(group: &mut Group, random: &mut Random, line: &Line) {
         let mut lent = Lent::of(&line.stripe, random);
         random.fill(&mut lent.part()[shape.data_length()..]);
         group.same(|| line.name(name), ACCEPTED, call(shape, lent.part()));
-        group.same_bytes(|| line.name(name), &line.stripe, lent.part());
+        group.same_stripe(|| line.name(name), shape, &line.stripe, lent.part());
     }
     for (name, call) in CHECKS {
         let clean = Checked { answer: ACCEPTED, clean: YES };
@@ -68,7 +68,7 @@ fn rebuilt(
     let mut column = Lent::noise(column_length(shape), random);
     let got = call(shape, disk, stripe.part(), column.part());
     group.same(|| line.name(name), ACCEPTED, got);
-    group.same_bytes(|| line.name(name), wanted, column.part());
+    group.same_column(|| line.name(name), shape, wanted, column.part());
 }
 
 /// Two lost disks come back, in either order.
@@ -80,6 +80,6 @@ pub fn two(group: &mut Group, random: &mut Random, line: &Line) {
         random.fill(&mut stripe.part()[disk_place(shape, second)]);
         let got = rebuild_two(shape, first, second, stripe.part());
         group.same(|| line.name("rebuild_two"), ACCEPTED, got);
-        group.same_bytes(|| line.name("rebuild_two"), &line.stripe, stripe.part());
+        group.same_stripe(|| line.name("rebuild_two"), shape, &line.stripe, stripe.part());
     }
 }
