@@ -9,8 +9,10 @@
 #   make demo                    shows the command at work on a film that it makes: encodes, loses disks, rebuilds, plays
 #   make examples                builds and runs examples/ from a scratch install, and compares their output
 #   make selftest                the Python package's own test of the shared library
-#   make install PREFIX= DESTDIR=   header, archives, shared library, cuzhaveli.pc, command and manual (PREFIX is /usr/local if
-#                                   not given)
+#   make conformance IMPL=FILE   compares your code, a .c, .a or .so that offers functions of conformance/yours.h, with the library;
+#                                IMPL_CFLAGS= IMPL_LIBS= what it needs, OPTIONS= options of the runner (docs/TEST-YOURS.md)
+#   make install PREFIX= DESTDIR=   header, archives, shared library, cuzhaveli.pc, command and manual, and in share/cuzhaveli the
+#                                vectors and the conformance kit (PREFIX is /usr/local if not given)
 #   make uninstall PREFIX= DESTDIR=
 #   make dist                    build/cuzhaveli-VERSION-x86_64-linux.tar.gz, after .ci/run
 #   make clean                   removes build/
@@ -19,6 +21,10 @@ VERSION = 0.1.0
 PREFIX = /usr/local
 DESTDIR =
 LIB =
+IMPL =
+IMPL_CFLAGS =
+IMPL_LIBS =
+OPTIONS =
 CFLAGS = -O2
 PKG_CONFIG = pkg-config
 comma = ,
@@ -31,7 +37,7 @@ scratch = $(CURDIR)/build/scratch
 warnings = -std=c99 -Wall -Wextra -pedantic -Werror
 dist = cuzhaveli-$(VERSION)-x86_64-linux
 
-.PHONY: all demo examples selftest install uninstall dist clean FORCE
+.PHONY: all demo examples conformance selftest install uninstall dist clean FORCE
 .DELETE_ON_ERROR:
 
 all: $(archives) $(shared) $(tool)
@@ -79,6 +85,10 @@ demo: build/cuzhaveli
 	@rm -rf build/demo
 	@examples/demo build/cuzhaveli build/demo
 
+conformance: build/libcuzhaveli.a
+	@[ -n "$(IMPL)" ] || { echo "make: say which code: make conformance IMPL=mine.c (or mine.a, mine.so); docs/TEST-YOURS.md tells the way" >&2; exit 2; }
+	@CC="$(CC)" CFLAGS="$(CFLAGS)" IMPL_CFLAGS="$(IMPL_CFLAGS)" IMPL_LIBS="$(IMPL_LIBS)" conformance/run $(IMPL) $(OPTIONS)
+
 install: $(archives) $(shared) $(tool)
 	@install -d "$(DESTDIR)$(PREFIX)/include" "$(DESTDIR)$(PREFIX)/lib/pkgconfig"
 	@install -m 644 include/cuzhaveli.h "$(DESTDIR)$(PREFIX)/include/"
@@ -90,10 +100,13 @@ ifneq ($(tool),)
 	@install -m 644 docs/cuzhaveli.1 "$(DESTDIR)$(PREFIX)/share/man/man1/"
 endif
 	@sed 's|@PREFIX@|$(PREFIX)|; s|@VERSION@|$(VERSION)|' cuzhaveli.pc.in >"$(DESTDIR)$(PREFIX)/lib/pkgconfig/cuzhaveli.pc"
-	@echo "make: installed header, archives, shared library, cuzhaveli.pc$(if $(tool),$(comma) command and manual) under $(DESTDIR)$(PREFIX)"
+	@install -d "$(DESTDIR)$(PREFIX)/share/cuzhaveli"
+	@cp -r conformance vectors "$(DESTDIR)$(PREFIX)/share/cuzhaveli/"
+	@echo "make: installed header, archives, shared library, vectors, conformance kit, cuzhaveli.pc$(if $(tool),$(comma) command and manual) under $(DESTDIR)$(PREFIX)"
 
 uninstall:
 	rm -f "$(DESTDIR)$(PREFIX)/include/cuzhaveli.h" "$(DESTDIR)$(PREFIX)/lib/libcuzhaveli.a" "$(DESTDIR)$(PREFIX)/lib/libcuzhaveli_plans.a" "$(DESTDIR)$(PREFIX)/lib/libcuzhaveli_fast.a" "$(DESTDIR)$(PREFIX)/lib/libcuzhaveli.so" "$(DESTDIR)$(PREFIX)/lib/libcuzhaveli.so.1" "$(DESTDIR)$(PREFIX)/lib/pkgconfig/cuzhaveli.pc" "$(DESTDIR)$(PREFIX)/bin/cuzhaveli" "$(DESTDIR)$(PREFIX)/share/man/man1/cuzhaveli.1"
+	rm -rf "$(DESTDIR)$(PREFIX)/share/cuzhaveli/conformance" "$(DESTDIR)$(PREFIX)/share/cuzhaveli/vectors"
 
 examples: $(archives) $(shared)
 	@rm -rf "$(scratch)" && mkdir -p "$(scratch)"
