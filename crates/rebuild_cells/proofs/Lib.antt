@@ -7,3 +7,5 @@ pub mod NumberedLaws
 pub mod MarkLoops
 pub mod WordLoops
 pub mod RowLoops
+pub mod RunLaws
+pub mod WholeLaws

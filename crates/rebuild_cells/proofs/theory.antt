@@ -6,3 +6,6 @@ pub mod LitStripes
 pub mod Exact
 pub mod Marked
 pub mod WholeDisks
+pub mod SingleSets
+pub mod OneDisk
+pub mod TwoRuns

@@ -3,6 +3,7 @@
 mod equations;
 mod mends;
 mod reduction;
+mod whole_disks;
 
 ghost use mathlib.Core.Path.{_≡_};
 ghost use mathlib.Core.Bool.{not};

@@ -14,6 +14,7 @@ ghost use Rattle.stripe_cells.specs.Toggled.{toggledAll};
 ghost use Rattle.rebuild_cells.specs.Listed.{ListedCells};
 use super::equations;
 use super::reduction;
+use super::whole_disks;
 
 // Toggles the marks of the cells of a set if the word names it.
 fn toggle_if(width: usize, disks: usize, word: u64, set: usize, marks: &mut [u8])
@@ -128,6 +129,17 @@ fn mend_list(width: usize, disks: usize, size: usize, cells: &[usize], stripe: &
     false
 }
 
+// The same, whole disks by their rebuild.
+fn mend_listed(width: usize, disks: usize, size: usize, cells: &[usize], stripe: &mut [u8]) -> bool
+    requires { ⌜ Sized width disks size (now stripe) × ListedCells width disks (now cells) × (length (now cells) ≤ 2 * width) ⌝ }
+    ensures { λ r. ⌜ (r ≡ mendable width disks (now (cells .entry))) × (now (stripe .exit) ≡ pick (mendable width disks (now (cells .entry))) (mendedCells width disks size (now (cells .entry)) (now (stripe .entry))) (now (stripe .entry))) ⌝ }
+{
+    if whole_disks::mend_whole(width, disks, size, cells, stripe) {
+        return true;
+    }
+    mend_list(width, disks, size, cells, stripe)
+}
+
 // Mends the cells whose marks are not 0, if the others determine them; else the stripe stays as it
 // was.
 pub fn mend(width: usize, disks: usize, size: usize, missing: &[u8], stripe: &mut [u8]) -> bool
@@ -140,5 +152,5 @@ pub fn mend(width: usize, disks: usize, size: usize, missing: &[u8], stripe: &mu
     }
     let mut cells = no_cells();
     equations::list_missing(missing, &mut cells[..n]);
-    mend_list(width, disks, size, &cells[..n], stripe)
+    mend_listed(width, disks, size, &cells[..n], stripe)
 }

@@ -23,7 +23,7 @@ use Rattle.rebuild_cells.proofs.theory.MendLaws.{given, cells-reduce, n
 use Rattle.rebuild_cells.proofs.theory.LitStripes.{litCell, lit, lit-stripe, lit-cell, lit-clean}
 
 -- a list without repetitions has each of its numbers at one place
-at-once : (xs : List ℕ) → distinct xs ≡ true → (i j : ℕ) → i < length xs → j < length xs → getD xs i 0 ≡ getD xs j 0 → i ≡ j
+pub at-once : (xs : List ℕ) → distinct xs ≡ true → (i j : ℕ) → i < length xs → j < length xs → getD xs i 0 ≡ getD xs j 0 → i ≡ j
 at-once [] d i j hi hj e = absurd (omega arith)
 at-once (x ∷ xs) d zero zero hi hj e = refl
 at-once (x ∷ xs) d zero (suc j) hi hj e = clash (isIn x xs) (ap (λ (y : ℕ). isIn y xs) e ∙ at-in j xs (omega arith)) (not-true (isIn x xs) (and-l (not (isIn x xs)) (distinct xs) d))

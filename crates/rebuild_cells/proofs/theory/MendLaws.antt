@@ -159,7 +159,7 @@ pub none-of : (cs : List ℕ) (y : ℕ) → isIn y cs ≡ false → (c : ℕ) �
 none-of cs y h c l e = true≢false (sym (at-in c cs l) ∙ ap (λ (z : ℕ). isIn z cs) (sym e) ∙ h)
 
 -- and one that is none of it is not in it
-off-list : (cs : List ℕ) (y : ℕ) → ((c : ℕ) → c < length cs → y ≡ getD cs c 0 → ⊥) → isIn y cs ≡ false
+pub off-list : (cs : List ℕ) (y : ℕ) → ((c : ℕ) → c < length cs → y ≡ getD cs c 0 → ⊥) → isIn y cs ≡ false
 off-list [] y h = refl
 off-list (c ∷ cs) y h = ap₂ _||_ (ne-eqb y c (h 0 (omega arith))) (off-list cs y (λ i l. h (suc i) (omega arith)))
 

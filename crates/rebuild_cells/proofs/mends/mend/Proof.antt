@@ -7,9 +7,9 @@ use native.Mathlib.Omega.{arith}
 use lib.ListN.{length, take, drop, length-append}
 use lib.Seq.{take-at, length-take-le}
 use borrow.Author.Needs.{needs}
-use Rattle.mathematics.specs.Lists.{allBelow}
+use Rattle.mathematics.specs.Lists.{allBelow, distinct}
 use Rattle.rebuild_cells.specs.theory.Mending.{missingCells, mendedCells}
-use Rattle.rebuild_cells.proofs.theory.Marked.{missing-below}
+use Rattle.rebuild_cells.proofs.theory.Marked.{missing-below, missing-distinct}
 use Rattle.rebuild_cells.specs.Listed.{ListedCells}
 use Rattle.rebuild_cells.proofs.NamedLaws.{too-many, as-listed}
 use Rattle.rebuild_cells.proofs.mends.mend.Statement.{statement}
@@ -53,10 +53,11 @@ listed l =
     record {
       few = omega (arith, counted l, l .before .before .before .if1 .left, o .pre .0 .array .widest);
       below = subst (λ (xs : List ℕ). allBelow (a .width * (a .disks + 2)) xs ≡ true) (sym (made l)) (missing-below (a .width * (a .disks + 2)) (a .missing .now) (o .pre .1));
+      once = subst (λ (xs : List ℕ). distinct xs ≡ true) (sym (made l)) (missing-distinct (a .missing .now));
     }
 
-mend-list-requires : tie.Need-mend-list-requires
-mend-list-requires c κs =
+mend-listed-requires : tie.Need-mend-listed-requires
+mend-listed-requires c κs =
     let l = c .before .before .before in
     let o = l .before .before .before .before .before .before .before in
     (o .pre .0, listed l, omega (arith, counted l, l .before .before .before .if1 .left))
@@ -66,7 +67,7 @@ returns-2 c =
     let v = c .before .before in
     let l = v .before .before .before .before in
     let a = l .before .before .before .before .before .before .before .args in
-    as-listed (a .width) (a .disks) (a .size) (cells l) (missingCells (a .missing .now)) (a .stripe .now) (v .mend-list .last .1 .1 .1 .1 .0) (v .mend-list .result) (made l) (v .mend-list .ensures)
+    as-listed (a .width) (a .disks) (a .size) (cells l) (missingCells (a .missing .now)) (a .stripe .now) (v .mend-listed .last .1 .1 .1 .1 .0) (v .mend-listed .result) (made l) (v .mend-listed .ensures)
 
 pub mend-spec : {M : Type 1} → statement M
 mend-spec =
@@ -81,6 +82,6 @@ mend-spec =
     (λ c κs. lent (c .before) ∙ c .before .before .before .count-missing .ensures)
     array-share-prefix-cells
     (λ c. sym (counted (c .before .before)))
-    mend-list-requires
+    mend-listed-requires
     (λ c. search needs)
     returns-2)
