@@ -111,7 +111,7 @@ def memory(setting):
     if not can_trace(setting):
         return "left out: no tracing on this machine"
     most = 0
-    for p, k, s, group, stripes in [(31, 31, 4096, [], 17), (31, 31, 4096, ["-g", 40], 9), (31, 2, 4096, [], 70), (31, 31, 1, [], 33_000),
+    for p, k, s, group, stripes in [(31, 31, 4096, [], 49), (31, 31, 4096, ["-g", 40], 9), (31, 2, 4096, [], 70), (31, 31, 1, [], 33_000),
                                     (31, 2, 1, ["-u", 1, "-g", 65_536], 20_000)]:
         folder, source = setting.new(), setting.new()
         source.write_bytes((noise(1 << 20) * (1 + (stripes * k * p * s >> 20)))[:stripes * k * p * s])

@@ -67,7 +67,7 @@ impl Blocks {
         let write = |(unit, block): (usize, &mut [u8]), (): &mut ()| {
             write_block(&set, geometry, first, unit, cells, block);
         };
-        parallel::each(2, units, || (), write);
+        parallel::each(&mut [(), ()], units, write);
         self.known.fill(true);
     }
 }

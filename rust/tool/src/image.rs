@@ -9,8 +9,8 @@ use crate::geometry::LABEL_BYTES;
 use crate::label::Block;
 use crate::sys;
 
-/// The bytes that are read past the page cache at once.
-pub const BOUNCE: usize = 512 << 10;
+/// The bytes that are read at once: few enough to be in the processor's cache for their sums.
+pub const BOUNCE: usize = 256 << 10;
 
 /// Memory for reads past the page cache, which want their place and length in multiples of 4,096.
 #[derive(Default)]

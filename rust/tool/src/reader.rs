@@ -77,7 +77,8 @@ pub struct Reader<'a> {
     holes: Vec<Hole>,
     bad: Vec<Bad>,
     stripe: Vec<u8>,
-    bounce: Bounce,
+    /// One for each thread, at least one.
+    bounces: Vec<Bounce>,
     pace: Pace,
     /// Bytes read so far, of cells and checksum blocks.
     pub read: u64,
@@ -98,7 +99,7 @@ impl<'a> Reader<'a> {
             holes: Vec::new(),
             bad: Vec::new(),
             stripe: vec![0; geometry.shape.stripe_len()],
-            bounce: Bounce::default(),
+            bounces: (0..set.threads()).map(|_| Bounce::default()).collect(),
             pace,
             read: 0,
             mended: 0,
@@ -187,7 +188,7 @@ impl<'a> Reader<'a> {
         let len = self.geometry.block_len();
         let at = self.geometry.block_at(self.cells.batch.unit + units.start as u64);
         let mut bytes = vec![0; units.len() * len];
-        if image.read(&mut bytes, at, &mut self.bounce).is_err() {
+        if image.read(&mut bytes, at, &mut self.bounces[0]).is_err() {
             return;
         }
         self.count(bytes.len());
@@ -224,7 +225,7 @@ impl<'a> Reader<'a> {
         };
         let disks: Vec<usize> = set.present().collect();
         let read = disks.len() * all;
-        let mut bad = parallel::each(set.threads(), disks, Bounce::default, look).concat();
+        let mut bad = parallel::each(&mut self.bounces, disks, look).concat();
         bad.sort();
         self.count(read);
         bad
@@ -273,7 +274,14 @@ impl<'a> Reader<'a> {
             pieces.any(|(unit, row)| self.states[self.at(unit, one.disk, row)] == State::Unread)
         };
         let todo: Vec<Reading> = wanted.readings.iter().filter(unread).cloned().collect();
-        let read = rows::read(self.set, &mut self.cells, &self.blocks, &todo, &mut self.pace);
+        let read = rows::read(
+            self.set,
+            &mut self.cells,
+            &self.blocks,
+            &todo,
+            &mut self.bounces,
+            &mut self.pace,
+        );
         for (Row { disk, row }, verdict) in read {
             match verdict {
                 Ok(fits) => {
@@ -318,7 +326,7 @@ impl<'a> Reader<'a> {
         let at = self.geometry.cell_at(row, self.cells.batch.first + places.start as u64);
         let bytes = self.cells.cells_mut(disk, row, places);
         let len = bytes.len();
-        image.read(bytes, at, &mut self.bounce)?;
+        image.read(bytes, at, &mut self.bounces[0])?;
         self.count(len);
         Ok(())
     }

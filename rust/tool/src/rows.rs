@@ -6,7 +6,7 @@ use std::ops::Range;
 use crate::blocks::Blocks;
 use crate::cells::Cells;
 use crate::geometry::{Batch, Geometry};
-use crate::image::Bounce;
+use crate::image::{Bounce, BOUNCE};
 use crate::pace::Pace;
 use crate::parallel;
 use crate::set::Set;
@@ -42,21 +42,22 @@ pub fn read(
     cells: &mut Cells,
     blocks: &Blocks,
     readings: &[Reading],
+    bounces: &mut [Bounce],
     pace: &mut Pace,
 ) -> Vec<(Row, Verdict)> {
     let job = Job { set, geometry: set.label.geometry, batch: cells.batch, blocks };
     let stretches = job.stretches(cells, readings);
     let bytes: usize = stretches.iter().map(|(.., bytes)| bytes.len()).sum();
     if pace.is_limited() || bytes < LEAST {
-        let mut bounce = Bounce::default();
+        let bounce = &mut bounces[0];
         let paced = |stretch: Stretch| {
             pace.spend(stretch.2.len() as u64);
-            job.read(stretch, &mut bounce)
+            job.read(stretch, bounce)
         };
         return stretches.into_iter().flat_map(paced).collect();
     }
     let work = |stretch: Stretch, bounce: &mut Bounce| job.read(stretch, bounce);
-    let done = parallel::each(set.threads(), stretches, Bounce::default, work);
+    let done = parallel::each(bounces, stretches, work);
     let mut done: Vec<(Row, Verdict)> = done.into_iter().flatten().collect();
     done.sort_by_key(|(row, _)| *row);
     done
@@ -70,7 +71,7 @@ impl Job<'_> {
     /// The stretches of the readings, none longer than is read at once.
     fn stretches<'b>(&self, cells: &'b mut Cells, readings: &[Reading]) -> Vec<Stretch<'b>> {
         let (width, row_len) = (self.geometry.shape.width(), self.row_len());
-        let most = (self.set.read_bytes() / row_len.max(1)).max(1);
+        let most = (BOUNCE / row_len.max(1)).max(1);
         let (mut rest, mut at, mut done) = (cells.rows_mut(), 0, Vec::new());
         for Reading { disk, rows } in readings {
             for rows in self.geometry.stretches(self.batch, rows.clone()) {

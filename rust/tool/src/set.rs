@@ -4,7 +4,7 @@ use std::io::ErrorKind;
 use std::path::{Path, PathBuf};
 
 use crate::fault::Fault;
-use crate::image::{Image, BOUNCE};
+use crate::image::Image;
 use crate::label::{hex, Found, Label};
 
 /// The most disks of a set: 31 with film, P and Q.
@@ -216,19 +216,9 @@ impl Set {
     /// ahead.
     pub fn threads(&self) -> usize {
         if self.direct {
-            8
+            4
         } else {
             2
-        }
-    }
-
-    /// The bytes that are read at once: as many as stay in the processor's cache for their sums, or
-    /// as a drive likes to be asked for.
-    pub fn read_bytes(&self) -> usize {
-        if self.direct {
-            BOUNCE
-        } else {
-            256 << 10
         }
     }
 

@@ -47,8 +47,8 @@ fn run(given: &Given) -> Result<(), Fault> {
     let begun = geometry.stripes - (first * geometry.unit).min(geometry.stripes);
     let mut progress = Progress::new("check".into(), Some(each * begun), given.flag("-q"));
     let mut said = Instant::now();
-    let read = examine(&set, first, pace, |found| {
-        tell_all(&set, &found, &mut count)?;
+    let read = examine(&set, first, pace, |mut found| {
+        tell_all(&set, &mut found, &mut count)?;
         progress.add(found.batch.count as u64 * each);
         if said.elapsed() >= SAID_EVERY {
             said = Instant::now();
@@ -83,7 +83,7 @@ fn tell_images(set: &Set) -> Result<(), Fault> {
 }
 
 /// Prints what was found in a batch.
-fn tell_all(set: &Set, found: &Findings, count: &mut Count) -> Result<(), Fault> {
+fn tell_all(set: &Set, found: &mut Findings, count: &mut Count) -> Result<(), Fault> {
     let geometry = set.label.geometry;
     let stripes = |unit: usize| geometry.stripes_of(found.batch.unit + unit as u64);
     for bad in found.reader.bad() {
