@@ -40,6 +40,13 @@ static void ended_within_call(void)
     _exit(finish_report());
 }
 
+/* What is being tried, on a terminal. */
+static void say_progress(const char *name)
+{
+    if (isatty(STDERR_FILENO))
+        fprintf(stderr, "\r%-48.48s\r", name ? name : "");
+}
+
 int main(int argc, char **argv)
 {
     if (!read_options(argc, argv))
@@ -55,7 +62,10 @@ int main(int argc, char **argv)
     }
     for (enum function function = 0; function < FUNCTIONS; function++)
         for (enum form form = 0; form < FORMS; form++)
-            if (is_offered(function, form) && is_wanted(function, form))
+            if (is_offered(function, form) && is_wanted(function, form)) {
+                say_progress(function_name(function, form));
                 SUBJECT[function](form);
+            }
+    say_progress(NULL);
     return finish_report();
 }

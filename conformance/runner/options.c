@@ -47,7 +47,7 @@ static bool take_value(const char *option, const char *value)
     return true;
 }
 
-/* False, with a word on standard error, if the words are no options. */
+/* False if the words are no options, which is said on standard error, or ask for help. */
 bool read_options(int argc, char **argv)
 {
     options.program = argv[0];
@@ -56,7 +56,10 @@ bool read_options(int argc, char **argv)
             options.tap = true;
         else if (strcmp(argv[i], "--fewest") == 0)
             options.fewest = true;
-        else if (i + 1 < argc && take_value(argv[i], argv[i + 1]))
+        else if (strcmp(argv[i], "--help") == 0) {
+            fputs(USAGE, stdout);
+            return false;
+        } else if (i + 1 < argc && take_value(argv[i], argv[i + 1]))
             i++;
         else {
             fprintf(stderr, "conformance: `%s` is no option, or its value is none\n%s", argv[i], USAGE);
