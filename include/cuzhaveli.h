@@ -12,7 +12,7 @@
  * Every call: tests its arguments first, in the order in which its comment lists the refusals, so a caller need
  * check none of them; answers a refusal number (CUZHAVELI_OK = 0) and a `place` (the step for refusals 6 to 9, else
  * 0); on a refusal writes nothing through its pointers, and gives every other field as 0 or false. It keeps no
- * state, allocates nothing, makes no system call, sets no errno, takes under 8 KiB of stack, and may run on several
+ * state, allocates nothing, makes no system call, sets no errno, takes under 12 KiB of stack, and may run on several
  * threads at once on memory apart.
  *
  * What is proved, for every argument, is in docs/TRUST.md. What a C caller owes, since no proof sees it:
