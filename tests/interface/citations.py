@@ -19,8 +19,8 @@ LIST = rf"{NAME}(?:(?:, | and |, and ){NAME})*"
 FOLDERS = "crates|docs|tests|include|rust|bench|examples"
 HEADER = set(re.findall(r"\w+", (TOP / "include/cuzhaveli.h").read_text()))
 TOOL = {path.stem for path in (TOP / "rust").glob("*/src/**/*.rs")} | {"commands"}
-# words of the language, of the kit and its log, of document 03, of what the command prints, of README's lines; an archive
-OUTSIDE = {"match", "u32", "usize", "count_ones", "requires", "unfoldable", "trusted", "modulo", "around", "read_cell", "libcuzhaveli_plans"}
+# words of the language, of the kit and its log, of document 03, of what the command prints, of README's lines; an archive; Python's own
+OUTSIDE = {"match", "u32", "usize", "count_ones", "requires", "unfoldable", "trusted", "modulo", "around", "read_cell", "libcuzhaveli_plans", "PyObject_GetBuffer"}
 PAGES = [TOP / "README.md", *(TOP / f"docs/{page}.md" for page in ("ARCHITECTURE", "COVERAGE", "DECISIONS", "PROOFS", "REQUESTS", "SCOPE", "TRUST"))]
 
 # each of these has to be found wrong
