@@ -2,6 +2,7 @@
 // determine comes back. The equations of the missing cells are reduced, then solved.
 mod equations;
 mod mends;
+mod nearest;
 mod reduction;
 mod whole_disks;
 

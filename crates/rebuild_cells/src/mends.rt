@@ -9,10 +9,11 @@ ghost use Rattle.mathematics.specs.bit_rows.Parity.{bit};
 ghost use Rattle.liberation.specs.Limits.{InArray};
 ghost use Rattle.liberation.specs.stripes.StripeLimits.{Sized};
 ghost use Rattle.liberation.specs.stripes.Stripes.{solved};
-ghost use Rattle.rebuild_cells.specs.theory.Mending.{setNumbered, namedTo, oddCells, mendedFrom, missingCells, reducedCells, mendable, mendedCells};
+ghost use Rattle.rebuild_cells.specs.theory.Mending.{setNumbered, namedTo, oddCells, missingCells, reducedCells, mendable, mendedCells};
 ghost use Rattle.stripe_cells.specs.Toggled.{toggledAll};
 ghost use Rattle.rebuild_cells.specs.Listed.{ListedCells};
 use super::equations;
+use super::nearest;
 use super::reduction;
 use super::whole_disks;
 
@@ -49,7 +50,7 @@ fn toggle_others(width: usize, disks: usize, word: u64, cell: usize, marks: &mut
 
 // A cell becomes the XOR of the other cells that occur an odd number of times in the sets that the
 // word names.
-fn mend_cell(width: usize, disks: usize, size: usize, cell: usize, word: u64, stripe: &mut [u8])
+pub fn mend_cell(width: usize, disks: usize, size: usize, cell: usize, word: u64, stripe: &mut [u8])
     requires { ⌜ Sized width disks size (now stripe) × (cell < width * (disks + 2)) ⌝ }
     ensures { λ _. ⌜ now (stripe .exit) ≡ solved size cell (oddCells width disks word) (now (stripe .entry)) ⌝ }
 {
@@ -59,28 +60,6 @@ fn mend_cell(width: usize, disks: usize, size: usize, cell: usize, word: u64, st
     toggle_others(width, disks, word, cell, &mut marks[..all]);
     let most = xor::list_most(size);
     stripe_cells::gather_odd(stripe, size, cell, &marks[..all], &mut at[..most]);
-}
-
-// The cells of a list, each by the word of its row.
-fn mend_each(
-    width: usize,
-    disks: usize,
-    size: usize,
-    cells: &[usize],
-    sums: &[u64],
-    stripe: &mut [u8],
-)
-    requires { ⌜ Sized width disks size (now stripe) × ListedCells width disks (now cells) × (length (now cells) ≤ length (now sums)) ⌝ }
-    ensures { λ _. ⌜ now (stripe .exit) ≡ mendedFrom (length (now (cells .entry))) 0 width disks size (now (cells .entry)) (now (sums .entry)) (now (stripe .entry)) ⌝ }
-{
-    let n = cells.len();
-    let mut b = 0;
-    while b < n {
-        let cell = cells[b];
-        let word = sums[b];
-        mend_cell(width, disks, size, cell, word, stripe);
-        b += 1;
-    }
 }
 
 // The sets that give each cell of a list; false if they do not give them all. What the words then
@@ -123,7 +102,15 @@ fn mend_list(width: usize, disks: usize, size: usize, cells: &[usize], stripe: &
     let mut words = no_words();
     let mut sums = no_words();
     if reduce_cells(width, disks, cells, &mut words[..sets], &mut sums[..sets]) {
-        mend_each(width, disks, size, cells, &sums[..sets], stripe);
+        nearest::mend_all(
+            width,
+            disks,
+            size,
+            cells,
+            &sums[..sets],
+            &mut words[..sets],
+            stripe,
+        );
         return true;
     }
     false
