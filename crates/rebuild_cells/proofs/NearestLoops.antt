@@ -1,6 +1,6 @@
 -- The words that are copied and renewed, and the lightest one of those left: loops over words.
 use mathlib.Core.Path.{_≡_, refl, sym, ap, _∙_}
-use mathlib.Core.Bool.{Bool, true, false}
+use mathlib.Core.Bool.{true, false}
 use mathlib.Core.List.{List}
 use mathlib.Core.Logic.{_⊎_, inl, inr, ⊎-elim}
 use Prim.Native.Nat.{ℕ, _+_, _≤_, _<_}
@@ -8,7 +8,6 @@ use native.Mathlib.Omega.{arith}
 use lib.Bits.{bitXor}
 use lib.ListN.{length, getD, set}
 use lib.Seq.{getD-set-same, getD-set-other, ext-getD}
-use Rattle.mathematics.proofs.Flags.{clash}
 use Rattle.mathematics.proofs.OrderLaws.{eq-or-ne, lt-or-le}
 use Rattle.mathematics.specs.bit_rows.Parity.{bit}
 use Rattle.rebuild_cells.specs.Renewed.{Renewed, Chosen}

@@ -3,6 +3,7 @@
 mod equations;
 mod mends;
 mod nearest;
+mod one_cell;
 mod reduction;
 mod whole_disks;
 

@@ -13,7 +13,7 @@ ghost use Rattle.rebuild_cells.specs.theory.Mending.{oddCells, mendedCel
 ghost use Rattle.rebuild_cells.specs.theory.Nearing.{Reducible};
 ghost use Rattle.rebuild_cells.specs.Renewed.{Renewed, Chosen};
 use super::equations;
-use super::mends;
+use super::one_cell;
 use super::reduction;
 
 // Every unknown is left.
@@ -85,7 +85,7 @@ fn mend_by(width: usize, disks: usize, size: usize, cell: usize, word: u64, stri
         stripe_cells::solve(width, disks, size, 0, row, cell / width, row, stripe);
         return;
     }
-    mends::mend_cell(width, disks, size, cell, word, stripe);
+    one_cell::mend_cell(width, disks, size, cell, word, stripe);
 }
 
 // All unknowns, the one with the lightest word next.

@@ -4,17 +4,17 @@ use mathlib.Core.Path.{_≡_, refl, sym, ap, ap₂, subst, _∙_}
 use mathlib.Core.Bool.{Bool, true, false, _&&_, not}
 use mathlib.Core.List.{List}
 use mathlib.Core.Logic.{_⊎_, ⊎-elim}
-use Prim.Native.Nat.{ℕ, zero, suc, _+_, _*_, _^_, _≤_, _<_}
+use Prim.Native.Nat.{ℕ, zero, suc, _+_, _*_, _^_, _<_}
 use native.Mathlib.Omega.{arith}
 use lib.Bits.{bitXor}
 use lib.Dec.{eqb}
 use lib.ListN.{length, getD}
 use borrow.Author.Tests.{eq-eqb, ne-eqb, eqb-false, not-true}
 use Rattle.mathematics.specs.Choice.{when}
-use Rattle.mathematics.specs.Lists.{isIn, allBelow}
+use Rattle.mathematics.specs.Lists.{isIn}
 use Rattle.mathematics.specs.Sums.{sumTo, allTo}
 use Rattle.mathematics.proofs.AllLaws.{all-at}
-use Rattle.mathematics.proofs.Flags.{and-l, and-r, clash, flag}
+use Rattle.mathematics.proofs.Flags.{and-l, and-r, clash}
 use Rattle.mathematics.proofs.MemberLaws.{in-below}
 use Rattle.mathematics.proofs.OrderLaws.{eq-or-ne, lt-or-le}
 use Rattle.mathematics.specs.bit_rows.Parity.{differ, bit}
@@ -23,7 +23,7 @@ use Rattle.mathematics.proofs.bit_rows.ParityLaws.{differ-false}
 use Rattle.liberation.specs.stripes.Stripes.{cellAt, isStripe, xorOver, without, solved}
 use Rattle.liberation.proofs.stripes.OverLaws.{over-ext, in-without}
 use Rattle.liberation.proofs.stripes.Solving.{stripe-long, stripe-bytes, stripe-of, stripes-equal, solved-long, solved-bytes, solved-cell, solved-other, solved-same}
-use Rattle.rebuild_cells.specs.theory.Mending.{reducedCells, mendable, oddCells, mendedCells}
+use Rattle.rebuild_cells.specs.theory.Mending.{oddCells, mendedCells}
 use Rattle.rebuild_cells.specs.theory.Nearing.{Reducible, Target, Near, Gives, Given}
 use Rattle.rebuild_cells.specs.Renewed.{Renewed}
 use Rattle.rebuild_cells.proofs.theory.OddCells.{cells-distinct, cells-below}

@@ -1,6 +1,5 @@
 -- `mend_all`: the words that are changed start as the rows' own.
-use mathlib.Core.Path.{_≡_, sym, _∙_}
-use Prim.Native.Nat.{_≤_}
+use mathlib.Core.Path.{sym, _∙_}
 use native.Mathlib.Omega.{arith}
 use borrow.Author.Needs.{needs}
 use Rattle.rebuild_cells.proofs.nearest.mend_all.Statement.{statement}

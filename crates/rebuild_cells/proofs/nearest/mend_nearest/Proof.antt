@@ -1,10 +1,8 @@
 -- `mend_nearest`: each turn mends a cell of those left.
 use mathlib.Core.Path.{_≡_, sym, ap, _∙_}
 use mathlib.Core.Bool.{true}
-use Prim.Native.Nat.{_*_, _≤_, _<_}
 use native.Mathlib.Omega.{arith}
 use lib.ListN.{length}
-use borrow.Author.Needs.{needs}
 use Rattle.xor.proofs.SourceLaws.{bytes-all}
 use Rattle.liberation.specs.stripes.Stripes.{isStripe}
 use Rattle.liberation.proofs.stripes.SizedLaws.{sized-long, sized-kept}
