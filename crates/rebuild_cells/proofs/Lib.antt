@@ -9,3 +9,6 @@ pub mod WordLoops
 pub mod RowLoops
 pub mod RunLaws
 pub mod WholeLaws
+pub mod NearestLoops
+pub mod NearestTurns
+pub mod RowSteps

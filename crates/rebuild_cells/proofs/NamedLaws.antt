@@ -5,7 +5,6 @@ use mathlib.Core.Bool.{Bool, true, false}
 use mathlib.Core.List.{List, [], _∷_}
 use mathlib.Core.Logic.{⊎-elim}
 use Prim.Native.Nat.{ℕ, zero, suc, _+_, _-_, _*_, _≤_, _<_}
-use native.Mathlib.Numerals.{add-one}
 use native.Mathlib.Omega.{arith}
 use lib.Dec.{eqb}
 use lib.ListN.{length, getD, set, replicate, length-set, length-replicate}
@@ -21,7 +20,7 @@ use Rattle.stripe_cells.specs.Offsets.{scaled}
 use Rattle.stripe_cells.proofs.OffsetLaws.{over-offsets}
 use Rattle.stripe_cells.specs.Toggled.{isOdd, oddFrom, toggledAll}
 use Rattle.stripe_cells.specs.Gathered.{MarkedStripe}
-use Rattle.rebuild_cells.specs.theory.Mending.{setNumbered, wordsFrom, powersFrom, equations, reducedCells, mendable, namedTo, oddCells, mendedFrom, mendedCells}
+use Rattle.rebuild_cells.specs.theory.Mending.{setNumbered, wordsFrom, powersFrom, equations, reducedCells, mendable, namedTo, oddCells, mendedCells}
 use Rattle.stripe_cells.proofs.OddLaws.{toggled-long, toggled-append}
 use Rattle.rebuild_cells.proofs.theory.WordLaws.{words-long}
 use Rattle.rebuild_cells.proofs.theory.MendLaws.{mendable-few}
@@ -109,20 +108,6 @@ module _ (p k s x w : ℕ) (ms t : List ℕ) (z : Sized p k s t) (hx : x < p * (
       ∙ ap (λ (l : List ℕ). withCell s x l t)
       (over-offsets s t (oddFrom 0 ms) ∙ ap (xorOver s (cellAt s t)) (ap (oddFrom 0) made ∙ cleared 0 x all ∙ ap (λ (y : ℕ). without y (oddFrom 0 all)) q))
 
--- ---- the cells one after another
-pub mend-turn : (n b p k s : ℕ) (cs ws t u : List ℕ) → b < n → u ≡ solved s (getD cs b 0) (oddCells p k (getD ws b 0)) t → mendedFrom (n - (b + 1)) (b + 1) p k s cs ws u ≡ mendedFrom (n - b) b p k s cs ws t
-unfolding mendedFrom
-mend-turn n b p k s cs ws t u h e =
-    let q : n - b ≡ suc (n - (b + 1)) = omega arith in
-    ap₂ (λ (c : ℕ) (v : List ℕ). mendedFrom (n - (b + 1)) c p k s cs ws v) (add-one b) e ∙ sym (ap (λ (m : ℕ). mendedFrom m b p k s cs ws t) q)
-
-pub mend-start : (n p k s : ℕ) (cs ws t : List ℕ) → mendedFrom (n - 0) 0 p k s cs ws t ≡ mendedFrom n 0 p k s cs ws t
-mend-start n p k s cs ws t = let q : n - 0 ≡ n = omega arith in ap (λ (m : ℕ). mendedFrom m 0 p k s cs ws t) q
-
-pub mend-end : (n b p k s : ℕ) (cs ws t : List ℕ) → n ≤ b → t ≡ mendedFrom (n - b) b p k s cs ws t
-unfolding mendedFrom
-mend-end n b p k s cs ws t h = let q : 0 ≡ n - b = omega arith in ap (λ (m : ℕ). mendedFrom m b p k s cs ws t) q
-
 -- ---- the rows filled and reduced
 pub cells-reduced :
     (p k : ℕ) (cs ws ts ws′ ts′ : List ℕ) (r : ℕ) → ws ≡ wordsFrom (2 * p) 0 p k cs → ts ≡ powersFrom (2 * p) 0 → ReducedTo (length cs) ws ts ws′ ts′ r
@@ -139,13 +124,6 @@ cells-reduced p k cs ws ts ws′ ts′ r ew et g = (ap (λ (q : Reduced). eqb (q
 -- ---- mended, or not
 pub list-refused : (t : Bool) (m u : List ℕ) (r : Bool) → r ≡ t → r ≡ false → (false ≡ t) × (u ≡ pick t m u)
 list-refused t m u r e h = (sym h ∙ e, ap (λ (b : Bool). pick b m u) (sym h ∙ e))
-
-pub list-done :
-    (p k s : ℕ) (cs ws t u : List ℕ) (r : Bool) → r ≡ mendable p k cs → r ≡ true → ws ≡ reducedCells p k cs .left .sums → u ≡ mendedFrom (length cs) 0 p k s cs ws t
-    → (true ≡ mendable p k cs) × (u ≡ pick (mendable p k cs) (mendedCells p k s cs t) t)
-unfolding mendedCells
-list-done p k s cs ws t u r e h g v =
-    (sym h ∙ e, v ∙ ap (λ (l : List ℕ). mendedFrom (length cs) 0 p k s cs l t) g ∙ ap (λ (b : Bool). pick b (mendedFrom (length cs) 0 p k s cs (reducedCells p k cs .left .sums) t) t) (sym h ∙ e))
 
 -- more missing cells than sets
 pub too-many : (p k : ℕ) (cs m u : List ℕ) → 2 * p < length cs → (false ≡ mendable p k cs) × (u ≡ pick (mendable p k cs) m u)

@@ -9,3 +9,5 @@ pub mod WholeDisks
 pub mod SingleSets
 pub mod OneDisk
 pub mod TwoRuns
+pub mod WordSums
+pub mod NearLaws

@@ -4,3 +4,4 @@ pub mod theory
 pub mod Listed
 pub mod Words
 pub mod Lent
+pub mod Renewed

@@ -98,7 +98,7 @@ fn set_word(width: usize, disks: usize, set: usize, cells: &[usize]) -> u64
 }
 
 // The word with this bit alone.
-fn bit_of(b: usize) -> u64
+pub fn bit_of(b: usize) -> u64
     requires { ⌜ b < 64 ⌝ }
     ensures { λ r. ⌜ r ≡ 2 ^ b ⌝ }
 {
@@ -117,6 +117,19 @@ pub fn fill_rows(width: usize, disks: usize, cells: &[usize], words: &mut [u64],
     while i < n {
         words[i] = set_word(width, disks, i, cells);
         sums[i] = bit_of(i);
+        i += 1;
+    }
+}
+
+// The words of one list become those of another.
+pub fn copy_words(from: &[u64], to: &mut [u64])
+    requires { ⌜ (length (now to) ≡ length (now from)) × (length (now from) ≤ 62) ⌝ }
+    ensures { λ _. ⌜ now (to .exit) ≡ now (from .entry) ⌝ }
+{
+    let n = from.len();
+    let mut i = 0;
+    while i < n {
+        to[i] = from[i];
         i += 1;
     }
 }

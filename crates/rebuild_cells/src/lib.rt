@@ -2,6 +2,8 @@
 // determine comes back. The equations of the missing cells are reduced, then solved.
 mod equations;
 mod mends;
+mod nearest;
+mod one_cell;
 mod reduction;
 mod whole_disks;
 

@@ -1,13 +1,13 @@
 -- The mend of missing cells: all other cells stand, and survivors of a clean stripe bring it back.
 -- So the cells that are not missing determine the others.
-use mathlib.Core.Path.{_≡_, refl, sym, ap, ap₂, _∙_}
+use mathlib.Core.Path.{_≡_, refl, sym, ap, ap₂, subst, _∙_}
 use mathlib.Core.Bool.{Bool, true, false, _&&_, _||_, not, true≢false}
 use mathlib.Core.List.{List, [], _∷_}
 use mathlib.Core.Logic.{_⊎_, ⊎-elim}
 use Prim.Native.Nat.{ℕ, zero, suc, _+_, _*_, _^_, _<_, _≤_}
 use native.Mathlib.Omega.{arith}
 use lib.Dec.{eqb}
-use lib.ListN.{length, getD}
+use lib.ListN.{length, getD, replicate}
 use borrow.Author.Tests.{eq-eqb, ne-eqb, eqb-true, eqb-false, not-true}
 use Rattle.mathematics.specs.Lists.{isIn, allBelow}
 use Rattle.mathematics.proofs.Flags.{and-l, and-r}
@@ -18,7 +18,7 @@ use Rattle.mathematics.specs.bit_rows.Parity.{bit}
 use Rattle.mathematics.proofs.bit_rows.Reducing.{Solved, Dependent, reduces, names-alone}
 use Rattle.liberation.specs.stripes.Stripes.{cellAt, isStripe, clean, solved, without, xorOver}
 use Rattle.liberation.proofs.stripes.OverLaws.{over-ext, in-without}
-use Rattle.liberation.proofs.stripes.Solving.{stripe-long, stripe-bytes, stripe-of, stripes-equal, solved-long, solved-bytes, solved-cell, solved-other, solved-same}
+use Rattle.liberation.proofs.stripes.Solving.{stripe-long, stripe-bytes, stripe-of, stripes-equal, solved-long, solved-bytes, solved-cell, solved-other, solved-zero, solved-same}
 use Rattle.rebuild_cells.specs.theory.Mending.{setNumbered, equations, reducedCells, mendable, oddCells, mendedFrom, mendedCells, AlikeOff, Determined}
 use Rattle.rebuild_cells.proofs.theory.WordLaws.{word-bit, words-long, powers-long, words-at, powers-at}
 use Rattle.rebuild_cells.proofs.theory.OddCells.{odd-cell, cells-distinct, cells-below, odd-zero}
@@ -154,6 +154,38 @@ module _ (p k s : ℕ) (some : 0 < p) (cs ws : List ℕ) (below : allBelow (p * 
   from-near (suc n) b e t u ht hu near =
       from-near n (suc b) (omega arith) _ _ (next-stripe b (omega arith) t ht) (next-stripe b (omega arith) u hu) (near-next b (omega arith) t u ht hu near)
 
+  -- a cell that no later step writes stands
+  from-later : (n b : ℕ) → b + n ≡ length cs → (t : List ℕ) → isStripe p k s t ≡ true → (y : ℕ) → ((c : ℕ) → b ≤ c → c < length cs → y ≡ getD cs c 0 → ⊥) → cellAt s (mendedFrom n b p k s cs ws t) y ≡ cellAt s t y
+  unfolding mendedFrom next
+  from-later zero b e t ht y h = refl
+  from-later (suc n) b e t ht y h =
+      from-later n (suc b) (omega arith) _ (next-stripe b (omega arith) t ht) y (λ c l hc. h c (omega arith) hc)
+      ∙ next-other b (omega arith) t ht y (h b (omega arith) (omega arith))
+
+  -- the odd cells of a step's sets XOR to zero after it, and in the end
+  next-zero : (b : ℕ) (hb : b < length cs) (t : List ℕ) → isStripe p k s t ≡ true → xorOver s (cellAt s (next b hb t)) (oddCells p k (getD ws b 0)) ≡ replicate s 0
+  unfolding next
+  next-zero b hb t ht =
+      solved-zero (p * (k + 2)) s (getD cs b 0) (oddCells p k (getD ws b 0)) t (stripe-long p k s t ht) (cells-below p k some (getD ws b 0)) (held b hb) (cells-distinct p k some (getD ws b 0))
+
+  rest-zero : (n b : ℕ) (hb : b < length cs) → suc b + n ≡ length cs → (t : List ℕ) → isStripe p k s t ≡ true → xorOver s (cellAt s (mendedFrom n (suc b) p k s cs ws (next b hb t))) (oddCells p k (getD ws b 0)) ≡ replicate s 0
+  rest-zero n b hb e t ht =
+      over-ext s (cellAt s (mendedFrom n (suc b) p k s cs ws (next b hb t))) (cellAt s (next b hb t)) (oddCells p k (getD ws b 0))
+      (λ y i. from-later n (suc b) e (next b hb t) (next-stripe b hb t ht) y (off y i))
+      ∙ next-zero b hb t ht
+    where
+      off : (y : ℕ) → isIn y (oddCells p k (getD ws b 0)) ≡ true → (c : ℕ) → suc b ≤ c → c < length cs → y ≡ getD cs c 0 → ⊥
+      off y i c l hc q = let w : b ≡ c = eqb-true b c (sym (alone b c hb hc) ∙ ap (λ (z : ℕ). isIn z (oddCells p k (getD ws b 0))) (sym q) ∙ i) in omega arith
+
+  from-zero : (n b : ℕ) → b + n ≡ length cs → (t : List ℕ) → isStripe p k s t ≡ true → (d : ℕ) → b ≤ d → d < length cs → xorOver s (cellAt s (mendedFrom n b p k s cs ws t)) (oddCells p k (getD ws d 0)) ≡ replicate s 0
+  unfolding mendedFrom next
+  from-zero zero b e t ht d l h = absurd (omega arith)
+  from-zero (suc n) b e t ht d l h =
+      ⊎-elim
+      (λ q. subst (λ (x : ℕ). xorOver s (cellAt s (mendedFrom (suc n) b p k s cs ws t)) (oddCells p k (getD ws x 0)) ≡ replicate s 0) q (rest-zero n b (omega arith) (omega arith) t ht))
+      (λ g. from-zero n (suc b) (omega arith) _ (next-stripe b (omega arith) t ht) d g h)
+      (eq-or-lt b d l)
+
 -- a cell that is not in a list is none of it
 pub none-of : (cs : List ℕ) (y : ℕ) → isIn y cs ≡ false → (c : ℕ) → c < length cs → y ≡ getD cs c 0 → ⊥
 none-of cs y h c l e = true≢false (sym (at-in c cs l) ∙ ap (λ (z : ℕ). isIn z cs) (sym e) ∙ h)
@@ -191,6 +223,11 @@ module _ (p k s : ℕ) (some : 0 < p) (cs : List ℕ) (below : allBelow (p * (k 
   pub mended-alike : (t u : List ℕ) → isStripe p k s t ≡ true → isStripe p k s u ≡ true → AlikeOff p k s cs t u → mendedCells p k s cs t ≡ mendedCells p k s cs u
   unfolding mendedCells ws Near
   mended-alike t u ht hu same = from-near p k s some cs ws below alone (length cs) 0 (omega arith) t u ht hu (λ y l off. same y l (off-list cs y (λ c h. off c (omega arith) h)))
+
+  -- the odd cells of the sets that a missing cell's row names XOR to zero
+  pub mended-zero : (t : List ℕ) → isStripe p k s t ≡ true → (d : ℕ) → d < length cs → xorOver s (cellAt s (mendedCells p k s cs t)) (oddCells p k (getD (reducedCells p k cs .left .sums) d 0)) ≡ replicate s 0
+  unfolding mendedCells ws
+  mended-zero t ht d h = from-zero p k s some cs ws below alone (length cs) 0 (omega arith) t ht d (omega arith) h
 
   -- survivors of a clean stripe bring it back
   pub mended-back : (t u : List ℕ) → isStripe p k s t ≡ true → isStripe p k s u ≡ true → clean p k s u ≡ true → AlikeOff p k s cs t u → mendedCells p k s cs t ≡ u

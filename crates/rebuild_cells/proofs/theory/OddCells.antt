@@ -124,7 +124,7 @@ module _ (p k : ℕ) (some : 0 < p) where
       go true = in-distinct y (setNumbered p k n) (numbered-distinct n)
       go false = refl
 
-  named-below : (n w : ℕ) → allBelow (p * (k + 2)) (namedTo n p k w) ≡ true
+  pub named-below : (n w : ℕ) → allBelow (p * (k + 2)) (namedTo n p k w) ≡ true
   unfolding namedTo
   named-below zero w = refl
   named-below (suc n) w = below-append (p * (k + 2)) (pick (bit w n) (setNumbered p k n) []) (namedTo n p k w) (go (bit w n)) (named-below n w)

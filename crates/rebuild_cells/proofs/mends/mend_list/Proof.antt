@@ -7,7 +7,8 @@ use lib.ListN.{length, take, drop, length-append}
 use lib.Seq.{take-at, length-take-le}
 use borrow.Author.Needs.{needs}
 use Rattle.rebuild_cells.specs.theory.Mending.{mendable, mendedCells}
-use Rattle.rebuild_cells.proofs.NamedLaws.{list-refused, list-done}
+use Rattle.rebuild_cells.proofs.NamedLaws.{list-refused}
+use Rattle.rebuild_cells.proofs.WholeLaws.{listed-whole}
 use Rattle.rebuild_cells.proofs.mends.mend_list.Statement.{statement}
 use Rattle.rebuild_cells.proofs.mends.mend_list.Tie as tie
 
@@ -40,19 +41,43 @@ made r =
 array-share-prefix-sums : tie.Need-array-share-prefix-sums
 array-share-prefix-sums c = simp length-append (omega (arith, sums-long (c .before .before .before)))
 
-mend-each-requires : tie.Need-mend-each-requires
-mend-each-requires c κs =
-    let r = c .before .before .before .before .before in
-    let o = r .before .before .before .before .before .before .before in
-    (o .pre .0, o .pre .1, omega (arith, o .pre .2, ap length (made r), sums-long r))
+-- the words after it have room as before
+words-long : (r : tie.After-reduce-cells) → length (r .reduce-cells .last .1 .1 .1 .0) ≡ 2 * r .before .before .before .before .before .before .before .args .width
+words-long r = r .reduce-cells .kept .1 .1 .1 .0 ∙ words-lent (r .before .before .before)
+
+words-again : (r : tie.After-reduce-cells) → let w = r .before .before .before in let n = 2 * w .before .before .before .before .args .width in length (take n (r .reduce-cells .last .1 .1 .1 .0 ++ drop n (w .before .no-words .result))) ≡ n
+words-again r =
+    let w = r .before .before .before in
+    let n = 2 * w .before .before .before .before .args .width in
+    ap length (take-at (r .reduce-cells .last .1 .1 .1 .0) (drop n (w .before .no-words .result)) n (words-long r)) ∙ words-long r
+
+array-borrow-prefix-words-2 : tie.Need-array-borrow-prefix-words-2
+array-borrow-prefix-words-2 c = simp length-append (omega (arith, words-long (c .before .before .before .before)))
+
+mend-all-requires : tie.Need-mend-all-requires
+mend-all-requires c κs =
+    let t = c .before .before .before in
+    let r = t .before .before .before in
+    let o = r .before .before .before .before .before .before .before in (
+      o .pre .0,
+      record {
+        listed = o .pre .1;
+        ok = sym (r .reduce-cells .ensures .0) ∙ t .if1 .taken;
+        sums = made r ∙ r .reduce-cells .ensures .1;
+        long = ap length (made r) ∙ sums-long r;
+        room = o .pre .2;
+      },
+      words-again r,
+    )
 
 returns : tie.Need-returns
 returns c =
-    let e = c .before .before in
-    let t = e .before .before .before in
+    let e = c .before .before .before in
+    let t = e .before .before .before .before in
     let r = t .before .before .before in
     let a = r .before .before .before .before .before .before .before .args in
-    list-done (a .width) (a .disks) (a .size) (a .cells .now) (sums r) (a .stripe .now) (e .mend-each .last .1 .1 .1 .1 .1 .0) (r .reduce-cells .result) (r .reduce-cells .ensures .0) (t .if1 .taken) (made r ∙ r .reduce-cells .ensures .1) (e .mend-each .ensures)
+    listed-whole (mendable (a .width) (a .disks) (a .cells .now)) (mendedCells (a .width) (a .disks) (a .size) (a .cells .now) (a .stripe .now)) (e .mend-all .last .1 .1 .1 .1 .1 .1 .0) (a .stripe .now)
+    (sym (r .reduce-cells .ensures .0) ∙ t .if1 .taken, e .mend-all .ensures)
 
 returns-2 : tie.Need-returns-2
 returns-2 c =
@@ -74,7 +99,9 @@ mend-list-spec =
     reduce-cells-requires
     array-share-prefix-sums
     (λ c. sym (ap length (made (c .before .before .before .before)) ∙ sums-long (c .before .before .before .before)))
-    mend-each-requires
+    array-borrow-prefix-words-2
+    (λ c. sym (words-again (c .before .before .before .before .before)))
+    mend-all-requires
     (λ c. search needs)
     returns
     returns-2)

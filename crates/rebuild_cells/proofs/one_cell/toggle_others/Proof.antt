@@ -4,8 +4,8 @@ use mathlib.Core.List.{List}
 use Prim.Native.Nat.{ℕ}
 use lib.ListN.{set}
 use borrow.Author.Needs.{needs}
-use Rattle.rebuild_cells.proofs.mends.toggle_others.Statement.{statement}
-use Rattle.rebuild_cells.proofs.mends.toggle_others.Tie as tie
+use Rattle.rebuild_cells.proofs.one_cell.toggle_others.Statement.{statement}
+use Rattle.rebuild_cells.proofs.one_cell.toggle_others.Tie as tie
 
 returns : tie.Need-returns
 returns c =

@@ -2,8 +2,8 @@
 use borrow.Author.Needs.{needs}
 use Rattle.rebuild_cells.specs.theory.Mending.{setNumbered}
 use Rattle.rebuild_cells.proofs.NamedLaws.{if-named, if-none}
-use Rattle.rebuild_cells.proofs.mends.toggle_if.Statement.{statement}
-use Rattle.rebuild_cells.proofs.mends.toggle_if.Tie as tie
+use Rattle.rebuild_cells.proofs.one_cell.toggle_if.Statement.{statement}
+use Rattle.rebuild_cells.proofs.one_cell.toggle_if.Tie as tie
 
 returns : tie.Need-returns
 returns c =

@@ -11,8 +11,8 @@ use Rattle.liberation.proofs.MarkLists.{take-marks, no-cells, cells-most}
 use Rattle.stripe_cells.specs.Toggled.{toggledAll}
 use Rattle.rebuild_cells.specs.theory.Mending.{namedTo}
 use Rattle.rebuild_cells.proofs.NamedLaws.{mend-marked, mend-done}
-use Rattle.rebuild_cells.proofs.mends.mend_cell.Statement.{statement}
-use Rattle.rebuild_cells.proofs.mends.mend_cell.Tie as tie
+use Rattle.rebuild_cells.proofs.one_cell.mend_cell.Statement.{statement}
+use Rattle.rebuild_cells.proofs.one_cell.mend_cell.Tie as tie
 
 -- the stripe has few cells
 few : (c : tie.After-slice-known) → let a = c .before .args in a .width * (a .disks + 2) ≤ 1023

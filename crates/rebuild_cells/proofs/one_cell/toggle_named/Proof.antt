@@ -1,14 +1,14 @@
 -- `toggle_named`: each turn toggles for a set. The invariant: the sets still to come, toggled in
 -- the marks as they are, give what all give in the marks as they were.
 use mathlib.Core.Path.{_≡_, refl, _∙_}
-use Prim.Native.Nat.{_*_, _-_, _≤_}
+use Prim.Native.Nat.{_*_, _≤_}
 use native.Mathlib.Omega.{arith}
 use lib.ListN.{length}
 use Rattle.rebuild_cells.specs.theory.Mending.{namedTo}
 use Rattle.stripe_cells.specs.Toggled.{toggledAll}
 use Rattle.rebuild_cells.proofs.NamedLaws.{named-turn, named-end}
-use Rattle.rebuild_cells.proofs.mends.toggle_named.Statement.{statement}
-use Rattle.rebuild_cells.proofs.mends.toggle_named.Tie as tie
+use Rattle.rebuild_cells.proofs.one_cell.toggle_named.Statement.{statement}
+use Rattle.rebuild_cells.proofs.one_cell.toggle_named.Tie as tie
 
 abbrev Inv-loop : tie.InvT-loop
 Inv-loop width disks word marks₀ i₀ marks i =
