@@ -9,22 +9,19 @@
 #   make demo                    shows the command at work on a film that it makes: encodes, loses disks, rebuilds, plays
 #   make examples                builds and runs examples/ from a scratch install, and compares their output
 #   make selftest                the Python package's own test of the shared library
-#   make conformance IMPL=FILE   compares your code, a .c, .a or .so that offers functions of conformance/yours.h, with the library;
-#                                IMPL_CFLAGS= IMPL_LIBS= what it needs, OPTIONS= options of the runner (docs/TEST-YOURS.md)
-#   make install PREFIX= DESTDIR=   header, archives, shared library, cuzhaveli.pc, command and manual, and in share/cuzhaveli the
-#                                vectors and the conformance kit (PREFIX is /usr/local if not given)
+#   make install PREFIX= DESTDIR=   header, archives, shared library, cuzhaveli.pc, command and manual (PREFIX is /usr/local if
+#                                   not given)
 #   make uninstall PREFIX= DESTDIR=
 #   make dist                    build/cuzhaveli-VERSION-x86_64-linux.tar.gz, after .ci/run
+#   make conformance IMPL=FILE   compares your code, a .c, .a or .so that offers functions of conformance/yours.h, with the library;
+#                                IMPL_CFLAGS= IMPL_LIBS= what it needs, OPTIONS= options of the runner (docs/TEST-YOURS.md); that
+#                                kit and the vectors are installed in share/cuzhaveli
 #   make clean                   removes build/
 
 VERSION = 0.1.0
 PREFIX = /usr/local
 DESTDIR =
 LIB =
-IMPL =
-IMPL_CFLAGS =
-IMPL_LIBS =
-OPTIONS =
 CFLAGS = -O2
 PKG_CONFIG = pkg-config
 comma = ,
@@ -37,7 +34,7 @@ scratch = $(CURDIR)/build/scratch
 warnings = -std=c99 -Wall -Wextra -pedantic -Werror
 dist = cuzhaveli-$(VERSION)-x86_64-linux
 
-.PHONY: all demo examples conformance selftest install uninstall dist clean FORCE
+.PHONY: all demo examples selftest install uninstall dist clean FORCE
 .DELETE_ON_ERROR:
 
 all: $(archives) $(shared) $(tool)
@@ -85,10 +82,6 @@ demo: build/cuzhaveli
 	@rm -rf build/demo
 	@examples/demo build/cuzhaveli build/demo
 
-conformance: build/libcuzhaveli.a
-	@[ -n "$(IMPL)" ] || { echo "make: say which code: make conformance IMPL=mine.c (or mine.a, mine.so); docs/TEST-YOURS.md tells the way" >&2; exit 2; }
-	@CC="$(CC)" CFLAGS="$(CFLAGS)" IMPL_CFLAGS="$(IMPL_CFLAGS)" IMPL_LIBS="$(IMPL_LIBS)" conformance/run $(IMPL) $(OPTIONS)
-
 install: $(archives) $(shared) $(tool)
 	@install -d "$(DESTDIR)$(PREFIX)/include" "$(DESTDIR)$(PREFIX)/lib/pkgconfig"
 	@install -m 644 include/cuzhaveli.h "$(DESTDIR)$(PREFIX)/include/"
@@ -100,13 +93,10 @@ ifneq ($(tool),)
 	@install -m 644 docs/cuzhaveli.1 "$(DESTDIR)$(PREFIX)/share/man/man1/"
 endif
 	@sed 's|@PREFIX@|$(PREFIX)|; s|@VERSION@|$(VERSION)|' cuzhaveli.pc.in >"$(DESTDIR)$(PREFIX)/lib/pkgconfig/cuzhaveli.pc"
-	@install -d "$(DESTDIR)$(PREFIX)/share/cuzhaveli"
-	@cp -r conformance vectors "$(DESTDIR)$(PREFIX)/share/cuzhaveli/"
-	@echo "make: installed header, archives, shared library, vectors, conformance kit, cuzhaveli.pc$(if $(tool),$(comma) command and manual) under $(DESTDIR)$(PREFIX)"
+	@echo "make: installed header, archives, shared library, cuzhaveli.pc$(if $(tool),$(comma) command and manual) under $(DESTDIR)$(PREFIX)"
 
 uninstall:
 	rm -f "$(DESTDIR)$(PREFIX)/include/cuzhaveli.h" "$(DESTDIR)$(PREFIX)/lib/libcuzhaveli.a" "$(DESTDIR)$(PREFIX)/lib/libcuzhaveli_plans.a" "$(DESTDIR)$(PREFIX)/lib/libcuzhaveli_fast.a" "$(DESTDIR)$(PREFIX)/lib/libcuzhaveli.so" "$(DESTDIR)$(PREFIX)/lib/libcuzhaveli.so.1" "$(DESTDIR)$(PREFIX)/lib/pkgconfig/cuzhaveli.pc" "$(DESTDIR)$(PREFIX)/bin/cuzhaveli" "$(DESTDIR)$(PREFIX)/share/man/man1/cuzhaveli.1"
-	rm -rf "$(DESTDIR)$(PREFIX)/share/cuzhaveli/conformance" "$(DESTDIR)$(PREFIX)/share/cuzhaveli/vectors"
 
 examples: $(archives) $(shared)
 	@rm -rf "$(scratch)" && mkdir -p "$(scratch)"
@@ -130,6 +120,27 @@ dist: $(archives) $(shared) build/cuzhaveli
 	@cd build/$(dist) && find . -type f ! -name SHA256SUMS | LC_ALL=C sort | xargs sha256sum >SHA256SUMS
 	@cd build && tar --sort=name --mtime=@0 --owner=0 --group=0 --numeric-owner -cf - $(dist) | gzip -n >$(dist).tar.gz
 	@sha256sum build/$(dist).tar.gz
+
+# The conformance kit: a user's code compared with the library.
+IMPL =
+IMPL_CFLAGS =
+IMPL_LIBS =
+OPTIONS =
+share = $(DESTDIR)$(PREFIX)/share/cuzhaveli
+.PHONY: conformance install-kit uninstall-kit
+
+conformance: build/libcuzhaveli.a
+	@[ -n "$(IMPL)" ] || { echo "make: say which code: make conformance IMPL=mine.c (or mine.a, mine.so); docs/TEST-YOURS.md tells the way" >&2; exit 2; }
+	@CC="$(CC)" CFLAGS="$(CFLAGS)" IMPL_CFLAGS="$(IMPL_CFLAGS)" IMPL_LIBS="$(IMPL_LIBS)" conformance/run $(IMPL) $(OPTIONS)
+
+install: install-kit
+install-kit:
+	@install -d "$(share)"
+	@cp -r conformance vectors "$(share)/"
+
+uninstall: uninstall-kit
+uninstall-kit:
+	rm -rf "$(share)/conformance" "$(share)/vectors"
 
 clean:
 	rm -rf build

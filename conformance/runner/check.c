@@ -26,11 +26,9 @@ static void compare(struct trial *t)
 
 static void try_whole(enum form form, struct cuzhaveli_shape shape, bool clean)
 {
-    struct trial *t = begin_trial(CHECK, form, shape, "%s", content_name(clean));
-    if (!t)
-        return;
-    put_stripe(t, clean);
-    compare(t);
+    struct trial *t = begin_whole(CHECK, form, shape, clean);
+    if (t)
+        compare(t);
 }
 
 /* One bit of a cell of a clean stripe is another. */

@@ -72,3 +72,26 @@ int refuses_by(int number)
 {
     return yours_refuses ? yours_refuses(number) : YOURS_NEVER;
 }
+
+struct question {
+    writes *function;
+    struct cuzhaveli_shape shape;
+    size_t lost;
+    uint8_t *out;
+};
+
+static int ask(void *with)
+{
+    struct question *question = with;
+    return question->function(question->shape.width, question->shape.disks, question->lost, question->out);
+}
+
+/* What yours_plan or yours_read_list writes; false if it is not offered, or does not do it. */
+bool ask_yours(writes *function, struct cuzhaveli_shape shape, size_t lost, uint8_t *out)
+{
+    struct question question = {function, shape, lost, out};
+    if (!function)
+        return false;
+    struct outcome outcome = guarded(ask, &question);
+    return outcome.ending == RETURNED && outcome.answer == 0;
+}

@@ -33,27 +33,38 @@ void compare_judged(struct trial *t, struct cuzhaveli_judged right)
     end_failure(t);
 }
 
+/* Begins a trial on any plan, which is put into `plan`. */
+struct trial *begin_judged(enum function function, size_t n, size_t lost, size_t which, uint8_t *plan)
+{
+    struct trial *t = begin_trial(function, STRIPE, small_shape(n), "lost=%zu/plan=%zu", lost, which);
+    if (!t)
+        return NULL;
+    any_plan(&t->random, t->shape.width, t->shape.disks, lost, plan);
+    t->first = lost;
+    t->reads = t->step = NO_DISK;
+    return t;
+}
+
 static void try_plan(size_t n, size_t lost, size_t which)
 {
     uint8_t plan[MOST_PLAN_BYTES];
-    struct trial *t = begin_trial(JUDGE, STRIPE, small_shape(n), "lost=%zu/plan=%zu", lost, which);
+    struct trial *t = begin_judged(JUDGE, n, lost, which, plan);
     if (!t)
         return;
-    size_t p = t->shape.width, k = t->shape.disks;
-    any_plan(&t->random, p, k, lost, plan);
-    t->first = lost;
-    t->reads = t->step = NO_DISK;
     t->beside = plan;
-    t->beside_length = CUZHAVELI_PLAN_BYTES(p);
+    t->beside_length = CUZHAVELI_PLAN_BYTES(t->shape.width);
     if (call_yours(t, call))
-        compare_judged(t, cuzhaveli_judge_plan(p, k, lost, plan, t->beside_length));
+        compare_judged(t, cuzhaveli_judge_plan(t->shape.width, t->shape.disks, lost, plan, t->beside_length));
+}
+
+static void try_loss(size_t n, size_t lost)
+{
+    for (size_t which = 0; which < PLANS; which++)
+        try_plan(n, lost, which);
 }
 
 void try_judge(enum form form)
 {
-    for (size_t n = 0; n < ARRAYS; n++)
-        for (size_t lost = 0; lost < array_at(n).k + 2; lost++)
-            for (size_t which = 0; which < PLANS; which++)
-                try_plan(n, lost, which);
+    each_loss(try_loss);
     try_refusals(JUDGE, form, call);
 }

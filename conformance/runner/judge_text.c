@@ -54,26 +54,25 @@ static void try_text(size_t n, size_t lost, size_t which)
 {
     uint8_t plan[MOST_PLAN_BYTES];
     char text[MOST_TEXT];
-    struct trial *t = begin_trial(JUDGE_TEXT, STRIPE, small_shape(n), "lost=%zu/text=%zu", lost, which);
+    struct trial *t = begin_judged(JUDGE_TEXT, n, lost, which, plan);
     if (!t)
         return;
-    size_t p = t->shape.width, k = t->shape.disks;
-    any_plan(&t->random, p, k, lost, plan);
-    t->first = lost;
-    t->reads = t->step = NO_DISK;
     t->beside = (const uint8_t *)text;
-    t->beside_length = put_text(&t->random, p, plan, text);
+    t->beside_length = put_text(&t->random, t->shape.width, plan, text);
     if (once_in(&t->random, 3))
         t->beside_length = damage_text(&t->random, text, t->beside_length);
     if (call_yours(t, call))
-        compare_judged(t, cuzhaveli_judge_text(p, k, lost, t->beside, t->beside_length));
+        compare_judged(t, cuzhaveli_judge_text(t->shape.width, t->shape.disks, lost, t->beside, t->beside_length));
+}
+
+static void try_loss(size_t n, size_t lost)
+{
+    for (size_t which = 0; which < TEXTS; which++)
+        try_text(n, lost, which);
 }
 
 void try_judge_text(enum form form)
 {
-    for (size_t n = 0; n < ARRAYS; n++)
-        for (size_t lost = 0; lost < array_at(n).k + 2; lost++)
-            for (size_t which = 0; which < TEXTS; which++)
-                try_text(n, lost, which);
+    each_loss(try_loss);
     try_refusals(JUDGE_TEXT, form, call);
 }

@@ -38,6 +38,8 @@ const char *function_name(enum function function, enum form form);
 bool has_form(enum function function, enum form form);
 bool is_offered(enum function function, enum form form);
 int refuses_by(int number);
+typedef int writes(size_t p, size_t k, size_t lost, uint8_t *out);
+bool ask_yours(writes *function, struct cuzhaveli_shape shape, size_t lost, uint8_t *out);
 
 /* options.c */
 struct options {
@@ -76,6 +78,7 @@ size_t in_units(size_t size);
 struct cuzhaveli_shape small_shape(size_t n);
 bool is_small(struct cuzhaveli_shape shape);
 void each_shape(enum form form, void (*attempt)(enum form form, struct cuzhaveli_shape shape));
+void each_loss(void (*attempt)(size_t n, size_t lost));
 
 /* regions.c: memory between protected pages. */
 enum { THE_STRIPE, THE_POINTERS, BESIDE, THE_COLUMNS, REGIONS = THE_COLUMNS + MOST_DISKS };
@@ -131,6 +134,7 @@ struct trial *trial_under_way(void);
 /* stripes.c: what a trial's stripe holds. */
 size_t stripe_bytes(const struct trial *trial);
 void put_stripe(struct trial *trial, bool clean);
+struct trial *begin_whole(enum function function, enum form form, struct cuzhaveli_shape shape, bool clean);
 void lose_disk(struct trial *trial, size_t disk);
 void lose_cell(struct trial *trial, size_t cell);
 const char *content_name(bool clean);
@@ -172,17 +176,18 @@ void try_refusals(enum function function, enum form form, int (*call)(struct tri
 
 /* plan.c */
 const char *refusal_text(int refusal);
-bool plan_of_yours(size_t p, size_t k, size_t lost, uint8_t *plan);
+bool plan_of_yours(struct cuzhaveli_shape shape, size_t lost, uint8_t *plan);
 void say_reads(void);
 
 /* read_list.c */
-bool list_of_yours(size_t p, size_t k, size_t lost, uint8_t *list);
+bool list_of_yours(struct cuzhaveli_shape shape, size_t lost, uint8_t *list);
 
 /* plans.c */
 #define MOST_PLAN_BYTES CUZHAVELI_PLAN_BYTES(CUZHAVELI_MAX_WIDTH)
 void any_plan(struct random *random, size_t p, size_t k, size_t lost, uint8_t *plan);
 
 /* judge.c */
+struct trial *begin_judged(enum function function, size_t n, size_t lost, size_t which, uint8_t *plan);
 void compare_judged(struct trial *trial, struct cuzhaveli_judged wanted);
 
 #endif

@@ -63,7 +63,7 @@ static void try_dirty(enum form form, struct cuzhaveli_shape shape, size_t lost)
     if (!t)
         return;
     put_stripe(t, false);
-    if (plan_of_yours(shape.width, shape.disks, lost, plan))
+    if (plan_of_yours(shape, lost, plan))
         try_by_plan(t, plan);
     else
         try_twice(t);
@@ -73,7 +73,7 @@ static void try_dirty(enum form form, struct cuzhaveli_shape shape, size_t lost)
 static void try_noise(enum form form, struct cuzhaveli_shape shape, size_t lost)
 {
     uint8_t list[MOST_CELLS];
-    if (!list_of_yours(shape.width, shape.disks, lost, list))
+    if (!list_of_yours(shape, lost, list))
         return;
     struct trial *t = begin(form, shape, lost, "noise");
     if (!t)

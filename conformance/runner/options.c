@@ -47,7 +47,7 @@ static bool take_value(const char *option, const char *value)
     return true;
 }
 
-/* False if the words are no options, which is said on standard error, or ask for help. */
+/* False, with a word on standard error, if the words are no options. */
 bool read_options(int argc, char **argv)
 {
     options.program = argv[0];
@@ -58,7 +58,7 @@ bool read_options(int argc, char **argv)
             options.fewest = true;
         else if (strcmp(argv[i], "--help") == 0) {
             fputs(USAGE, stdout);
-            return false;
+            exit(0);
         } else if (i + 1 < argc && take_value(argv[i], argv[i + 1]))
             i++;
         else {

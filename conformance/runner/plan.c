@@ -77,9 +77,7 @@ static void try_plan(size_t n, size_t lost)
 
 void try_plans(enum form form)
 {
-    for (size_t n = 0; n < ARRAYS; n++)
-        for (size_t lost = 0; lost < array_at(n).k + 2; lost++)
-            try_plan(n, lost);
+    each_loss(try_plan);
     try_refusals(PLAN, form, call);
 }
 
@@ -90,24 +88,10 @@ void say_reads(void)
             reads_of_yours, fewest_reads, (double)reads_of_yours / (double)fewest_reads);
 }
 
-struct question {
-    size_t p, k, lost;
-    uint8_t *plan;
-};
-
-static int ask(void *with)
-{
-    struct question *question = with;
-    return yours_plan(question->p, question->k, question->lost, question->plan);
-}
-
 /* The plan that you offer; false if there is none that the judge accepts. */
-bool plan_of_yours(size_t p, size_t k, size_t lost, uint8_t *plan)
+bool plan_of_yours(struct cuzhaveli_shape shape, size_t lost, uint8_t *plan)
 {
-    struct question question = {p, k, lost, plan};
-    if (!yours_plan)
-        return false;
-    struct outcome outcome = guarded(ask, &question);
-    return outcome.ending == RETURNED && outcome.answer == 0 &&
-           cuzhaveli_judge_plan(p, k, lost, plan, CUZHAVELI_PLAN_BYTES(p)).answer.refusal == CUZHAVELI_OK;
+    size_t p = shape.width, length = CUZHAVELI_PLAN_BYTES(p);
+    return ask_yours(yours_plan, shape, lost, plan) &&
+           cuzhaveli_judge_plan(p, shape.disks, lost, plan, length).answer.refusal == CUZHAVELI_OK;
 }

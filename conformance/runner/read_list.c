@@ -15,7 +15,7 @@ static void put_right(struct trial *t, uint8_t *right)
 {
     uint8_t plan[MOST_PLAN_BYTES];
     size_t p = t->shape.width, k = t->shape.disks;
-    if (plan_of_yours(p, k, t->first, plan)) {
+    if (plan_of_yours(t->shape, t->first, plan)) {
         cuzhaveli_plan_list(p, k, t->first, plan, CUZHAVELI_PLAN_BYTES(p), right, t->beside_length);
         return;
     }
@@ -55,34 +55,19 @@ static void try_list(size_t n, size_t lost)
 
 void try_read_lists(enum form form)
 {
-    for (size_t n = 0; n < ARRAYS; n++)
-        for (size_t lost = 0; lost < array_at(n).k + 2; lost++)
-            try_list(n, lost);
+    each_loss(try_list);
     try_refusals(READ_LIST, form, call);
-}
-
-struct question {
-    size_t p, k, lost;
-    uint8_t *list;
-};
-
-static int ask(void *with)
-{
-    struct question *question = with;
-    return yours_read_list(question->p, question->k, question->lost, question->list);
 }
 
 /* The cells that your rebuild reads: by your list, else by your plan; false if you offer
  * neither. */
-bool list_of_yours(size_t p, size_t k, size_t lost, uint8_t *list)
+bool list_of_yours(struct cuzhaveli_shape shape, size_t lost, uint8_t *list)
 {
     uint8_t plan[MOST_PLAN_BYTES];
-    struct question question = {p, k, lost, list};
-    if (yours_read_list) {
-        struct outcome outcome = guarded(ask, &question);
-        return outcome.ending == RETURNED && outcome.answer == 0;
-    }
-    return plan_of_yours(p, k, lost, plan) &&
+    size_t p = shape.width, k = shape.disks;
+    if (yours_read_list)
+        return ask_yours(yours_read_list, shape, lost, list);
+    return plan_of_yours(shape, lost, plan) &&
            cuzhaveli_plan_list(p, k, lost, plan, CUZHAVELI_PLAN_BYTES(p), list, CUZHAVELI_LIST_BYTES(p, k)).refusal ==
                CUZHAVELI_OK;
 }

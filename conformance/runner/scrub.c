@@ -67,11 +67,9 @@ static void try_changed(enum form form, struct cuzhaveli_shape shape, size_t fir
 
 static void try_whole(enum form form, struct cuzhaveli_shape shape, bool clean)
 {
-    struct trial *t = begin_trial(SCRUB, form, shape, "%s", content_name(clean));
-    if (!t)
-        return;
-    put_stripe(t, clean);
-    compare(t);
+    struct trial *t = begin_whole(SCRUB, form, shape, clean);
+    if (t)
+        compare(t);
 }
 
 /* Every disk with small cells, the first with large ones. */

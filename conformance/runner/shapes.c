@@ -86,6 +86,14 @@ static void each_size(enum form form, size_t n, void (*attempt)(enum form form, 
     }
 }
 
+/* Every array and every lost disk of it. */
+void each_loss(void (*attempt)(size_t n, size_t lost))
+{
+    for (size_t n = 0; n < ARRAYS; n++)
+        for (size_t lost = 0; lost < array_at(n).k + 2; lost++)
+            attempt(n, lost);
+}
+
 /* Every array with small cells, and with some of the larger sizes. */
 void each_shape(enum form form, void (*attempt)(enum form form, struct cuzhaveli_shape shape))
 {

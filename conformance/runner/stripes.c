@@ -19,6 +19,15 @@ void put_stripe(struct trial *t, bool clean)
     memcpy(t->before, t->wanted, stripe_bytes(t));
 }
 
+/* Begins a trial on a clean stripe, or on noise. */
+struct trial *begin_whole(enum function function, enum form form, struct cuzhaveli_shape shape, bool clean)
+{
+    struct trial *t = begin_trial(function, form, shape, "%s", content_name(clean));
+    if (t)
+        put_stripe(t, clean);
+    return t;
+}
+
 /* Before the call a disk holds noise. */
 void lose_disk(struct trial *t, size_t disk)
 {
