@@ -9,7 +9,9 @@
 #   make ARCH=x86-64-v3          besides these build/libcuzhaveli-x86-64-v3.a, the same proved source compiled for processors with
 #                                AVX2 (x86-64-v4: AVX-512); never installed, and not what rt staticlib builds (docs/TRUST.md)
 #   make ARCH=x86-64-v3 test-arch   compares that archive with the second implementation and Jerasure's vectors
-#   make install PREFIX= DESTDIR=   header, archives, cuzhaveli.pc, command and manual (PREFIX is /usr/local if not given)
+#   make manual                  writes docs/*.1 and rust/tool/completion/ anew, from the command's table
+#   make install PREFIX= DESTDIR=   header, archives, cuzhaveli.pc, command, manual and completion (PREFIX is /usr/local if
+#                                not given)
 #   make uninstall PREFIX= DESTDIR=
 #   make dist                    build/cuzhaveli-VERSION-x86_64-linux.tar.gz, after .ci/run
 #   make clean                   removes build/
@@ -30,7 +32,10 @@ warnings = -std=c99 -Wall -Wextra -pedantic -Werror
 dist = cuzhaveli-$(VERSION)-x86_64-linux
 for_arch = $(ARCH:%=build/libcuzhaveli-%.a)
 
-.PHONY: all demo examples install uninstall dist test-arch clean FORCE
+completion = rust/tool/completion
+share = $(DESTDIR)$(PREFIX)/share
+
+.PHONY: all demo manual examples install uninstall dist test-arch clean FORCE
 .DELETE_ON_ERROR:
 
 all: $(archives) $(tool) $(for_arch)
@@ -69,6 +74,16 @@ demo: build/cuzhaveli
 	@rm -rf build/demo
 	@examples/demo build/cuzhaveli build/demo
 
+manual: build/cuzhaveli
+	@mkdir -p $(completion)
+	@rm -f docs/cuzhaveli.1 docs/cuzhaveli-*.1
+	@build/cuzhaveli help --man >docs/cuzhaveli.1
+	@for name in $$(build/cuzhaveli help | sed -n 's/^  cuzhaveli \([a-z]*\) .*/\1/p'); do build/cuzhaveli help --man $$name >docs/cuzhaveli-$$name.1 || exit 1; done
+	@build/cuzhaveli help --completion bash >$(completion)/cuzhaveli.bash
+	@build/cuzhaveli help --completion zsh >$(completion)/_cuzhaveli
+	@build/cuzhaveli help --completion fish >$(completion)/cuzhaveli.fish
+	@echo "make: wrote docs/*.1 and $(completion)/"
+
 test-arch: all
 	@[ -n "$(ARCH)" ] || { echo "make: say which: make ARCH=x86-64-v3 test-arch" >&2; exit 1; }
 	@tests/arch/run $(ARCH)
@@ -78,15 +93,18 @@ install: $(archives) $(tool)
 	@install -m 644 include/cuzhaveli.h "$(DESTDIR)$(PREFIX)/include/"
 	@install -m 644 $(archives) "$(DESTDIR)$(PREFIX)/lib/"
 ifneq ($(tool),)
-	@install -d "$(DESTDIR)$(PREFIX)/bin" "$(DESTDIR)$(PREFIX)/share/man/man1"
+	@install -d "$(DESTDIR)$(PREFIX)/bin" "$(share)/man/man1" "$(share)/bash-completion/completions" "$(share)/zsh/site-functions" "$(share)/fish/vendor_completions.d"
 	@install -m 755 $(tool) "$(DESTDIR)$(PREFIX)/bin/"
-	@install -m 644 docs/cuzhaveli.1 "$(DESTDIR)$(PREFIX)/share/man/man1/"
+	@install -m 644 docs/*.1 "$(share)/man/man1/"
+	@install -m 644 $(completion)/cuzhaveli.bash "$(share)/bash-completion/completions/cuzhaveli"
+	@install -m 644 $(completion)/_cuzhaveli "$(share)/zsh/site-functions/"
+	@install -m 644 $(completion)/cuzhaveli.fish "$(share)/fish/vendor_completions.d/"
 endif
 	@sed 's|@PREFIX@|$(PREFIX)|; s|@VERSION@|$(VERSION)|' cuzhaveli.pc.in >"$(DESTDIR)$(PREFIX)/lib/pkgconfig/cuzhaveli.pc"
-	@echo "make: installed header, archives, cuzhaveli.pc$(if $(tool),$(comma) command and manual) under $(DESTDIR)$(PREFIX)"
+	@echo "make: installed header, archives, cuzhaveli.pc$(if $(tool),$(comma) command$(comma) manual and completion) under $(DESTDIR)$(PREFIX)"
 
 uninstall:
-	rm -f "$(DESTDIR)$(PREFIX)/include/cuzhaveli.h" "$(DESTDIR)$(PREFIX)/lib/libcuzhaveli.a" "$(DESTDIR)$(PREFIX)/lib/libcuzhaveli_plans.a" "$(DESTDIR)$(PREFIX)/lib/pkgconfig/cuzhaveli.pc" "$(DESTDIR)$(PREFIX)/bin/cuzhaveli" "$(DESTDIR)$(PREFIX)/share/man/man1/cuzhaveli.1"
+	rm -f "$(DESTDIR)$(PREFIX)/include/cuzhaveli.h" "$(DESTDIR)$(PREFIX)/lib/libcuzhaveli.a" "$(DESTDIR)$(PREFIX)/lib/libcuzhaveli_plans.a" "$(DESTDIR)$(PREFIX)/lib/pkgconfig/cuzhaveli.pc" "$(DESTDIR)$(PREFIX)/bin/cuzhaveli" "$(share)/man/man1/cuzhaveli.1" "$(share)/man/man1/cuzhaveli-"*.1 "$(share)/bash-completion/completions/cuzhaveli" "$(share)/zsh/site-functions/_cuzhaveli" "$(share)/fish/vendor_completions.d/cuzhaveli.fish"
 
 examples: $(archives)
 	@rm -rf "$(scratch)" && mkdir -p "$(scratch)"

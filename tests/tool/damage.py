@@ -169,7 +169,7 @@ def dirty(setting):
     done = setting.call("check", images.folder, status=1)
     expect(done.out.startswith(b"dirty,2,several\nchecked,9,bad,0,dirty,1,"), done.told())
     done = setting.call("rebuild", "--test", "--disk", 3, images.folder, status=3)
-    expect(done.err.startswith(b"cuzhaveli: refused,19: ") and done.err.endswith(b", stripe 2\n"), done.told())
+    expect(done.err.startswith(b"cuzhaveli: stripe 2: ") and done.err.endswith(b" (refusal 19)\n"), done.told())
     images.part(3).unlink(missing_ok=True)
     images.lose(3)
     done = setting.call("rebuild", images.folder, status=6)

@@ -13,6 +13,7 @@ import time
 
 LABEL = 4096
 MEMORY = pathlib.Path("/dev/shm")
+TOP = pathlib.Path(__file__).resolve().parents[2]
 
 
 class Wrong(Exception):

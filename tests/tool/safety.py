@@ -130,7 +130,7 @@ def lost_disks(setting):
         expect(setting.film(images) == FILM, f"{content[:20]}..: another film")
         setting.call("rebuild", images.folder, status=0)
         expect(images.images() == good, f"{content[:20]}..: other images")
-    stands(setting, images, 3, "rebuild", "--disk", 7, images.folder, says=b"refused,3: ")
+    stands(setting, images, 3, "rebuild", "--disk", 7, images.folder, says=b"--disk 7: the array has no disk of that number, or no data disk (refusal 3)")
     stands(setting, images, 0, "rebuild", images.folder)
     return f"{len(cases)} sorts of lost disks"
 

@@ -5,10 +5,15 @@
 
 mod args;
 mod commands;
+mod complete;
+mod help;
+mod manual;
+mod near;
 mod picture;
 mod progress;
 mod say;
 mod svg;
+mod table;
 
 use std::process::ExitCode;
 

@@ -108,7 +108,8 @@ impl Set {
             direct: false,
         };
         for disk in named {
-            label.geometry.shape.plan(*disk)?; // the library refuses a disk that the array lacks
+            let plan = label.geometry.shape.plan(*disk); // refused for a disk that the array lacks
+            plan.map_err(|refusal| Fault::Refused(refusal, format!("--disk {disk}: ")))?;
         }
         for (disk, seen) in seen.into_iter().enumerate().take(label.geometry.disks()) {
             let place = match named.contains(&disk) {

@@ -7,19 +7,40 @@ use cuzhaveli_tool::examine::{examine, Findings};
 use cuzhaveli_tool::reader::Flaw;
 use cuzhaveli_tool::set::{joined, Absence, Set};
 
-use crate::args::{Form, Given};
-use crate::commands::Command;
+use crate::args::Given;
 use crate::fault::Fault;
 use crate::progress::Progress;
 use crate::say;
+use crate::table::words::{DIR, QUIET, RATE};
+use crate::table::{Command, Kind, Opt, Use};
 
 pub const COMMAND: Command = Command {
     name: "check",
-    usage: "[-q] [--rate BYTES] [--from STRIPE] DIR",
-    about: "read every byte from the medium and compare it with its checksum, and every stripe with its parity; --rate: \
-            read no more than BYTES a second; --from: begin at STRIPE",
-    options: &[Form::Flag("-q"), Form::Value("--rate"), Form::Value("--from")],
-    operands: 1..=1,
+    brief: "does every byte fit its checksum, and every stripe its parity?",
+    about: &[
+        "Reads every byte of every image, from the medium where the file system lets it (O_DIRECT), and compares it with \
+         its checksum, and each stripe with its parity. Standard error says what to do: see AFTER A CHECK in \
+         cuzhaveli(1).",
+        "Prints a line for what it finds: lost,DISK,missing|unfinished|foreign; label,DISK,first|last for a bad label; \
+         bad,DISK,ROW,STRIPE,COUNT,sum|read for a piece, the cells of ROW of COUNT stripes from STRIPE on, that does not \
+         fit its checksum or cannot be read; block,DISK,STRIPE,COUNT for bad checksums, or other bytes than zeros after them; beyond,STRIPE,COUNT,DISKS for \
+         stripes that cannot be made right, and the disks that are lost or bad there (none: no image has their \
+         checksums); dirty,STRIPE,DISK for a stripe whose cells fit their checksums and not its parity, with the one disk \
+         whose cells alone explain it, or several; at,STRIPE once a minute: a check that is stopped goes on with --from \
+         STRIPE.",
+        "At the end checked,STRIPES,bad,N,dirty,N,beyond,N,read,BYTES,medium; cached DISKS instead of medium where the \
+         page cache may have answered for these disks.",
+    ],
+    words: &[
+        Use::May(&Use::Opt(&QUIET)),
+        Use::May(&Use::Opt(&RATE)),
+        Use::May(&Use::Opt(&Opt {
+            name: "--from",
+            value: Some(("STRIPE", Kind::Number)),
+            about: "begin at this stripe",
+        })),
+        DIR,
+    ],
     run,
 };
 

@@ -10,18 +10,34 @@ use cuzhaveli_tool::output::{folder_of, sync_folder, taken, Output};
 use cuzhaveli_tool::reader::Beyond;
 use cuzhaveli_tool::set::Set;
 
-use crate::args::{Form, Given};
-use crate::commands::Command;
+use crate::args::Given;
 use crate::fault::Fault;
 use crate::progress::Progress;
 use crate::say;
+use crate::table::words::{DIR, OVERWRITE, QUIET};
+use crate::table::{Command, Kind, Operand, Use};
 
 pub const COMMAND: Command = Command {
     name: "decode",
-    usage: "[-q] [--overwrite DRIVE] DIR FILM",
-    about: "the film back (- for stdout), with up to two images lost; --overwrite: FILM is DRIVE, and may be written",
-    options: &[Form::Flag("-q"), Form::Values("--overwrite")],
-    operands: 2..=2,
+    brief: "the film back from its images",
+    about: &[
+        "Gives the film back, with up to two images lost. A FILM that is there is not overwritten; until it is whole it \
+         is FILM.part.",
+        "Where film cannot be made right, FILM.part stays, with zeros there, and standard error says where; a pipe ends \
+         there.",
+        "Prints decoded,LENGTH,read,BYTES,mended,N unless the film goes to standard output: the bytes read, and the units \
+         of which something had to be mended.",
+    ],
+    words: &[
+        Use::May(&Use::Opt(&QUIET)),
+        Use::May(&Use::Opt(&OVERWRITE)),
+        DIR,
+        Use::Operand(&Operand {
+            name: "FILM",
+            kind: Kind::File,
+            about: "where the film goes; - for standard output",
+        }),
+    ],
     run,
 };
 

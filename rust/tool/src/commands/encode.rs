@@ -13,27 +13,37 @@ use cuzhaveli_tool::label::{hex, new_name, Label};
 use cuzhaveli_tool::output::{folder_of, lock, sync_folder, taken, Output};
 use cuzhaveli_tool::set::{image_path, MOST_DISKS};
 
-use crate::args::{usage, Form, Given};
-use crate::commands::Command;
+use crate::args::{usage, Given};
 use crate::fault::Fault;
 use crate::progress::Progress;
 use crate::say;
+use crate::table::words::{CELL, DIR, DISKS, GROUP, OVERWRITE, QUIET, UNIT, WIDTH};
+use crate::table::{Command, Kind, Operand, Use};
 
 pub const COMMAND: Command = Command {
     name: "encode",
-    usage: "-p WIDTH [-k DISKS] [-s CELL] [-u UNIT] [-g GROUP] [-q] [--overwrite DRIVE]... FILM DIR",
-    about: "make DISKS + 2 images of FILM (- for stdin) in DIR; --overwrite: DRIVE, to which an image is a link, may be \
-            written",
-    options: &[
-        Form::Value("-p"),
-        Form::Value("-k"),
-        Form::Value("-s"),
-        Form::Value("-u"),
-        Form::Value("-g"),
-        Form::Flag("-q"),
-        Form::Values("--overwrite"),
+    brief: "a film to the images of a set",
+    about: &[
+        "Makes DISKS + 2 images of FILM in DIR, which is made if it is not there: DISKS with film, P and Q.",
+        "Nothing is overwritten: an image that is there is an error, unless it is a link to a drive that --overwrite \
+         names. Images get their names once all of them are on the disks; until then they are DIR/disk-NN.img.part.",
+        "Prints encoded,SET,disks,N,stripes,N,length,N.",
     ],
-    operands: 2..=2,
+    words: &[
+        Use::Opt(&WIDTH),
+        Use::May(&Use::Opt(&DISKS)),
+        Use::May(&Use::Opt(&CELL)),
+        Use::May(&Use::Opt(&UNIT)),
+        Use::May(&Use::Opt(&GROUP)),
+        Use::May(&Use::Opt(&QUIET)),
+        Use::Any(&Use::Opt(&OVERWRITE)),
+        Use::Operand(&Operand {
+            name: "FILM",
+            kind: Kind::File,
+            about: "the file to keep; - for standard input",
+        }),
+        DIR,
+    ],
     run,
 };
 

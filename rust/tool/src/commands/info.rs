@@ -4,16 +4,19 @@ use cuzhaveli_tool::label::hex;
 use cuzhaveli_tool::set::{joined, Set};
 
 use crate::args::Given;
-use crate::commands::Command;
 use crate::fault::Fault;
 use crate::say;
+use crate::table::words::DIR;
+use crate::table::Command;
 
 pub const COMMAND: Command = Command {
     name: "info",
-    usage: "DIR",
-    about: "label and lost disks",
-    options: &[],
-    operands: 1..=1,
+    brief: "what a set is, and which of its disks are lost",
+    about: &[
+        "Prints what the labels say and the lost disks, a name and a value a line. Standard error says of images that are \
+         there and count as lost why.",
+    ],
+    words: &[DIR],
     run,
 };
 

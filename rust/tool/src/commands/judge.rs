@@ -3,19 +3,31 @@
 use std::fs::File;
 use std::io::{self, Read};
 
-use cuzhaveli::{Refusal, Shape};
+use cuzhaveli::Shape;
 
-use crate::args::{Form, Given};
-use crate::commands::Command;
+use crate::args::Given;
 use crate::fault::Fault;
 use crate::say;
+use crate::table::words::{DISKS, LOST, WIDTH};
+use crate::table::{Command, Kind, Operand, Use};
 
 pub const COMMAND: Command = Command {
     name: "judge",
-    usage: "-p WIDTH [-k DISKS] -d DISK FILE",
-    about: "judge a host's plan (`row,set,number` and a line a step; - for stdin)",
-    options: &[Form::Value("-p"), Form::Value("-k"), Form::Value("-d")],
-    operands: 1..=1,
+    brief: "is a host's plan right, and how many cells does it read?",
+    about: &[
+        "Judges a plan that is a text: the line row,set,number and a line for each step, such as 0,R,0 or 1,D,4.",
+        "Prints accepted,READS or refused,NUMBER,PLACE.",
+    ],
+    words: &[
+        Use::Opt(&WIDTH),
+        Use::May(&Use::Opt(&DISKS)),
+        Use::Opt(&LOST),
+        Use::Operand(&Operand {
+            name: "FILE",
+            kind: Kind::File,
+            about: "the plan; - for standard input",
+        }),
+    ],
     run,
 };
 
@@ -29,7 +41,8 @@ enum Verdict {
 }
 
 fn run(given: &Given) -> Result<(), Fault> {
-    let (shape, lost) = (given.shape()?, given.needed("-d")? as usize);
+    let shape = given.shape()?;
+    let lost = given.lost(shape)?;
     let mut text = Vec::new();
     let read = match given.operands[0] == "-" {
         true => io::stdin().take(MOST_TEXT).read_to_end(&mut text),
@@ -38,7 +51,7 @@ fn run(given: &Given) -> Result<(), Fault> {
         }
     };
     read.map_err(|error| Fault::path(given.path(0), error))?;
-    match judge(shape, lost, &text)? {
+    match judge(shape, lost, &text) {
         Verdict::Accepted(reads) => say::line(format!("accepted,{reads}")),
         Verdict::Refused(number, place) => {
             say::line(format!("refused,{number},{place}"))?;
@@ -48,10 +61,9 @@ fn run(given: &Given) -> Result<(), Fault> {
 }
 
 /// Judges a plan's text.
-fn judge(shape: Shape, lost: usize, text: &[u8]) -> Result<Verdict, Refusal> {
-    shape.plan(lost)?; // a disk that the array lacks is no verdict on the plan
-    Ok(match shape.judge_text(lost, text) {
+fn judge(shape: Shape, lost: usize, text: &[u8]) -> Verdict {
+    match shape.judge_text(lost, text) {
         Ok(reads) => Verdict::Accepted(reads),
         Err(refusal) => Verdict::Refused(refusal.number(), refusal.place()),
-    })
+    }
 }

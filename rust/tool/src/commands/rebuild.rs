@@ -6,47 +6,73 @@ use cuzhaveli_tool::rebuild::{rebuild, Account, Spare};
 use cuzhaveli_tool::set::{joined, Absence, Set};
 use cuzhaveli_tool::wanted::{Choice, Wanted};
 
-use crate::args::{usage, Form, Given};
-use crate::commands::bill::{bill, rates};
-use crate::commands::Command;
+use crate::args::{usage, Disk, Given};
+use crate::commands::bill::{bill, rates, told, RATES};
 use crate::fault::Fault;
 use crate::progress::Progress;
 use crate::say;
+use crate::table::words::{DIR, OVERWRITE, QUIET, RATE};
+use crate::table::{Command, Kind, Opt, Use};
 
 pub const COMMAND: Command = Command {
     name: "rebuild",
-    usage: "[-q] [-n] [--test] [--by-rows] [--rate BYTES] [--rates A,B,C] [--disk D]... [--overwrite DRIVE]... DIR",
-    about: "rebuild the lost images, or go on with it; -n: say what it would read; --test: test the survivors first; \
-            --by-rows: read every row, for comparison only; --rate: read no more than BYTES a second; --rates: bill \
-            what was read; --disk: D counts as lost; --overwrite: DRIVE, to which the image is a link, may be written",
-    options: &[
-        Form::Flag("-q"),
-        Form::Flag("-n"),
-        Form::Flag("--test"),
-        Form::Flag("--by-rows"),
-        Form::Value("--rate"),
-        Form::Value("--rates"),
-        Form::Values("--disk"),
-        Form::Values("--overwrite"),
+    brief: "the lost images of a set, from the fewest reads",
+    about: &[
+        "Rebuilds the lost images, one or two, or goes on with a rebuild that has not ended. A disk is lost if its image \
+         is missing, empty, too short or too long, unfinished, or if --disk names it. Something else in its place, such as \
+         an image of another set, is replaced only if --disk names that disk.",
+        "Prints rebuilt,DISKS,stripes,N,kept,N,read,BYTES,rows,BYTES,mended,N: the stripes that this call rebuilt, those \
+         that an earlier one had, the bytes that it read of the survivors, cells and checksums, those \
+         that all rows of the rebuilt stripes have, and the units in which a survivor was bad; with --rates also the bill, \
+         as bill prints it.",
     ],
-    operands: 1..=1,
+    words: &[
+        Use::May(&Use::Opt(&QUIET)),
+        Use::May(&Use::Opt(&Opt {
+            name: "-n",
+            value: None,
+            about: "only say which bytes of cells it would read if nothing of it were there",
+        })),
+        Use::MayOne(&[
+            Use::Opt(&Opt {
+                name: "--test",
+                value: None,
+                about: "read all survivors, and rebuild a stripe only if they belong together; stop at the first one where \
+                        they do not (refusal 19)",
+            }),
+            Use::Opt(&Opt {
+                name: "--by-rows",
+                value: None,
+                about: "read every row, as row parity alone would need; for comparison",
+            }),
+        ]),
+        Use::May(&Use::Opt(&RATE)),
+        Use::May(&Use::Opt(&RATES)),
+        Use::Any(&Use::Opt(&Opt {
+            name: "--disk",
+            value: Some(("D", Kind::Disk)),
+            about: "this disk counts as lost: its number, P or Q",
+        })),
+        Use::Any(&Use::Opt(&OVERWRITE)),
+        DIR,
+    ],
     run,
 };
 
 fn run(given: &Given) -> Result<(), Fault> {
     let folder = given.path(0);
+    given.at_most_one(&["--test", "--by-rows"])?;
     let choice = match (given.flag("--test"), given.flag("--by-rows")) {
-        (false, false) => Choice::Fewest,
-        (true, false) => Choice::Tested,
-        (false, true) => Choice::Rows,
-        (true, true) => return Err(usage("--test and --by-rows exclude each other".into())),
+        (true, _) => Choice::Tested,
+        (_, true) => Choice::Rows,
+        _ => Choice::Fewest,
     };
     let (pace, named, rates) = (given.pace()?, given.overwrite()?, rates(given)?);
     if let Some(rates) = rates {
-        bill(0, rates)?; // refused before anything is read
+        bill(given, 0, rates)?; // refused before anything is read
     }
     let _lock = if given.flag("-n") { None } else { Some(lock(folder)?) };
-    let set = Set::open(folder, &given.numbers("--disk")?)?;
+    let set = Set::open(folder, &named_disks(given)?)?;
     say::notes(&set);
     let lost = set.lost();
     testable(choice, &lost)?;
@@ -66,7 +92,21 @@ fn run(given: &Given) -> Result<(), Fault> {
     drop(progress);
     let account = done?;
     tell(&set, &lost, &account)?;
-    rates.map_or(Ok(()), |rates| say::line(bill(account.read, rates)?))
+    rates.map_or(Ok(()), |rates| say::line(told(&bill(given, account.read, rates)?)))
+}
+
+/// The disks that count as lost. P and Q have numbers once the set is known.
+fn named_disks(given: &Given) -> Result<Vec<usize>, Fault> {
+    let disks = given.disks("--disk")?;
+    let known = disks.iter().map(|disk| match disk {
+        Disk::Number(number) => Some(*number),
+        _ => None,
+    });
+    if let Some(numbers) = known.collect() {
+        return Ok(numbers);
+    }
+    let shape = Set::open(given.path(0), &[])?.label.geometry.shape;
+    Ok(disks.into_iter().map(|disk| disk.number(shape)).collect())
 }
 
 /// With two disks lost there is nothing to test survivors by.

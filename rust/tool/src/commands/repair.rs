@@ -4,19 +4,27 @@ use cuzhaveli_tool::output::{lock, Output};
 use cuzhaveli_tool::repair::{repair, Account};
 use cuzhaveli_tool::set::{joined, Set};
 
-use crate::args::{Form, Given};
-use crate::commands::Command;
+use crate::args::Given;
 use crate::fault::Fault;
 use crate::progress::Progress;
 use crate::say;
+use crate::table::words::{DIR, OVERWRITE, QUIET, RATE};
+use crate::table::{Command, Use};
 
 pub const COMMAND: Command = Command {
     name: "repair",
-    usage: "[-q] [--rate BYTES] [--overwrite DRIVE]... DIR",
-    about: "rewrite what is bad in the images, to the bytes that the checksums name; --rate: read no more than BYTES a \
-            second; --overwrite: DRIVE, whose first label is bad, may be written",
-    options: &[Form::Flag("-q"), Form::Value("--rate"), Form::Values("--overwrite")],
-    operands: 1..=1,
+    brief: "rewrite what is bad in the images, to the bytes that the checksums name",
+    about: &[
+        "Rewrites what is bad of the images that are there: pieces, checksums and labels; one disk after the other, each \
+         synced before the next. Nothing that is good is written.",
+        "Prints repaired,PIECES,blocks,N,labels,N,beyond,N,read,BYTES.",
+    ],
+    words: &[
+        Use::May(&Use::Opt(&QUIET)),
+        Use::May(&Use::Opt(&RATE)),
+        Use::Any(&Use::Opt(&OVERWRITE)),
+        DIR,
+    ],
     run,
 };
 

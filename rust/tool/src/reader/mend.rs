@@ -29,7 +29,7 @@ impl Reader<'_> {
                 Way::Two(both) => shape.rebuild_two(both, stripe),
             };
             let number = self.cells.batch.first + place as u64;
-            done.map_err(|refusal| Fault::Refused(refusal, format!(", stripe {number}")))?;
+            done.map_err(|refusal| Fault::Refused(refusal, format!("stripe {number}: ")))?;
             match wanted.way {
                 Way::Two(both) => both.iter().for_each(|disk| {
                     self.cells.put(*disk, place, &self.stripe[shape.disk_range(*disk)]);

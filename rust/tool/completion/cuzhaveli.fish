@@ -1,0 +1,68 @@
+# Completion of cuzhaveli for fish. Made by `make manual` from the table of commands.
+complete -c cuzhaveli -f
+complete -c cuzhaveli -l help -d 'what it does'
+complete -c cuzhaveli -n __fish_use_subcommand -a encode -d 'a film to the images of a set'
+complete -c cuzhaveli -n __fish_use_subcommand -a decode -d 'the film back from its images'
+complete -c cuzhaveli -n __fish_use_subcommand -a info -d 'what a set is, and which of its disks are lost'
+complete -c cuzhaveli -n __fish_use_subcommand -a check -d 'does every byte fit its checksum, and every stripe its parity?'
+complete -c cuzhaveli -n __fish_use_subcommand -a rebuild -d 'the lost images of a set, from the fewest reads'
+complete -c cuzhaveli -n __fish_use_subcommand -a repair -d 'rewrite what is bad in the images, to the bytes that the checksums name'
+complete -c cuzhaveli -n __fish_use_subcommand -a plan -d 'a picture of the plan for a lost disk'
+complete -c cuzhaveli -n __fish_use_subcommand -a judge -d 'is a host'\''s plan right, and how many cells does it read?'
+complete -c cuzhaveli -n __fish_use_subcommand -a space -d 'does a package of files fit?'
+complete -c cuzhaveli -n __fish_use_subcommand -a bill -d 'the price of bytes read'
+complete -c cuzhaveli -n __fish_use_subcommand -a help -d 'the commands, or one of them; also cuzhaveli COMMAND --help, and cuzhaveli --version'
+complete -c cuzhaveli -n '__fish_seen_subcommand_from encode' -s p -x -a '' -d 'the rows of a stripe: 3, 5, 7, 11, 13, 17, 19, 23, 29 or 31'
+complete -c cuzhaveli -n '__fish_seen_subcommand_from encode' -s k -x -a '' -d 'the data disks, 2 to WIDTH; WIDTH if it is not given'
+complete -c cuzhaveli -n '__fish_seen_subcommand_from encode' -s s -x -a '' -d 'the bytes of a cell, 1 to 4096; 4096 if it is not given'
+complete -c cuzhaveli -n '__fish_seen_subcommand_from encode' -s u -x -a '' -d 'the stripes that are verified together: 1, or up to 32768 / CELL'
+complete -c cuzhaveli -n '__fish_seen_subcommand_from encode' -s g -x -a '' -d 'the stripes that lie together, a multiple of UNIT up to 65536'
+complete -c cuzhaveli -n '__fish_seen_subcommand_from encode' -s q -d 'no progress'
+complete -c cuzhaveli -n '__fish_seen_subcommand_from encode' -l overwrite -r -F -d 'this drive may be written, whatever is on it'
+complete -c cuzhaveli -n '__fish_seen_subcommand_from encode' -F
+complete -c cuzhaveli -n '__fish_seen_subcommand_from encode' -F
+complete -c cuzhaveli -n '__fish_seen_subcommand_from decode' -s q -d 'no progress'
+complete -c cuzhaveli -n '__fish_seen_subcommand_from decode' -l overwrite -r -F -d 'this drive may be written, whatever is on it'
+complete -c cuzhaveli -n '__fish_seen_subcommand_from decode' -F
+complete -c cuzhaveli -n '__fish_seen_subcommand_from decode' -F
+complete -c cuzhaveli -n '__fish_seen_subcommand_from info' -F
+complete -c cuzhaveli -n '__fish_seen_subcommand_from check' -s q -d 'no progress'
+complete -c cuzhaveli -n '__fish_seen_subcommand_from check' -l rate -x -a '' -d 'read no more than BYTES a second, so that screens can play meanwhile'
+complete -c cuzhaveli -n '__fish_seen_subcommand_from check' -l from -x -a '' -d 'begin at this stripe'
+complete -c cuzhaveli -n '__fish_seen_subcommand_from check' -F
+complete -c cuzhaveli -n '__fish_seen_subcommand_from rebuild' -s q -d 'no progress'
+complete -c cuzhaveli -n '__fish_seen_subcommand_from rebuild' -s n -d 'only say which bytes of cells it would read if nothing of it were there'
+complete -c cuzhaveli -n '__fish_seen_subcommand_from rebuild' -l test -d 'read all survivors, and rebuild a stripe only if they belong together; stop at the first one where they do not (refusal 19)'
+complete -c cuzhaveli -n '__fish_seen_subcommand_from rebuild' -l by-rows -d 'read every row, as row parity alone would need; for comparison'
+complete -c cuzhaveli -n '__fish_seen_subcommand_from rebuild' -l rate -x -a '' -d 'read no more than BYTES a second, so that screens can play meanwhile'
+complete -c cuzhaveli -n '__fish_seen_subcommand_from rebuild' -l rates -x -a '' -d 'cents a GiB, three numbers up to 1000: for the first 64 GiB, up to 1,024 GiB, and for the rest'
+complete -c cuzhaveli -n '__fish_seen_subcommand_from rebuild' -l disk -x -a 'P Q' -d 'this disk counts as lost: its number, P or Q'
+complete -c cuzhaveli -n '__fish_seen_subcommand_from rebuild' -l overwrite -r -F -d 'this drive may be written, whatever is on it'
+complete -c cuzhaveli -n '__fish_seen_subcommand_from rebuild' -F
+complete -c cuzhaveli -n '__fish_seen_subcommand_from repair' -s q -d 'no progress'
+complete -c cuzhaveli -n '__fish_seen_subcommand_from repair' -l rate -x -a '' -d 'read no more than BYTES a second, so that screens can play meanwhile'
+complete -c cuzhaveli -n '__fish_seen_subcommand_from repair' -l overwrite -r -F -d 'this drive may be written, whatever is on it'
+complete -c cuzhaveli -n '__fish_seen_subcommand_from repair' -F
+complete -c cuzhaveli -n '__fish_seen_subcommand_from plan' -s p -x -a '' -d 'the rows of a stripe: 3, 5, 7, 11, 13, 17, 19, 23, 29 or 31'
+complete -c cuzhaveli -n '__fish_seen_subcommand_from plan' -s k -x -a '' -d 'the data disks, 2 to WIDTH; WIDTH if it is not given'
+complete -c cuzhaveli -n '__fish_seen_subcommand_from plan' -s d -x -a 'P Q' -d 'the lost disk: its number, P or Q'
+complete -c cuzhaveli -n '__fish_seen_subcommand_from plan' -l csv -d 'the steps as the plan program prints them, for as many data disks as WIDTH'
+complete -c cuzhaveli -n '__fish_seen_subcommand_from plan' -l svg -d 'the picture as SVG'
+complete -c cuzhaveli -n '__fish_seen_subcommand_from judge' -s p -x -a '' -d 'the rows of a stripe: 3, 5, 7, 11, 13, 17, 19, 23, 29 or 31'
+complete -c cuzhaveli -n '__fish_seen_subcommand_from judge' -s k -x -a '' -d 'the data disks, 2 to WIDTH; WIDTH if it is not given'
+complete -c cuzhaveli -n '__fish_seen_subcommand_from judge' -s d -x -a 'P Q' -d 'the lost disk: its number, P or Q'
+complete -c cuzhaveli -n '__fish_seen_subcommand_from judge' -F
+complete -c cuzhaveli -n '__fish_seen_subcommand_from space' -s p -x -a '' -d 'the rows of a stripe: 3, 5, 7, 11, 13, 17, 19, 23, 29 or 31'
+complete -c cuzhaveli -n '__fish_seen_subcommand_from space' -s k -x -a '' -d 'the data disks, 2 to WIDTH; WIDTH if it is not given'
+complete -c cuzhaveli -n '__fish_seen_subcommand_from space' -s s -x -a '' -d 'the bytes of a cell, 1 to 4096; 4096 if it is not given'
+complete -c cuzhaveli -n '__fish_seen_subcommand_from space' -l images -d 'count the images that encode would write, a set a file, with labels, checksums and what is filled up; -u and -g do so too'
+complete -c cuzhaveli -n '__fish_seen_subcommand_from space' -s u -x -a '' -d 'the stripes that are verified together: 1, or up to 32768 / CELL'
+complete -c cuzhaveli -n '__fish_seen_subcommand_from space' -s g -x -a '' -d 'the stripes that lie together, a multiple of UNIT up to 65536'
+complete -c cuzhaveli -n '__fish_seen_subcommand_from space' -l free -x -a '' -d 'the bytes that each disk has free'
+complete -c cuzhaveli -n '__fish_seen_subcommand_from space' -l bytes -x -a '' -d 'so many bytes'
+complete -c cuzhaveli -n '__fish_seen_subcommand_from space' -F
+complete -c cuzhaveli -n '__fish_seen_subcommand_from bill' -l rates -x -a '' -d 'cents a GiB, three numbers up to 1000: for the first 64 GiB, up to 1,024 GiB, and for the rest'
+complete -c cuzhaveli -n '__fish_seen_subcommand_from bill' -l bytes -x -a '' -d 'so many bytes'
+complete -c cuzhaveli -n '__fish_seen_subcommand_from help' -l man -d 'the manual page'
+complete -c cuzhaveli -n '__fish_seen_subcommand_from help' -l completion -x -a 'bash zsh fish' -d 'a script that completes command lines in bash, zsh or fish'
+complete -c cuzhaveli -n '__fish_seen_subcommand_from help' -a 'encode decode info check rebuild repair plan judge space bill help'
