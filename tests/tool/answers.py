@@ -43,7 +43,7 @@ def infos(setting):
     setting.call("info", setting.new(), status=4)
     setting.call("info", images.path(0), status=4)
     done = setting.call("rebuild", "-n", setting.encoded(noise(10), 3).folder, status=0)
-    expect(done.out == b"would,none,stripes,0,read,0,rows,0\n", done.told())
+    expect(done.out == b"would,none,stripes,0,read,0,rows,0,busiest,0,plan,none\n", done.told())
     return "7 calls"
 
 

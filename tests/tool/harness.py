@@ -91,6 +91,11 @@ class Setting:
         expect(status is None or done.status == status, f"status {status} expected: {done.told()}")
         return done
 
+    def told(self, *words, status=0):
+        """The figures that a call tells, by their names."""
+        fields = self.call(*words, status=status).fields()
+        return {name: int(value) if value.isdigit() else value for name, value in fields.items()}
+
     def measured(self, *words):
         """The same with what the kernel counted of the call."""
         out = self.new()

@@ -107,7 +107,7 @@ def every_way(setting):
         rows = images.k * images.p * images.s * images.stripes
         blocks = images.block_len * images.units()
         for disk in range(images.disks):
-            for way, read in ((["--by-rows"], rows), (["--test"], rows + rows // images.k), ([], None)):
+            for way, read in ((["--plan", "rows"], rows), (["--test"], rows + rows // images.k), ([], None)):
                 done = setting.call("rebuild", *way, "--disk", disk, images.folder, status=0)
                 expect(images.images() == before, f"{way} of disk {disk}: other bytes")
                 told = done.fields()

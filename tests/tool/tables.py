@@ -65,7 +65,7 @@ def manual_pages(setting):
 
 # what is typed, and what must be offered and what must not
 TYPED = [("cuzhaveli re", {"rebuild", "repair"}, {"info", "--help"}), ("cuzhaveli rebuild --d", {"--disk"}, {"--test"}),
-         ("cuzhaveli help re", {"rebuild"}, {"info"}), ("cuzhaveli rebuild --disk ", {"P", "Q"}, {"--disk"}),
+         ("cuzhaveli rebuild --plan ", {"balanced", "own", "rows", "film"}, {"--plan"}), ("cuzhaveli help re", {"rebuild"}, {"info"}), ("cuzhaveli rebuild --disk ", {"P", "Q"}, {"--disk"}),
          ("cuzhaveli help --completion ", {"bash", "fish"}, {"--man"}), ("cuzhaveli info f", {"film"}, {"info"}),
          ("cuzhaveli bill --by", {"--bytes"}, {"film"})]
 
@@ -129,7 +129,7 @@ def synopsis_runs(setting):
     except OSError:
         drive = None
     kept = setting.encoded(noise(9000), 5, s=64).folder
-    values = {"WIDTH": 5, "DISKS": 5, "CELL": 64, "UNIT": 2, "GROUP": 4, "STRIPE": 1, "BYTES": "1M", "N": 5000, "DISK": "P", "D": 1,
+    values = {"WIDTH": 5, "DISKS": 5, "CELL": 64, "UNIT": 2, "GROUP": 4, "STRIPE": 1, "BYTES": "1M", "N": 5000, "DISK": 0, "D": 1, "R": 2, "PLAN": plan,
               "A,B,C": "3,2,1", "SHELL": "zsh", "COMMAND": "encode", "DRIVE": drive, "FILE": plan, "FILE...": film}
     count = 0
     for line in synopsis():

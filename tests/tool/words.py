@@ -20,7 +20,7 @@ def usage_errors(setting):
              ["check", "--rate", 0, images], ["repair"], ["repair", "--disk", 1, images], ["check", "--from", "x", images], ["encode", "-p", 5, "-q", "-q", film, folder],
              ["encode", "-p", 5, film, folder, "-s"], ["encode", "--", "-p", 5, film, folder], ["decode", images],
              ["info"], ["info", "--images"], ["info", images, images], ["check", "-n", images], ["rebuild"], ["rebuild", "--disk", images], ["rebuild", "--rates", "1,2", images],
-             ["rebuild", "--test", "--by-rows", images], ["rebuild", "--test", "--disk", 0, "--disk", 1, images],
+             ["rebuild", "--test", "--plan", "rows", "--disk", 1, images], ["rebuild", "--test", "--disk", 0, "--disk", 1, images],
              ["plan", "-p", 5], ["plan", "-d", 1], ["plan", "-p", 5, "-d", 1, "x"], ["plan", "-p", 5, "-d", 1, "--csv", "--svg"],
              ["plan", "-p", 5, "-k", 4, "-d", 1, "--csv"], ["judge", "-p", 5, "-d", 1], ["space", "-p", 5, "--free", 1],
              ["space", "-p", 5, "--bytes", 1], ["space", "-p", 5, "--free", 1, "--bytes", 1, film], ["bill", "--bytes", 1],

@@ -32,11 +32,13 @@ _cuzhaveli() {
             esac ;;
         rebuild)
             case $before in
+            --plan) words='balanced own rows' files=yes ;;
+            --relieve) words='P Q' files='' ;;
             --rate) words='' files='' ;;
             --rates) words='' files='' ;;
             --disk) words='P Q' files='' ;;
             --overwrite) words='' files=yes ;;
-            *) words='-q -n --test --by-rows --rate --rates --disk --overwrite --help' files=yes ;;
+            *) words='-q -n --plan --relieve --test --rate --rates --disk --overwrite --help' files=yes ;;
             esac ;;
         repair)
             case $before in
@@ -49,7 +51,8 @@ _cuzhaveli() {
             -p) words='' files='' ;;
             -k) words='' files='' ;;
             -d) words='P Q' files='' ;;
-            *) words='-p -k -d --csv --svg --help' files='' ;;
+            --relieve) words='P Q' files='' ;;
+            *) words='-p -k -d --balanced --relieve --svg --csv --help' files='' ;;
             esac ;;
         judge)
             case $before in
@@ -82,9 +85,9 @@ _cuzhaveli() {
             esac ;;
         esac
     fi
-    COMPREPLY=($(compgen -W "$words" -- "$word"))
+    mapfile -t COMPREPLY < <(compgen -W "$words" -- "$word")
     if [ -n "$files" ] && [ "${word#-}" = "$word" ]; then
-        COMPREPLY=($(compgen -f -- "$word"))
+        mapfile -t -O "${#COMPREPLY[@]}" COMPREPLY < <(compgen -f -- "$word")
     fi
 }
 complete -o filenames -F _cuzhaveli cuzhaveli

@@ -28,6 +28,7 @@ fn choices(kind: Kind) -> (Vec<&'static str>, bool) {
         Kind::File | Kind::Folder => (vec![], true),
         Kind::Command => (names(), false),
         Kind::Word(words) => (words.to_vec(), false),
+        Kind::WordOrFile(words) => (words.to_vec(), true),
     }
 }
 
@@ -73,9 +74,9 @@ _cuzhaveli() {{
         case ${{COMP_WORDS[1]}} in
 {commands}        esac
     fi
-    COMPREPLY=($(compgen -W "$words" -- "$word"))
+    mapfile -t COMPREPLY < <(compgen -W "$words" -- "$word")
     if [ -n "$files" ] && [ "${{word#-}}" = "$word" ]; then
-        COMPREPLY=($(compgen -f -- "$word"))
+        mapfile -t -O "${{#COMPREPLY[@]}}" COMPREPLY < <(compgen -f -- "$word")
     fi
 }}
 complete -o filenames -F _cuzhaveli cuzhaveli
@@ -89,6 +90,9 @@ fn zsh_action(kind: Kind) -> String {
         (words, false) if words.is_empty() => " ".into(),
         (words, false) => format!("({})", words.join(" ")),
         _ if kind == Kind::Folder => "_files -/".into(),
+        (words, true) if !words.is_empty() => {
+            format!("{{_alternative \"plans:plan:({})\" files:file:_files}}", words.join(" "))
+        }
         _ => "_files".into(),
     }
 }

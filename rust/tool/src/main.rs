@@ -10,6 +10,7 @@ mod help;
 mod manual;
 mod near;
 mod picture;
+mod plan_text;
 mod progress;
 mod say;
 mod svg;

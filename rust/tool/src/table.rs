@@ -18,6 +18,8 @@ pub enum Kind {
     Command,
     /// One of these words.
     Word(&'static [&'static str]),
+    /// One of these words, or a file.
+    WordOrFile(&'static [&'static str]),
 }
 
 /// An option.

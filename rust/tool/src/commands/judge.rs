@@ -1,12 +1,10 @@
 //! `judge`: a host's plan.
 
-use std::fs::File;
-use std::io::{self, Read};
-
 use cuzhaveli::Shape;
 
 use crate::args::Given;
 use crate::fault::Fault;
+use crate::plan_text::read_text;
 use crate::say;
 use crate::table::words::{DISKS, LOST, WIDTH};
 use crate::table::{Command, Kind, Operand, Use};
@@ -31,9 +29,6 @@ pub const COMMAND: Command = Command {
     run,
 };
 
-/// More than any plan has: a text of so many bytes is refused as any that is too long.
-const MOST_TEXT: u64 = 4096;
-
 /// What the judge says of a plan.
 enum Verdict {
     Accepted(u32),
@@ -43,14 +38,7 @@ enum Verdict {
 fn run(given: &Given) -> Result<(), Fault> {
     let shape = given.shape()?;
     let lost = given.lost(shape)?;
-    let mut text = Vec::new();
-    let read = match given.operands[0] == "-" {
-        true => io::stdin().take(MOST_TEXT).read_to_end(&mut text),
-        false => {
-            File::open(given.path(0)).and_then(|file| file.take(MOST_TEXT).read_to_end(&mut text))
-        }
-    };
-    read.map_err(|error| Fault::path(given.path(0), error))?;
+    let text = read_text(&given.operands[0])?;
     match judge(shape, lost, &text) {
         Verdict::Accepted(reads) => say::line(format!("accepted,{reads}")),
         Verdict::Refused(number, place) => {

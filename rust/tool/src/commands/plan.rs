@@ -1,4 +1,6 @@
-//! `plan`: a picture of our plan, or its text.
+//! `plan`: a picture of a plan, or the text of ours.
+
+use cuzhaveli::{Plan, Shape};
 
 use crate::args::{usage, Given};
 use crate::fault::Fault;
@@ -6,23 +8,38 @@ use crate::picture::Picture;
 use crate::say;
 use crate::svg;
 use crate::table::words::{DISKS, LOST, WIDTH};
-use crate::table::{Command, Opt, Use};
+use crate::table::{Command, Kind, Opt, Use};
 
 pub const COMMAND: Command = Command {
     name: "plan",
     brief: "a picture of the plan for a lost disk",
-    about: &["Draws which cells the plan reads, and for what; beside each row the set that rebuilds its lost cell."],
+    about: &[
+        "Draws which cells the plan reads, and for what; beside each row the set that rebuilds its lost cell, below each \
+         disk how many of its cells are read, and the most that are of one.",
+    ],
     words: &[
         Use::Opt(&WIDTH),
         Use::May(&Use::Opt(&DISKS)),
         Use::Opt(&LOST),
         Use::MayOne(&[
             Use::Opt(&Opt {
+                name: "--balanced",
+                value: None,
+                about: "the plan of which no survivor gives more than it must",
+            }),
+            Use::Opt(&Opt {
+                name: "--relieve",
+                value: Some(("R", Kind::Disk)),
+                about: "the plan that asks the least of this data disk",
+            }),
+        ]),
+        Use::MayOne(&[
+            Use::Opt(&Opt { name: "--svg", value: None, about: "the picture as SVG" }),
+            Use::Opt(&Opt {
                 name: "--csv",
                 value: None,
-                about: "the steps as the plan program prints them, for as many data disks as WIDTH",
+                about: "the steps of our plan as the plan program prints them, for as many data disks as WIDTH",
             }),
-            Use::Opt(&Opt { name: "--svg", value: None, about: "the picture as SVG" }),
         ]),
     ],
     run,
@@ -30,15 +47,37 @@ pub const COMMAND: Command = Command {
 
 fn run(given: &Given) -> Result<(), Fault> {
     given.at_most_one(&["--csv", "--svg"])?;
+    given.at_most_one(&["--balanced", "--relieve"])?;
     let shape = given.shape()?;
     let lost = given.lost(shape)?;
-    let picture = Picture::of(shape, lost)?;
+    if given.flag("--csv") {
+        return csv(given, shape, lost);
+    }
+    let (plan, name) = plan(given, shape, lost)?;
+    let picture = Picture::of(shape, lost, &plan, name)?;
     if given.flag("--svg") {
         return say::bytes(svg::draw(&picture).as_bytes());
     }
-    if !given.flag("--csv") {
-        return say::bytes(picture.text().as_bytes());
+    say::bytes(picture.text().as_bytes())
+}
+
+/// The plan that was asked for, and its name; for P and Q there is ours alone.
+fn plan(given: &Given, shape: Shape, lost: usize) -> Result<(Plan, String), Fault> {
+    if let Some(disk) = given.disk("--relieve", shape)? {
+        let plan = shape.relief_plan(lost, disk);
+        let plan = plan.map_err(|refusal| given.refused("--relieve", refusal))?;
+        return Ok((plan, format!("relief of disk {disk}")));
     }
+    match given.flag("--balanced") {
+        true => Ok((shape.balanced_plan(lost)?, "balanced plan".into())),
+        false => Ok((shape.plan(lost)?, "own plan".into())),
+    }
+}
+
+/// The plan program's text.
+fn csv(given: &Given, shape: Shape, lost: usize) -> Result<(), Fault> {
+    given.at_most_one(&["--csv", "--balanced"])?;
+    given.at_most_one(&["--csv", "--relieve"])?;
     if shape.disks() != shape.width() {
         return Err(usage("--csv is for as many data disks as WIDTH; leave -k out".into()));
     }

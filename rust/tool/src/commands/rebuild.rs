@@ -1,5 +1,9 @@
 //! `rebuild`: the lost images of a set.
 
+use std::ffi::OsStr;
+use std::path::Path;
+
+use cuzhaveli::Shape;
 use cuzhaveli_tool::drives::{apart, drive_at, Overwrite};
 use cuzhaveli_tool::output::{lock, Output};
 use cuzhaveli_tool::rebuild::{rebuild, Account, Spare};
@@ -9,10 +13,15 @@ use cuzhaveli_tool::wanted::{Choice, Wanted};
 use crate::args::{usage, Disk, Given};
 use crate::commands::bill::{bill, rates, told, RATES};
 use crate::fault::Fault;
+use crate::near::meant;
+use crate::plan_text::{read_text, steps};
 use crate::progress::Progress;
 use crate::say;
 use crate::table::words::{DIR, OVERWRITE, QUIET, RATE};
 use crate::table::{Command, Kind, Opt, Use};
+
+/// The plans that have a name.
+const PLANS: &[&str] = &["balanced", "own", "rows"];
 
 pub const COMMAND: Command = Command {
     name: "rebuild",
@@ -35,15 +44,23 @@ pub const COMMAND: Command = Command {
         })),
         Use::MayOne(&[
             Use::Opt(&Opt {
+                name: "--plan",
+                value: Some(("PLAN", Kind::WordOrFile(PLANS))),
+                about: "the plan for one lost data disk: balanced, of which no survivor gives more than it must; own, which \
+                        the library's usual call takes; rows, every row as row parity alone would need, for comparison; or a \
+                        file with a plan, as cuzhaveli-judge(1) takes it (- for standard input). If it is not given, \
+                        balanced where it reads as few cells as own, else own",
+            }),
+            Use::Opt(&Opt {
+                name: "--relieve",
+                value: Some(("R", Kind::Disk)),
+                about: "the plan that asks the least of this data disk, one that is slow, failing or playing",
+            }),
+            Use::Opt(&Opt {
                 name: "--test",
                 value: None,
                 about: "read all survivors, and rebuild a stripe only if they belong together; stop at the first one where \
                         they do not (refusal 19)",
-            }),
-            Use::Opt(&Opt {
-                name: "--by-rows",
-                value: None,
-                about: "read every row, as row parity alone would need; for comparison",
             }),
         ]),
         Use::May(&Use::Opt(&RATE)),
@@ -61,12 +78,7 @@ pub const COMMAND: Command = Command {
 
 fn run(given: &Given) -> Result<(), Fault> {
     let folder = given.path(0);
-    given.at_most_one(&["--test", "--by-rows"])?;
-    let choice = match (given.flag("--test"), given.flag("--by-rows")) {
-        (true, _) => Choice::Tested,
-        (_, true) => Choice::Rows,
-        _ => Choice::Fewest,
-    };
+    given.at_most_one(&["--plan", "--relieve", "--test"])?;
     let (pace, named, rates) = (given.pace()?, given.overwrite()?, rates(given)?);
     if let Some(rates) = rates {
         bill(given, 0, rates)?; // refused before anything is read
@@ -75,13 +87,16 @@ fn run(given: &Given) -> Result<(), Fault> {
     let set = Set::open(folder, &named_disks(given)?)?;
     say::notes(&set);
     let lost = set.lost();
-    testable(choice, &lost)?;
-    let wanted = Wanted::rebuild(&set, &lost, choice)?;
+    let choice = choice(given, set.label.geometry.shape, &lost)?;
+    let wanted = Wanted::rebuild(&set, &lost, &choice);
+    let wanted = wanted.map_err(|refusal| given.refused("--relieve", refusal))?;
     if given.flag("-n") {
         return would(&set, &lost, &wanted);
     }
     if lost.is_empty() {
-        return say::line("rebuilt,none,stripes,0,kept,0,read,0,rows,0,mended,0");
+        return say::line(
+            "rebuilt,none,stripes,0,kept,0,read,0,rows,0,mended,0,busiest,0,plan,none",
+        );
     }
     let spares = spares(&set, &lost, &named)?;
     let what = format!("rebuild disk {}", joined(&lost));
@@ -91,8 +106,40 @@ fn run(given: &Given) -> Result<(), Fault> {
     let done = rebuild(&set, &spares, &wanted, pace, |stripes| progress.add(stripes * each));
     drop(progress);
     let account = done?;
-    tell(&set, &lost, &account)?;
+    tell(&set, &lost, &wanted, &account)?;
     rates.map_or(Ok(()), |rates| say::line(told(&bill(given, account.read, rates)?)))
+}
+
+/// The plan that was asked for. With two disks lost there is none to choose, nor anything to test survivors by.
+fn choice(given: &Given, shape: Shape, lost: &[usize]) -> Result<Choice, Fault> {
+    let given_one = ["--plan", "--relieve", "--test"].into_iter().find(|name| given.flag(name));
+    let (Some(name), [one, more @ ..]) = (given_one, lost) else { return Ok(Choice::Fewest) };
+    if !more.is_empty() {
+        return Err(usage(format!(
+            "{name}: with two disks lost all survivors are read, and any belong together; leave it out"
+        )));
+    }
+    if let Some(relieved) = given.disk("--relieve", shape)? {
+        return Ok(Choice::Relief(relieved));
+    }
+    let Some(plan) = given.value("--plan") else { return Ok(Choice::Tested) };
+    match plan.to_str() {
+        Some("balanced") => Ok(Choice::Balanced),
+        Some("own") => Ok(Choice::Ours),
+        Some("rows") => Ok(Choice::Rows),
+        _ => steps(shape, *one, &plan_file(plan)?)
+            .map(Choice::Plan)
+            .map_err(|refusal| given.refused("--plan", refusal)),
+    }
+}
+
+/// The text of a plan's file; of a word that is neither a file nor a plan's name, that name.
+fn plan_file(plan: &OsStr) -> Result<Vec<u8>, Fault> {
+    if plan != "-" && !Path::new(plan).exists() {
+        let near = meant(&plan.to_string_lossy(), PLANS.iter().copied());
+        return Err(usage(format!("--plan {}: no such plan, and no file{near}", plan.display())));
+    }
+    read_text(plan)
 }
 
 /// The disks that count as lost. P and Q have numbers once the set is known.
@@ -109,23 +156,17 @@ fn named_disks(given: &Given) -> Result<Vec<usize>, Fault> {
     Ok(disks.into_iter().map(|disk| disk.number(shape)).collect())
 }
 
-/// With two disks lost there is nothing to test survivors by.
-fn testable(choice: Choice, lost: &[usize]) -> Result<(), Fault> {
-    if choice == Choice::Tested && lost.len() == 2 {
-        return Err(usage(
-            "--test: with two disks lost any survivors belong together; leave it out".into(),
-        ));
-    }
-    Ok(())
-}
-
 /// Says what a rebuild would read of cells, if nothing of it is there yet.
 fn would(set: &Set, lost: &[usize], wanted: &Wanted) -> Result<(), Fault> {
     let geometry = set.label.geometry;
     let stripes = if lost.is_empty() { 0 } else { geometry.stripes };
     let read = (wanted.reads() * geometry.shape.cell_size()) as u64 * stripes;
     let rows = stripes * geometry.shape.data_len() as u64;
-    say::line(format!("would,{},stripes,{stripes},read,{read},rows,{rows}", joined(lost)))
+    let busiest = (wanted.busiest() * geometry.shape.cell_size()) as u64 * stripes;
+    let (disks, plan) = (joined(lost), wanted.way.name());
+    say::line(format!(
+        "would,{disks},stripes,{stripes},read,{read},rows,{rows},busiest,{busiest},plan,{plan}"
+    ))
 }
 
 /// The images to be written, gone on with or begun.
@@ -187,13 +228,14 @@ fn strangers(set: &Set, lost: &[usize]) -> Result<(), Fault> {
     )))
 }
 
-fn tell(set: &Set, lost: &[usize], account: &Account) -> Result<(), Fault> {
-    let Account { stripes, kept, read, mended, beyond } = account;
+fn tell(set: &Set, lost: &[usize], wanted: &Wanted, account: &Account) -> Result<(), Fault> {
+    let Account { stripes, kept, read, busiest, mended, beyond } = account;
     if beyond.is_empty() {
         let rows = stripes * set.label.geometry.shape.data_len() as u64;
-        let disks = joined(lost);
+        let (disks, plan) = (joined(lost), wanted.way.name());
         return say::line(format!(
-            "rebuilt,{disks},stripes,{stripes},kept,{kept},read,{read},rows,{rows},mended,{mended}"
+            "rebuilt,{disks},stripes,{stripes},kept,{kept},read,{read},rows,{rows},mended,{mended},busiest,{busiest},\
+             plan,{plan}"
         ));
     }
     beyond.iter().for_each(|beyond| say::beyond(set, beyond));
