@@ -17,15 +17,15 @@ def following_check(setting):
     before = images.images()
     images.flip(1, images.offset(1, 2) + 3)
     images.flip(4, images.offset(6, 0))
-    done = setting.call("check", images.folder, status=1)
-    expect(done.out.startswith(b"bad,1,2,0,2,sum\nbad,4,0,6,2,sum\nchecked,9,bad,2,dirty,0,beyond,0,"), done.told())
+    done = setting.told("check", images.folder, status=1)
+    expect(done.found() == [("bad", 1, 2, 0, 2, "sum"), ("bad", 4, 0, 6, 2, "sum")] and done.sums() == (9, 2, 0, 0), done.told())
     expect(b"cuzhaveli repair " in done.err, done.told())
     images_now = images.images()
     setting.call("rebuild", "--disk", 1, images.folder, status=0)
     expect(images.path(1).read_bytes() == before[1], "a rebuild took over the bad byte of another disk")
     images.write(images_now)
-    done = setting.call("repair", images.folder, status=0)
-    expect(done.out.startswith(b"repaired,2,blocks,0,labels,0,beyond,0,"), done.told())
+    done = setting.told("repair", images.folder)
+    expect((done["pieces"], done["blocks"], done["labels"], done["beyond"]) == (2, 0, 0, []), done.told())
     expect(images.images() == before, "repair gave other images")
     done = setting.call("check", images.folder, status=0)
     expect(done.err == b"", done.told())
@@ -87,21 +87,21 @@ def checksum_blocks(setting):
     film, images = small(setting)
     before = images.images()
     images.flip(3, images.block(1) + images.block_len + 7)  # a byte after them, where zeros are
-    done = setting.call("check", images.folder, status=1)
-    expect(done.out.startswith(b"block,3,2,2\n"), done.told())
+    done = setting.told("check", images.folder, status=1)
+    expect(done.found() == [("block", 3, 2, 2)], done.told())
     setting.call("repair", images.folder, status=0)
     expect(images.images() == before, "repair gave other images")
     for count in range(1, images.disks + 1):
         for disk in range(count):
             images.flip(disk, images.block(2) + 9 * disk, 16)
-        done = setting.call("check", images.folder)
+        done = setting.told("check", images.folder, status=None)
         if count < images.disks:
-            expect(done.status == 1 and done.out.count(b"block,") == count, done.told())
+            expect(done.status == 1 and [one[0] for one in done.found()] == ["block"] * count, done.told())
             expect(setting.film(images) == film, f"{count} bad blocks: another film")
             setting.call("repair", images.folder, status=0)
             expect(images.images() == before, f"{count} bad blocks: repair gave other images")
         else:
-            expect(done.status == 6 and b"beyond,4,2,none\n" in done.out, done.told())
+            expect(done.status == 6 and ("beyond", 4, 2, ()) in done.found(), done.told())
             done = setting.call("decode", images.folder, out := setting.new(), status=6)
             gap = 2 * 5 * 5 * 16
             kept = out.with_name(out.name + ".part").read_bytes()
@@ -126,8 +126,8 @@ def stale_and_misplaced(setting):
             image[at:at + size] = source[start:start + size]
             images.path(disk).write_bytes(image)
             expect(setting.film(images) == film, f"disk {disk}: another film")
-            done = setting.call("check", images.folder, status=1)
-            expect(f"bad,{disk},1,2,2,sum\n".encode() in done.out, done.told())
+            done = setting.told("check", images.folder, status=1)
+            expect(("bad", disk, 1, 2, 2, "sum") in done.found(), done.told())
             images.path(disk).write_bytes(before[disk])
     # the whole unit of an older set, sums and all
     for disk in range(images.disks):
@@ -161,13 +161,13 @@ def dirty(setting):
 
     for disk in range(images.disks):
         images.write(resealed([(disk, 7, 3)]))
-        done = setting.call("check", images.folder, status=1)
-        expect(done.out.startswith(f"dirty,7,{disk}\nchecked,9,bad,0,dirty,1,beyond,0,".encode()), done.told())
+        done = setting.told("check", images.folder, status=1)
+        expect(done.found() == [("dirty", 7, (disk,))] and done.sums() == (9, 0, 1, 0), done.told())
         expect(b"encode it anew" in done.err and b"repair" not in done.err, done.told())
         expect((setting.film(images) == film) == (disk >= images.k), "the film is not what the sums say")
     images.write(resealed([(0, 2, 0), (1, 2, 3)]))
-    done = setting.call("check", images.folder, status=1)
-    expect(done.out.startswith(b"dirty,2,several\nchecked,9,bad,0,dirty,1,"), done.told())
+    done = setting.told("check", images.folder, status=1)
+    expect(done.found() == [("dirty", 2, ())] and done.sums() == (9, 0, 1, 0), done.told())
     done = setting.call("rebuild", "--test", "--disk", 3, images.folder, status=3)
     expect(done.err.startswith(b"cuzhaveli: stripe 2: ") and done.err.endswith(b" (refusal 19)\n"), done.told())
     images.part(3).unlink(missing_ok=True)
@@ -189,15 +189,15 @@ def labels(setting):
             images.flip(disk, place)
         expect(setting.film(images) == film, "another film")
         setting.call("info", images.folder, status=0)
-        done = setting.call("check", images.folder, status=1)
+        done = setting.told("check", images.folder, status=1)
         which = "first" if places[0] < LABEL else "last"
-        expect(done.out.startswith(f"label,{disk},{which}\nchecked,9,bad,1,".encode()), done.told())
-        done = setting.call("repair", images.folder, status=0)
-        expect(images.images() == before and done.fields()["labels"] == "1", done.told())
+        expect(done.found() == [("label", disk, which)] and done.sums() == (9, 1, 0, 0), done.told())
+        done = setting.told("repair", images.folder)
+        expect(images.images() == before and done["labels"] == 1, done.told())
     for place in (0, images.end()):
         images.flip(2, place)
-    done = setting.call("check", images.folder, status=1)
-    expect(b"lost,2,foreign\n" in done.out and b"has damaged labels" in done.err, done.told())
+    done = setting.told("check", images.folder, status=1)
+    expect(("lost", 2, "foreign") in done.found() and b"has damaged labels" in done.err, done.told())
     setting.call("rebuild", images.folder, status=5)
     setting.call("rebuild", "--disk", 2, images.folder, status=0)
     expect(images.images() == before, "other images")
@@ -217,8 +217,8 @@ def wide_damage(setting):
     for disk in (0, 1, 2):
         images.path(disk).write_bytes(before[disk][:LABEL] + noise(images.end() - LABEL, disk) + before[disk][-LABEL:])
     spoiled = images.images()
-    done = setting.call("repair", images.folder, status=6)
-    expect(done.out.startswith(f"repaired,0,blocks,{3 * images.units()},".encode()), done.told())
+    done = setting.told("repair", images.folder, status=6)
+    expect((done["pieces"], done["blocks"], len(done["beyond"])) == (0, 3 * images.units(), images.units()), done.told())
     for disk, row, unit in itertools.product(range(images.disks), range(images.p), range(images.units())):
         now = images.piece(images.path(disk).read_bytes(), row, unit)
         expect(now == images.piece(spoiled[disk], row, unit), "repair wrote where nothing can be made right")

@@ -36,11 +36,11 @@ def killed_rebuilds(setting):
             for disk in lost:
                 whole = images.path(disk).exists()
                 expect(not whole or images.path(disk).read_bytes() == before[disk], f"kill {moment}: an image that is not whole")
-            done = setting.call("rebuild", images.folder, status=0)
+            done = setting.told("rebuild", images.folder)
             expect(images.images() == before, f"lost {lost}, kill {moment}: other bytes after going on")
             left = [path.name for path in images.folder.iterdir() if not path.name.endswith(".img")]
             expect(not left, f"kill {moment}: {left} is left")
-            kept = max(kept, int(done.fields()["kept"]))
+            kept = max(kept, done["kept"])
             if ended:
                 break
             kills, moment = kills + 1, moment + 1

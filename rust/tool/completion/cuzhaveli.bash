@@ -13,22 +13,22 @@ _cuzhaveli() {
             -u) words='' files='' ;;
             -g) words='' files='' ;;
             --overwrite) words='' files=yes ;;
-            *) words='-p -k -s -u -g -q --overwrite --help' files=yes ;;
+            *) words='-p -k -s -u -g -q --json --overwrite --help' files=yes ;;
             esac ;;
         decode)
             case $before in
             --overwrite) words='' files=yes ;;
-            *) words='-q --overwrite --help' files=yes ;;
+            *) words='-q --json --overwrite --help' files=yes ;;
             esac ;;
         info)
             case $before in
-            *) words='--help' files=yes ;;
+            *) words='--json --help' files=yes ;;
             esac ;;
         check)
             case $before in
             --rate) words='' files='' ;;
             --from) words='' files='' ;;
-            *) words='-q --rate --from --help' files=yes ;;
+            *) words='-q --json --rate --from --help' files=yes ;;
             esac ;;
         rebuild)
             case $before in
@@ -38,13 +38,13 @@ _cuzhaveli() {
             --rates) words='' files='' ;;
             --disk) words='P Q' files='' ;;
             --overwrite) words='' files=yes ;;
-            *) words='-q -n --plan --relieve --test --rate --rates --disk --overwrite --help' files=yes ;;
+            *) words='-q --json -n --plan --relieve --test --rate --rates --disk --overwrite --help' files=yes ;;
             esac ;;
         repair)
             case $before in
             --rate) words='' files='' ;;
             --overwrite) words='' files=yes ;;
-            *) words='-q --rate --overwrite --help' files=yes ;;
+            *) words='-q --json --rate --overwrite --help' files=yes ;;
             esac ;;
         plan)
             case $before in
@@ -52,14 +52,14 @@ _cuzhaveli() {
             -k) words='' files='' ;;
             -d) words='P Q' files='' ;;
             --relieve) words='P Q' files='' ;;
-            *) words='-p -k -d --balanced --relieve --svg --csv --help' files='' ;;
+            *) words='-p -k -d --balanced --relieve --json --svg --csv --help' files='' ;;
             esac ;;
         judge)
             case $before in
             -p) words='' files='' ;;
             -k) words='' files='' ;;
             -d) words='P Q' files='' ;;
-            *) words='-p -k -d --help' files=yes ;;
+            *) words='-p -k -d --json --help' files=yes ;;
             esac ;;
         space)
             case $before in
@@ -70,13 +70,13 @@ _cuzhaveli() {
             -g) words='' files='' ;;
             --free) words='' files='' ;;
             --bytes) words='' files='' ;;
-            *) words='-p -k -s --images -u -g --free --bytes --help' files=yes ;;
+            *) words='-p -k -s --images -u -g --json --free --bytes --help' files=yes ;;
             esac ;;
         bill)
             case $before in
             --rates) words='' files='' ;;
             --bytes) words='' files='' ;;
-            *) words='--rates --bytes --help' files='' ;;
+            *) words='--rates --bytes --json --help' files='' ;;
             esac ;;
         help)
             case $before in

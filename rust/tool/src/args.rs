@@ -296,6 +296,7 @@ mod tests {
             Use::Any(&Use::Opt(&LOST)),
             DIR,
         ],
+        tells: &[],
         run: |_| Ok(()),
     };
 

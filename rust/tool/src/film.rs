@@ -53,7 +53,7 @@ impl<'a> Film<'a> {
         let some = Wanted::cells(readings);
         let beyond = self.reader.load(batch, if there { &some } else { &self.whole })?;
         if let [beyond, ..] = &beyond[..] {
-            return Err(Fault::Beyond(beyond.told()));
+            return Err(Fault::Beyond(beyond.told(self.geometry.shape)));
         }
         self.copy(at, bytes);
         Ok(())

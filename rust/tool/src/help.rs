@@ -41,6 +41,10 @@ pub fn of(command: &Command) -> String {
         text.push('\n');
     }
     words.iter().for_each(|(name, about)| text += &listed(name, about));
+    if !command.tells.is_empty() {
+        text += "\nThe object of --json:\n";
+    }
+    command.tells.iter().for_each(|(name, about)| text += &listed(name, about));
     text
 }
 

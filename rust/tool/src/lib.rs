@@ -15,6 +15,7 @@ pub mod film;
 pub mod geometry;
 pub mod image;
 pub mod label;
+pub mod names;
 pub mod output;
 pub mod pace;
 mod parallel;

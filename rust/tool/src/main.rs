@@ -7,6 +7,7 @@ mod args;
 mod commands;
 mod complete;
 mod help;
+mod json;
 mod manual;
 mod near;
 mod picture;

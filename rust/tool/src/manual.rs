@@ -64,5 +64,10 @@ pub fn of(command: &Command) -> String {
     if !words.is_empty() {
         page += &format!(".SH OPTIONS\n{words}");
     }
+    let fields = list(command.tells.iter().map(|(name, about)| (name.to_string(), *about)));
+    if !fields.is_empty() {
+        page +=
+            &format!(".SH JSON\nWith\n.B \\-\\-json\none object, on a line of its own:\n{fields}");
+    }
     page + ".SH SEE ALSO\n.BR cuzhaveli (1):\nexit status, what is promised, how images lie on the disks\n"
 }

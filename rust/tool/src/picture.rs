@@ -3,6 +3,7 @@
 use std::fmt::Write;
 
 use cuzhaveli::{Plan, Set, Shape};
+use cuzhaveli_tool::names::disk_name;
 
 use crate::fault::Fault;
 
@@ -125,11 +126,7 @@ impl Picture {
 
     /// The name of a disk at the head of its column.
     pub fn disk_name(&self, disk: usize) -> String {
-        match disk.checked_sub(self.shape.disks()) {
-            Some(0) => "P".into(),
-            Some(_) => "Q".into(),
-            None => disk.to_string(),
-        }
+        disk_name(self.shape, disk)
     }
 
     /// The picture for a terminal.

@@ -6,15 +6,18 @@ mod mend;
 use std::io;
 use std::ops::Range;
 
+use cuzhaveli::Shape;
+
 use crate::blocks::Blocks;
 use crate::cells::Cells;
 use crate::fault::Fault;
 use crate::geometry::{Batch, Geometry};
 use crate::image::Bounce;
+use crate::names::{self, disk_names};
 use crate::pace::Pace;
 use crate::parallel;
 use crate::rows::{self, Row};
-use crate::set::{joined, Set};
+use crate::set::Set;
 use crate::wanted::{Reading, Wanted, Way};
 
 /// What is known of a piece of the batch.
@@ -53,14 +56,11 @@ pub struct Beyond {
 }
 
 impl Beyond {
-    pub fn told(&self) -> String {
-        let (first, last) = (self.stripes.start, self.stripes.end - 1);
+    pub fn told(&self, shape: Shape) -> String {
+        let stripes = names::stripes(self.stripes.start, self.stripes.end);
         match self.disks[..] {
-            [] => format!("stripes {first} to {last}: no image has their checksums"),
-            _ => format!(
-                "stripes {first} to {last}: too much is bad on disks {}",
-                joined(&self.disks)
-            ),
+            [] => format!("{stripes}: no image has the checksums"),
+            _ => format!("{stripes}: too much is bad on {}", disk_names(shape, &self.disks)),
         }
     }
 }

@@ -60,6 +60,8 @@ pub struct Command {
     /// Paragraphs.
     pub about: &'static [&'static str],
     pub words: &'static [Use],
+    /// The fields of its object with --json, and what they are.
+    pub tells: &'static [(&'static str, &'static str)],
     pub run: fn(&Given) -> Result<(), Fault>,
 }
 
@@ -176,6 +178,11 @@ pub mod words {
         about: "the lost disk: its number, P or Q",
     };
     pub const QUIET: Opt = Opt { name: "-q", value: None, about: "no progress" };
+    pub const JSON: Opt = Opt {
+        name: "--json",
+        value: None,
+        about: "tell the figures as one JSON object on a line of its own, for programs",
+    };
     pub const RATE: Opt = Opt {
         name: "--rate",
         value: Some(("BYTES", Kind::Number)),

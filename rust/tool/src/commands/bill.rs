@@ -1,11 +1,13 @@
 //! `bill`: the price of bytes read.
 
 use cuzhaveli::{Bill, RefusalKind};
+use cuzhaveli_tool::names::{bytes, count};
 
 use crate::args::{number, usage, Given};
 use crate::fault::Fault;
+use crate::json::Object;
 use crate::say;
-use crate::table::words::BYTES;
+use crate::table::words::{BYTES, JSON};
 use crate::table::{Command, Kind, Opt, Use};
 
 pub const RATES: Opt = Opt {
@@ -19,15 +21,33 @@ pub const COMMAND: Command = Command {
     brief: "the price of bytes read",
     about: &[
         "The bill of N bytes read: A cents a GiB for the first 64 GiB, B up to 1,024 GiB, C for the rest.",
-        "Prints first,N,second,N,third,N,cents,N.",
     ],
-    words: &[Use::Opt(&RATES), Use::Opt(&BYTES)],
+    words: &[Use::Opt(&RATES), Use::Opt(&BYTES), Use::May(&Use::Opt(&JSON))],
+    tells: &[
+        ("first", "the bytes of the first 64 GiB"),
+        ("second", "those up to 1,024 GiB"),
+        ("third", "the rest"),
+        ("cents", "the bill"),
+    ],
     run,
 };
 
 fn run(given: &Given) -> Result<(), Fault> {
     let rates = rates(given)?.ok_or_else(|| usage("--rates is missing".into()))?;
-    say::line(told(&bill(given, given.needed("--bytes")?, rates)?))
+    let Bill { bands: [first, second, third], cents } =
+        bill(given, given.needed("--bytes")?, rates)?;
+    let object = Object(vec![
+        ("first", first.into()),
+        ("second", second.into()),
+        ("third", third.into()),
+        ("cents", cents.into()),
+    ]);
+    let parts = [first, second, third].into_iter().zip(rates).filter(|(band, _)| *band > 0);
+    let parts: Vec<String> = parts
+        .map(|(band, rate)| format!("{} at {} a GiB", bytes(band), count(rate, "cent")))
+        .collect();
+    let text = if parts.is_empty() { "nothing was read".into() } else { parts.join(", ") };
+    say::told(given, object, format!("{}: {text}", count(cents, "cent")))
 }
 
 /// The three rates, if they are given.
@@ -48,10 +68,4 @@ pub fn bill(given: &Given, bytes: u64, rates: [u64; 3]) -> Result<Bill, Fault> {
         RefusalKind::BadRate => given.refused("--rates", refusal),
         _ => given.refused("--bytes", refusal),
     })
-}
-
-/// A bill as a line.
-pub fn told(bill: &Bill) -> String {
-    let [first, second, third] = bill.bands;
-    format!("first,{first},second,{second},third,{third},cents,{}", bill.cents)
 }

@@ -6,15 +6,17 @@ use std::os::fd::AsFd;
 
 use cuzhaveli_tool::drives::{apart, drive_at};
 use cuzhaveli_tool::film::{read_all, Account, Sink};
+use cuzhaveli_tool::names::{bytes, count};
 use cuzhaveli_tool::output::{folder_of, sync_folder, taken, Output};
 use cuzhaveli_tool::reader::Beyond;
 use cuzhaveli_tool::set::Set;
 
-use crate::args::Given;
+use crate::args::{usage, Given};
 use crate::fault::Fault;
+use crate::json::Object;
 use crate::progress::Progress;
 use crate::say;
-use crate::table::words::{DIR, OVERWRITE, QUIET};
+use crate::table::words::{DIR, JSON, OVERWRITE, QUIET};
 use crate::table::{Command, Kind, Operand, Use};
 
 pub const COMMAND: Command = Command {
@@ -25,11 +27,11 @@ pub const COMMAND: Command = Command {
          is FILM.part.",
         "Where film cannot be made right, FILM.part stays, with zeros there, and standard error says where; a pipe ends \
          there.",
-        "Prints decoded,LENGTH,read,BYTES,mended,N unless the film goes to standard output: the bytes read, and the units \
-         of which something had to be mended.",
+        "Nothing is told of a film that goes to standard output.",
     ],
     words: &[
         Use::May(&Use::Opt(&QUIET)),
+        Use::May(&Use::Opt(&JSON)),
         Use::May(&Use::Opt(&OVERWRITE)),
         DIR,
         Use::Operand(&Operand {
@@ -37,6 +39,11 @@ pub const COMMAND: Command = Command {
             kind: Kind::File,
             about: "where the film goes; - for standard output",
         }),
+    ],
+    tells: &[
+        ("length", "the bytes of the film"),
+        ("read", "the bytes that were read of the images"),
+        ("mended", "the units of which something had to be mended"),
     ],
     run,
 };
@@ -57,6 +64,11 @@ struct Way<'a> {
 }
 
 fn run(given: &Given) -> Result<(), Fault> {
+    if given.flag("--json") && given.operands[1] == "-" {
+        return Err(usage(
+            "--json: standard output has the film; leave it out, or name a file".into(),
+        ));
+    }
     let set = Set::open(given.path(0), &[])?;
     say::notes(&set);
     let length = set.label.geometry.length;
@@ -81,8 +93,21 @@ fn run(given: &Given) -> Result<(), Fault> {
     if given.operands[1] == "-" {
         return Ok(());
     }
-    let Account { read, mended } = account;
-    say::line(format!("decoded,{length},read,{read},mended,{mended}"))
+    tell(given, length, &account)
+}
+
+fn tell(given: &Given, length: u64, Account { read, mended }: &Account) -> Result<(), Fault> {
+    let object = Object(vec![
+        ("length", length.into()),
+        ("read", (*read).into()),
+        ("mended", (*mended).into()),
+    ]);
+    let (film, path, read) = (bytes(length), given.path(1).display(), bytes(*read));
+    let mended = match mended {
+        0 => String::new(),
+        _ => format!(", {} mended", count(*mended, "unit")),
+    };
+    say::told(given, object, format!("Decoded {film} to {path}: {read} read{mended}"))
 }
 
 impl Sink for Way<'_> {
@@ -98,7 +123,10 @@ impl Sink for Way<'_> {
 
     /// A gap stays a hole in a file and ends a stream, which can have none.
     fn gap(&mut self, at: u64, bytes: u64, beyond: &Beyond) -> Result<(), Fault> {
-        let what = format!("{bytes} bytes of film from byte {at}: {}", beyond.told());
+        let what = format!(
+            "{bytes} bytes of film from byte {at}: {}",
+            beyond.told(self.set.label.geometry.shape)
+        );
         if matches!(self.target, Target::Stream(..)) {
             return Err(Fault::Beyond(format!("{what}; the film ends here")));
         }

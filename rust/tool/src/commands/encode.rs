@@ -10,14 +10,16 @@ use cuzhaveli_tool::drives::{apart, drive_at, Overwrite};
 use cuzhaveli_tool::encode::{encode, Source};
 use cuzhaveli_tool::geometry::{Geometry, MOST_GROUP, MOST_LENGTH, MOST_PIECE};
 use cuzhaveli_tool::label::{hex, new_name, Label};
+use cuzhaveli_tool::names::{bytes, count};
 use cuzhaveli_tool::output::{folder_of, lock, sync_folder, taken, Output};
 use cuzhaveli_tool::set::{image_path, MOST_DISKS};
 
 use crate::args::{usage, Given};
 use crate::fault::Fault;
+use crate::json::Object;
 use crate::progress::Progress;
 use crate::say;
-use crate::table::words::{CELL, DIR, DISKS, GROUP, OVERWRITE, QUIET, UNIT, WIDTH};
+use crate::table::words::{CELL, DIR, DISKS, GROUP, JSON, OVERWRITE, QUIET, UNIT, WIDTH};
 use crate::table::{Command, Kind, Operand, Use};
 
 pub const COMMAND: Command = Command {
@@ -27,7 +29,6 @@ pub const COMMAND: Command = Command {
         "Makes DISKS + 2 images of FILM in DIR, which is made if it is not there: DISKS with film, P and Q.",
         "Nothing is overwritten: an image that is there is an error, unless it is a link to a drive that --overwrite \
          names. Images get their names once all of them are on the disks; until then they are DIR/disk-NN.img.part.",
-        "Prints encoded,SET,disks,N,stripes,N,length,N.",
     ],
     words: &[
         Use::Opt(&WIDTH),
@@ -36,6 +37,7 @@ pub const COMMAND: Command = Command {
         Use::May(&Use::Opt(&UNIT)),
         Use::May(&Use::Opt(&GROUP)),
         Use::May(&Use::Opt(&QUIET)),
+        Use::May(&Use::Opt(&JSON)),
         Use::Any(&Use::Opt(&OVERWRITE)),
         Use::Operand(&Operand {
             name: "FILM",
@@ -43,6 +45,12 @@ pub const COMMAND: Command = Command {
             about: "the file to keep; - for standard input",
         }),
         DIR,
+    ],
+    tells: &[
+        ("set", "the random name of the set"),
+        ("images", "the number of images, P and Q counted"),
+        ("stripes", "the stripes of the film"),
+        ("length", "the bytes of the film"),
     ],
     run,
 };
@@ -75,9 +83,21 @@ fn run(given: &Given) -> Result<(), Fault> {
         output.name()?;
     }
     sync_folder(folder)?;
-    let (set, disks) = (hex(&label.set), outputs.len());
-    let Geometry { stripes, length, .. } = label.geometry;
-    say::line(format!("encoded,{set},disks,{disks},stripes,{stripes},length,{length}"))
+    tell(given, &label, outputs.len())
+}
+
+fn tell(given: &Given, label: &Label, images: usize) -> Result<(), Fault> {
+    let (set, Geometry { stripes, length, .. }) = (hex(&label.set), label.geometry);
+    let object = Object(vec![
+        ("set", (&*set).into()),
+        ("images", images.into()),
+        ("stripes", stripes.into()),
+        ("length", length.into()),
+    ]);
+    let (film, stripes, folder) =
+        (bytes(length), count(stripes, "stripe"), given.path(1).display());
+    let text = format!("Encoded {film} to {images} images in {folder}: {stripes}, set {set}");
+    say::told(given, object, text)
 }
 
 /// The numbers of the set; of a film whose length is not known yet, as if it were the longest.

@@ -25,6 +25,7 @@ pub const COMMAND: Command = Command {
             about: "the command to tell of",
         })),
     ],
+    tells: &[],
     run,
 };
 

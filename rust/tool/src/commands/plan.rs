@@ -1,13 +1,14 @@
 //! `plan`: a picture of a plan, or the text of ours.
 
-use cuzhaveli::{Plan, Shape};
+use cuzhaveli::{Plan, Set, Shape, Step};
 
 use crate::args::{usage, Given};
 use crate::fault::Fault;
+use crate::json::Object;
 use crate::picture::Picture;
 use crate::say;
 use crate::svg;
-use crate::table::words::{DISKS, LOST, WIDTH};
+use crate::table::words::{DISKS, JSON, LOST, WIDTH};
 use crate::table::{Command, Kind, Opt, Use};
 
 pub const COMMAND: Command = Command {
@@ -34,6 +35,7 @@ pub const COMMAND: Command = Command {
             }),
         ]),
         Use::MayOne(&[
+            Use::Opt(&JSON),
             Use::Opt(&Opt { name: "--svg", value: None, about: "the picture as SVG" }),
             Use::Opt(&Opt {
                 name: "--csv",
@@ -42,11 +44,20 @@ pub const COMMAND: Command = Command {
             }),
         ]),
     ],
+    tells: &[
+        ("width", "the rows of a stripe"),
+        ("disks", "the data disks"),
+        ("lost", "the lost disk"),
+        ("reads", "the cells of a stripe that are read"),
+        ("rows", "those that row parity alone would need"),
+        ("shares", "those of each disk, P and Q last"),
+        ("steps", "the steps in their order: row, set (R or D), number"),
+    ],
     run,
 };
 
 fn run(given: &Given) -> Result<(), Fault> {
-    given.at_most_one(&["--csv", "--svg"])?;
+    given.at_most_one(&["--json", "--csv", "--svg"])?;
     given.at_most_one(&["--balanced", "--relieve"])?;
     let shape = given.shape()?;
     let lost = given.lost(shape)?;
@@ -58,7 +69,32 @@ fn run(given: &Given) -> Result<(), Fault> {
     if given.flag("--svg") {
         return say::bytes(svg::draw(&picture).as_bytes());
     }
+    if given.flag("--json") {
+        return say::line(object(&picture, lost, &plan));
+    }
     say::bytes(picture.text().as_bytes())
+}
+
+fn object(picture: &Picture, lost: usize, plan: &Plan) -> Object {
+    let (width, disks) = (picture.shape.width(), picture.shape.disks());
+    let shares: Vec<usize> = (0..disks + 2).map(|disk| picture.share(disk)).collect();
+    let step = |step: Step| {
+        let (set, number) = match step.set {
+            Set::Row(number) => ("R", number),
+            Set::Diagonal(number) => ("D", number),
+        };
+        let (row, number) = (usize::from(step.row), usize::from(number));
+        Object(vec![("row", row.into()), ("set", set.into()), ("number", number.into())])
+    };
+    Object(vec![
+        ("width", width.into()),
+        ("disks", disks.into()),
+        ("lost", lost.into()),
+        ("reads", u64::from(plan.reads()).into()),
+        ("rows", (width * disks).into()),
+        ("shares", (&*shares).into()),
+        ("steps", plan.steps().map(step).collect()),
+    ])
 }
 
 /// The plan that was asked for, and its name; for P and Q there is ours alone.

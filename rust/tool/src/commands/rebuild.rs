@@ -5,19 +5,21 @@ use std::path::Path;
 
 use cuzhaveli::Shape;
 use cuzhaveli_tool::drives::{apart, drive_at, Overwrite};
+use cuzhaveli_tool::names::{bytes, count, disk_names};
 use cuzhaveli_tool::output::{lock, Output};
 use cuzhaveli_tool::rebuild::{rebuild, Account, Spare};
-use cuzhaveli_tool::set::{joined, Absence, Set};
-use cuzhaveli_tool::wanted::{Choice, Wanted};
+use cuzhaveli_tool::set::{Absence, Set};
+use cuzhaveli_tool::wanted::{Choice, Wanted, Way};
 
 use crate::args::{usage, Disk, Given};
-use crate::commands::bill::{bill, rates, told, RATES};
+use crate::commands::bill::{bill, rates, RATES};
 use crate::fault::Fault;
+use crate::json::{self, Object};
 use crate::near::meant;
 use crate::plan_text::{read_text, steps};
 use crate::progress::Progress;
 use crate::say;
-use crate::table::words::{DIR, OVERWRITE, QUIET, RATE};
+use crate::table::words::{DIR, JSON, OVERWRITE, QUIET, RATE};
 use crate::table::{Command, Kind, Opt, Use};
 
 /// The plans that have a name.
@@ -30,13 +32,10 @@ pub const COMMAND: Command = Command {
         "Rebuilds the lost images, one or two, or goes on with a rebuild that has not ended. A disk is lost if its image \
          is missing, empty, too short or too long, unfinished, or if --disk names it. Something else in its place, such as \
          an image of another set, is replaced only if --disk names that disk.",
-        "Prints rebuilt,DISKS,stripes,N,kept,N,read,BYTES,rows,BYTES,mended,N: the stripes that this call rebuilt, those \
-         that an earlier one had, the bytes that it read of the survivors, cells and checksums, those \
-         that all rows of the rebuilt stripes have, and the units in which a survivor was bad; with --rates also the bill, \
-         as bill prints it.",
     ],
     words: &[
         Use::May(&Use::Opt(&QUIET)),
+        Use::May(&Use::Opt(&JSON)),
         Use::May(&Use::Opt(&Opt {
             name: "-n",
             value: None,
@@ -73,6 +72,19 @@ pub const COMMAND: Command = Command {
         Use::Any(&Use::Opt(&OVERWRITE)),
         DIR,
     ],
+    tells: &[
+        ("lost", "the lost disks"),
+        ("plan", "how they come back: balanced, own, relief, file, rows, tested; two where two are lost, none where none is"),
+        ("done", "whether the images are there now; false with -n"),
+        ("stripes", "the stripes that this call rebuilt, or would"),
+        ("kept", "those that an earlier one had"),
+        ("read", "the bytes that were read of the survivors, cells and checksums; with -n of cells, if nothing is there yet"),
+        ("rows", "the bytes that all rows of the rebuilt stripes have"),
+        ("busiest", "the bytes of the survivor of which the most were read"),
+        ("mended", "the units in which a survivor was bad"),
+        ("cents", "the bill of what was read, by --rates; 0 without"),
+        ("beyond", "stripes that cannot be rebuilt: stripe, count, and the disks that are lost or bad there"),
+    ],
     run,
 };
 
@@ -90,24 +102,22 @@ fn run(given: &Given) -> Result<(), Fault> {
     let choice = choice(given, set.label.geometry.shape, &lost)?;
     let wanted = Wanted::rebuild(&set, &lost, &choice);
     let wanted = wanted.map_err(|refusal| given.refused("--relieve", refusal))?;
-    if given.flag("-n") {
-        return would(&set, &lost, &wanted);
-    }
-    if lost.is_empty() {
-        return say::line(
-            "rebuilt,none,stripes,0,kept,0,read,0,rows,0,mended,0,busiest,0,plan,none",
-        );
-    }
-    let spares = spares(&set, &lost, &named)?;
-    let what = format!("rebuild disk {}", joined(&lost));
-    let each = wanted.reads() as u64 * set.label.geometry.shape.cell_size() as u64;
-    let mut progress =
-        Progress::new(what, Some(each * set.label.geometry.stripes), given.flag("-q"));
-    let done = rebuild(&set, &spares, &wanted, pace, |stripes| progress.add(stripes * each));
-    drop(progress);
-    let account = done?;
-    tell(&set, &lost, &wanted, &account)?;
-    rates.map_or(Ok(()), |rates| say::line(told(&bill(given, account.read, rates)?)))
+    let account = match given.flag("-n") || lost.is_empty() {
+        true => would(&set, &lost, &wanted),
+        false => {
+            let spares = spares(&set, &lost, &named)?;
+            let what = format!("rebuild {}", disk_names(set.label.geometry.shape, &lost));
+            let each = wanted.reads() as u64 * set.label.geometry.shape.cell_size() as u64;
+            let total = Some(each * set.label.geometry.stripes);
+            let mut progress = Progress::new(what, total, given.flag("-q"));
+            rebuild(&set, &spares, &wanted, pace, |stripes| progress.add(stripes * each))?
+        }
+    };
+    let cents = match rates {
+        Some(rates) => bill(given, account.read, rates)?.cents,
+        None => 0,
+    };
+    Story { given, set: &set, lost: &lost, wanted: &wanted, account: &account, cents }.tell()
 }
 
 /// The plan that was asked for. With two disks lost there is none to choose, nor anything to test survivors by.
@@ -156,17 +166,13 @@ fn named_disks(given: &Given) -> Result<Vec<usize>, Fault> {
     Ok(disks.into_iter().map(|disk| disk.number(shape)).collect())
 }
 
-/// Says what a rebuild would read of cells, if nothing of it is there yet.
-fn would(set: &Set, lost: &[usize], wanted: &Wanted) -> Result<(), Fault> {
+/// What a rebuild would read of cells, if nothing of it is there yet.
+fn would(set: &Set, lost: &[usize], wanted: &Wanted) -> Account {
     let geometry = set.label.geometry;
     let stripes = if lost.is_empty() { 0 } else { geometry.stripes };
-    let read = (wanted.reads() * geometry.shape.cell_size()) as u64 * stripes;
-    let rows = stripes * geometry.shape.data_len() as u64;
-    let busiest = (wanted.busiest() * geometry.shape.cell_size()) as u64 * stripes;
-    let (disks, plan) = (joined(lost), wanted.way.name());
-    say::line(format!(
-        "would,{disks},stripes,{stripes},read,{read},rows,{rows},busiest,{busiest},plan,{plan}"
-    ))
+    let bytes = |cells: usize| (cells * geometry.shape.cell_size()) as u64 * stripes;
+    let (read, busiest) = (bytes(wanted.reads()), bytes(wanted.busiest()));
+    Account { stripes, kept: 0, read, busiest, mended: 0, beyond: Vec::new() }
 }
 
 /// The images to be written, gone on with or begun.
@@ -228,22 +234,101 @@ fn strangers(set: &Set, lost: &[usize]) -> Result<(), Fault> {
     )))
 }
 
-fn tell(set: &Set, lost: &[usize], wanted: &Wanted, account: &Account) -> Result<(), Fault> {
-    let Account { stripes, kept, read, busiest, mended, beyond } = account;
-    if beyond.is_empty() {
-        let rows = stripes * set.label.geometry.shape.data_len() as u64;
-        let (disks, plan) = (joined(lost), wanted.way.name());
-        return say::line(format!(
-            "rebuilt,{disks},stripes,{stripes},kept,{kept},read,{read},rows,{rows},mended,{mended},busiest,{busiest},\
-             plan,{plan}"
-        ));
+/// What is told of a rebuild, done or not.
+struct Story<'a> {
+    given: &'a Given,
+    set: &'a Set,
+    lost: &'a [usize],
+    wanted: &'a Wanted,
+    account: &'a Account,
+    cents: u64,
+}
+
+impl Story<'_> {
+    fn tell(&self) -> Result<(), Fault> {
+        let beyond = &self.account.beyond;
+        if beyond.is_empty() || self.given.flag("--json") {
+            say::told(self.given, self.object(), self.text())?;
+        }
+        if beyond.is_empty() {
+            return Ok(());
+        }
+        beyond.iter().for_each(|beyond| say::beyond(self.set, beyond));
+        let stripes = beyond.iter().map(|beyond| beyond.stripes.end - beyond.stripes.start).sum();
+        let parts =
+            self.lost.iter().map(|disk| self.set.path(*disk).display().to_string() + ".part");
+        Err(Fault::Beyond(format!(
+            "{} cannot be rebuilt; the others are, in {}, which gets no label. Put back images that are somewhere else and \
+             run it again, or save the film: cuzhaveli decode {} FILM",
+            count(stripes, "stripe"),
+            parts.collect::<Vec<_>>().join(", "),
+            self.set.folder().display()
+        )))
     }
-    beyond.iter().for_each(|beyond| say::beyond(set, beyond));
-    Err(Fault::Beyond(format!(
-        "{} of the stripes cannot be rebuilt; the others are, in {}, which gets no label. Put back images that are \
-         somewhere else and run it again, or save the film: cuzhaveli decode {} FILM",
-        beyond.iter().map(|beyond| beyond.stripes.end - beyond.stripes.start).sum::<u64>(),
-        lost.iter().map(|disk| set.path(*disk).display().to_string() + ".part").collect::<Vec<_>>().join(", "),
-        set.folder().display()
-    )))
+
+    fn rows(&self) -> u64 {
+        self.account.stripes * self.set.label.geometry.shape.data_len() as u64
+    }
+
+    fn object(&self) -> Object {
+        let Account { stripes, kept, read, busiest, mended, beyond } = self.account;
+        Object(vec![
+            ("lost", self.lost.into()),
+            ("plan", self.wanted.way.name().into()),
+            ("done", (!self.given.flag("-n") && beyond.is_empty()).into()),
+            ("stripes", (*stripes).into()),
+            ("kept", (*kept).into()),
+            ("read", (*read).into()),
+            ("rows", self.rows().into()),
+            ("busiest", (*busiest).into()),
+            ("mended", (*mended).into()),
+            ("cents", self.cents.into()),
+            ("beyond", beyond.iter().map(json::beyond).collect()),
+        ])
+    }
+
+    /// Such as `Rebuilt disk 4 by the balanced plan: 984 stripes, 73.0 MiB read, 24 % less than by rows; busiest survivor
+    /// 11.8 MiB`.
+    fn text(&self) -> String {
+        let Account { stripes, kept, read, busiest, mended, .. } = self.account;
+        if self.lost.is_empty() {
+            return "Nothing is lost".into();
+        }
+        let (verb, of) =
+            if self.given.flag("-n") { ("Would rebuild", " of cells") } else { ("Rebuilt", "") };
+        let disks = disk_names(self.set.label.geometry.shape, self.lost);
+        let mut text =
+            format!("{verb} {disks} {}: {}", by(&self.wanted.way), count(*stripes, "stripe"));
+        if *kept > 0 {
+            text += &format!(" ({} were there already)", kept);
+        }
+        text += &format!(", {}{of} read", bytes(*read));
+        let rows = self.rows();
+        let less = (100 * rows.saturating_sub(*read) + rows / 2) / rows.max(1);
+        if less > 0 {
+            text += &format!(", {less} % less than by rows");
+        }
+        if *mended > 0 {
+            text += &format!(", {} mended", count(*mended, "unit"));
+        }
+        text += &format!("; busiest survivor {}", bytes(*busiest));
+        match self.given.flag("--rates") {
+            true => text + "; " + &count(self.cents, "cent"),
+            false => text,
+        }
+    }
+}
+
+/// How disks come back, in words.
+fn by(way: &Way) -> &'static str {
+    match way {
+        Way::None => "from nothing",
+        Way::Ours(_) => "by our plan",
+        Way::Balanced(_) => "by the balanced plan",
+        Way::Relief(..) => "by the relief plan",
+        Way::Plan(..) => "by the plan that was given",
+        Way::Tested(_) => "from tested survivors",
+        Way::Rows(_) => "by rows",
+        Way::Two(_) => "from all survivors",
+    }
 }

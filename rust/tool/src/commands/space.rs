@@ -5,12 +5,14 @@ use std::path::Path;
 
 use cuzhaveli::{Shape, Space};
 use cuzhaveli_tool::geometry::Geometry;
+use cuzhaveli_tool::names::{bytes, count};
 
 use crate::args::{usage, Given};
 use crate::commands::encode::geometry;
 use crate::fault::Fault;
+use crate::json::Object;
 use crate::say;
-use crate::table::words::{BYTES, CELL, DISKS, GROUP, UNIT, WIDTH};
+use crate::table::words::{BYTES, CELL, DISKS, GROUP, JSON, UNIT, WIDTH};
 use crate::table::{Command, Kind, Operand, Opt, Use};
 
 pub const COMMAND: Command = Command {
@@ -19,7 +21,6 @@ pub const COMMAND: Command = Command {
     about: &[
         "The stripes that a package of N bytes, or of the FILEs, takes, and the bytes of each disk; says whether these are \
          free.",
-        "Prints stripes,N,bytes,N,fits,yes.",
     ],
     words: &[
         Use::Opt(&WIDTH),
@@ -33,6 +34,7 @@ pub const COMMAND: Command = Command {
         })),
         Use::May(&Use::Opt(&UNIT)),
         Use::May(&Use::Opt(&GROUP)),
+        Use::May(&Use::Opt(&JSON)),
         Use::Opt(&Opt {
             name: "--free",
             value: Some(("BYTES", Kind::Number)),
@@ -46,6 +48,11 @@ pub const COMMAND: Command = Command {
                 about: "a file of the package",
             }),
         ]),
+    ],
+    tells: &[
+        ("stripes", "the stripes of the package"),
+        ("bytes", "the bytes of each disk"),
+        ("fits", "whether these are free"),
     ],
     run,
 };
@@ -65,8 +72,17 @@ fn run(given: &Given) -> Result<(), Fault> {
         space.fits = space.bytes_per_disk <= free;
     }
     let Space { stripes, bytes_per_disk, fits } = space;
-    let answer = if fits { "yes" } else { "no" };
-    say::line(format!("stripes,{stripes},bytes,{bytes_per_disk},fits,{answer}"))?;
+    let object = Object(vec![
+        ("stripes", stripes.into()),
+        ("bytes", bytes_per_disk.into()),
+        ("fits", fits.into()),
+    ]);
+    let answer = match fits {
+        true => say::good("it fits"),
+        false => say::bad(&format!("{} too many", bytes(bytes_per_disk - free))),
+    };
+    let (stripes, each) = (count(stripes, "stripe"), bytes(bytes_per_disk));
+    say::told(given, object, format!("{stripes}, {each} of each disk: {answer}"))?;
     if fits {
         Ok(())
     } else {
