@@ -24,6 +24,7 @@ pub mod rebuild;
 pub mod repair;
 mod rows;
 pub mod set;
+pub mod stop;
 pub mod sums;
 pub mod sys;
 pub mod wanted;

@@ -5,6 +5,7 @@ use cuzhaveli_tool::examine::{examine, Findings};
 use cuzhaveli_tool::names::{bytes, count, disk_name, disk_names, stripes};
 use cuzhaveli_tool::reader::Flaw;
 use cuzhaveli_tool::set::{Absence, Set};
+use cuzhaveli_tool::stop;
 
 use crate::args::Given;
 use crate::fault::Fault;
@@ -77,8 +78,14 @@ fn run(given: &Given) -> Result<(), Fault> {
     let mut report = Report { set: &set, json, found: 0, bad: 0, dirty: 0, beyond: 0 };
     report.images()?;
     let mut progress = Progress::new("check".into(), Some(each * begun), given.flag("-q"));
+    let folder = set.folder().display().to_string();
+    stop::at(first * geometry.unit);
+    stop::says_where(&format!("to go on: cuzhaveli check --from # {folder}"));
     let read = examine(&set, first, pace, |mut found| {
         report.batch(&mut found)?;
+        let next = found.batch.first + found.batch.count as u64;
+        stop::at(next);
+        progress.note(format!("; to go on from here: --from {next}"));
         progress.add(found.batch.count as u64 * each);
         Ok(())
     })?;

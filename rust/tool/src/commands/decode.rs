@@ -10,6 +10,7 @@ use cuzhaveli_tool::names::{bytes, count};
 use cuzhaveli_tool::output::{folder_of, sync_folder, taken, Output};
 use cuzhaveli_tool::reader::Beyond;
 use cuzhaveli_tool::set::Set;
+use cuzhaveli_tool::stop;
 
 use crate::args::{usage, Given};
 use crate::fault::Fault;
@@ -73,6 +74,10 @@ fn run(given: &Given) -> Result<(), Fault> {
     say::notes(&set);
     let length = set.label.geometry.length;
     let target = Target::open(given, &set)?;
+    if let Target::Output(output) = &target {
+        let part = output.path().display();
+        stop::says(&format!("the film is not whole: remove {part}, and decode again"));
+    }
     let progress = Progress::new("decode".into(), Some(length), given.flag("-q"));
     let mut way = Way { set: &set, target, progress, gaps: 0 };
     let done = read_all(&set, &mut way);

@@ -13,6 +13,7 @@ use cuzhaveli_tool::label::{hex, new_name, Label};
 use cuzhaveli_tool::names::{bytes, count};
 use cuzhaveli_tool::output::{folder_of, lock, sync_folder, taken, Output};
 use cuzhaveli_tool::set::{image_path, MOST_DISKS};
+use cuzhaveli_tool::stop;
 
 use crate::args::{usage, Given};
 use crate::fault::Fault;
@@ -64,6 +65,8 @@ fn run(given: &Given) -> Result<(), Fault> {
     make_folder(folder)?;
     let _lock = lock(folder)?;
     let name = new_name().map_err(|error| Fault::path(Path::new("/dev/urandom"), error))?;
+    let at = folder.display();
+    stop::says(&format!("no set is in {at} yet: remove its .part files, and encode again"));
     let mut outputs = Vec::new();
     let mut progress = Progress::new("encode".into(), source.length, given.flag("-q"));
     let (label, known) = (Label { set: name, geometry }, source.length.is_some());

@@ -9,6 +9,7 @@ use cuzhaveli_tool::names::{bytes, count, disk_names};
 use cuzhaveli_tool::output::{lock, Output};
 use cuzhaveli_tool::rebuild::{rebuild, Account, Spare};
 use cuzhaveli_tool::set::{Absence, Set};
+use cuzhaveli_tool::stop;
 use cuzhaveli_tool::wanted::{Choice, Wanted, Way};
 
 use crate::args::{usage, Disk, Given};
@@ -106,6 +107,7 @@ fn run(given: &Given) -> Result<(), Fault> {
         true => would(&set, &lost, &wanted),
         false => {
             let spares = spares(&set, &lost, &named)?;
+            stop::says("what is rebuilt stays; the same command goes on");
             let what = format!("rebuild {}", disk_names(set.label.geometry.shape, &lost));
             let each = wanted.reads() as u64 * set.label.geometry.shape.cell_size() as u64;
             let total = Some(each * set.label.geometry.stripes);

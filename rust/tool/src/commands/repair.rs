@@ -4,6 +4,7 @@ use cuzhaveli_tool::names::{bytes, count, disk_names};
 use cuzhaveli_tool::output::{lock, Output};
 use cuzhaveli_tool::repair::{repair, Account};
 use cuzhaveli_tool::set::Set;
+use cuzhaveli_tool::stop;
 
 use crate::args::Given;
 use crate::fault::Fault;
@@ -48,6 +49,7 @@ fn run(given: &Given) -> Result<(), Fault> {
     let each = geometry.shape.stripe_len() as u64;
     let mut progress =
         Progress::new("repair".into(), Some(each * geometry.stripes), given.flag("-q"));
+    stop::says("what is repaired stays; the same command goes on");
     let mut open = |disk: usize| -> Result<Output, Fault> {
         match set.image(disk) {
             Some(image) if image.drive.is_none() => Output::image(image),
