@@ -58,7 +58,7 @@ def manual_pages(setting):
         return "left out: no groff on this machine"
     pages = sorted((TOP / "docs").glob("*.1"))
     for page in pages:
-        done = subprocess.run(["groff", "-man", "-t", "-Tutf8", "-ww", "-z", page], capture_output=True, text=True)
+        done = subprocess.run(["groff", "-man", "-t", "-Tutf8", "-rcR=1", "-ww", "-z", page], capture_output=True, text=True)
         expect(done.returncode == 0 and done.stderr == "", f"groff says of {page.name}: {done.stderr}")
     return f"{len(pages)} pages"
 
