@@ -54,12 +54,14 @@ def one_table(setting):
 
 def manual_pages(setting):
     """The pages are what man understands."""
-    if not shutil.which("groff"):
-        return "left out: no groff on this machine"
+    if not shutil.which("man"):
+        return "left out: no man on this machine"
     pages = sorted((TOP / "docs").glob("*.1"))
     for page in pages:
-        done = subprocess.run(["groff", "-man", "-t", "-Tutf8", "-rcR=1", "-ww", "-z", page], capture_output=True, text=True)
-        expect(done.returncode == 0 and done.stderr == "", f"groff says of {page.name}: {done.stderr}")
+        done = subprocess.run(["man", "--warnings", "-Tutf8", "-Z", "-l", page], capture_output=True, text=True)
+        # where a table meets the end of a printed page is no fault
+        told = [line for line in done.stderr.splitlines() if not line.endswith("will not fit on one page")]
+        expect(done.returncode == 0 and not told, f"man says of {page.name}: {told}")
     return f"{len(pages)} pages"
 
 
