@@ -9,8 +9,9 @@
 #   make demo                    shows the command at work on a film that it makes: encodes, loses disks, rebuilds, plays
 #   make examples                builds and runs examples/ from a scratch install, and compares their output
 #   make selftest                the Python package's own test of the shared library
-#   make install PREFIX= DESTDIR=   header, archives, shared library, cuzhaveli.pc, command and manual (PREFIX is /usr/local if
-#                                   not given)
+#   make manual                  writes docs/*.1 and rust/tool/completion/ anew, from the command's table
+#   make install PREFIX= DESTDIR=   header, archives, shared library, cuzhaveli.pc, command, manual and completion (PREFIX is
+#                                   /usr/local if not given)
 #   make uninstall PREFIX= DESTDIR=
 #   make dist                    build/cuzhaveli-VERSION-x86_64-linux.tar.gz, after .ci/run
 #   make conformance IMPL=FILE   compares your code, a .c, .a or .so that offers functions of conformance/yours.h, with the library;
@@ -34,7 +35,10 @@ scratch = $(CURDIR)/build/scratch
 warnings = -std=c99 -Wall -Wextra -pedantic -Werror
 dist = cuzhaveli-$(VERSION)-x86_64-linux
 
-.PHONY: all demo examples selftest install uninstall dist clean FORCE
+completion = rust/tool/completion
+share = $(DESTDIR)$(PREFIX)/share
+
+.PHONY: all demo manual examples selftest install uninstall dist clean FORCE
 .DELETE_ON_ERROR:
 
 all: $(archives) $(shared) $(tool)
@@ -82,21 +86,34 @@ demo: build/cuzhaveli
 	@rm -rf build/demo
 	@examples/demo build/cuzhaveli build/demo
 
+manual: build/cuzhaveli
+	@mkdir -p $(completion)
+	@rm -f docs/cuzhaveli.1 docs/cuzhaveli-*.1
+	@build/cuzhaveli help --man >docs/cuzhaveli.1
+	@for name in $$(build/cuzhaveli help | sed -n 's/^  cuzhaveli \([a-z]*\) .*/\1/p'); do build/cuzhaveli help --man $$name >docs/cuzhaveli-$$name.1 || exit 1; done
+	@build/cuzhaveli help --completion bash >$(completion)/cuzhaveli.bash
+	@build/cuzhaveli help --completion zsh >$(completion)/_cuzhaveli
+	@build/cuzhaveli help --completion fish >$(completion)/cuzhaveli.fish
+	@echo "make: wrote docs/*.1 and $(completion)/"
+
 install: $(archives) $(shared) $(tool)
 	@install -d "$(DESTDIR)$(PREFIX)/include" "$(DESTDIR)$(PREFIX)/lib/pkgconfig"
 	@install -m 644 include/cuzhaveli.h "$(DESTDIR)$(PREFIX)/include/"
 	@install -m 644 $(archives) $(shared) "$(DESTDIR)$(PREFIX)/lib/"
 	@ln -sf libcuzhaveli.so.1 "$(DESTDIR)$(PREFIX)/lib/libcuzhaveli.so"
 ifneq ($(tool),)
-	@install -d "$(DESTDIR)$(PREFIX)/bin" "$(DESTDIR)$(PREFIX)/share/man/man1"
+	@install -d "$(DESTDIR)$(PREFIX)/bin" "$(share)/man/man1" "$(share)/bash-completion/completions" "$(share)/zsh/site-functions" "$(share)/fish/vendor_completions.d"
 	@install -m 755 $(tool) "$(DESTDIR)$(PREFIX)/bin/"
-	@install -m 644 docs/cuzhaveli.1 "$(DESTDIR)$(PREFIX)/share/man/man1/"
+	@install -m 644 docs/*.1 "$(share)/man/man1/"
+	@install -m 644 $(completion)/cuzhaveli.bash "$(share)/bash-completion/completions/cuzhaveli"
+	@install -m 644 $(completion)/_cuzhaveli "$(share)/zsh/site-functions/"
+	@install -m 644 $(completion)/cuzhaveli.fish "$(share)/fish/vendor_completions.d/"
 endif
 	@sed 's|@PREFIX@|$(PREFIX)|; s|@VERSION@|$(VERSION)|' cuzhaveli.pc.in >"$(DESTDIR)$(PREFIX)/lib/pkgconfig/cuzhaveli.pc"
-	@echo "make: installed header, archives, shared library, cuzhaveli.pc$(if $(tool),$(comma) command and manual) under $(DESTDIR)$(PREFIX)"
+	@echo "make: installed header, archives, shared library, cuzhaveli.pc$(if $(tool),$(comma) command$(comma) manual and completion) under $(DESTDIR)$(PREFIX)"
 
 uninstall:
-	rm -f "$(DESTDIR)$(PREFIX)/include/cuzhaveli.h" "$(DESTDIR)$(PREFIX)/lib/libcuzhaveli.a" "$(DESTDIR)$(PREFIX)/lib/libcuzhaveli_plans.a" "$(DESTDIR)$(PREFIX)/lib/libcuzhaveli_fast.a" "$(DESTDIR)$(PREFIX)/lib/libcuzhaveli.so" "$(DESTDIR)$(PREFIX)/lib/libcuzhaveli.so.1" "$(DESTDIR)$(PREFIX)/lib/pkgconfig/cuzhaveli.pc" "$(DESTDIR)$(PREFIX)/bin/cuzhaveli" "$(DESTDIR)$(PREFIX)/share/man/man1/cuzhaveli.1"
+	rm -f "$(DESTDIR)$(PREFIX)/include/cuzhaveli.h" "$(DESTDIR)$(PREFIX)/lib/libcuzhaveli.a" "$(DESTDIR)$(PREFIX)/lib/libcuzhaveli_plans.a" "$(DESTDIR)$(PREFIX)/lib/libcuzhaveli_fast.a" "$(DESTDIR)$(PREFIX)/lib/libcuzhaveli.so" "$(DESTDIR)$(PREFIX)/lib/libcuzhaveli.so.1" "$(DESTDIR)$(PREFIX)/lib/pkgconfig/cuzhaveli.pc" "$(DESTDIR)$(PREFIX)/bin/cuzhaveli" "$(share)/man/man1/cuzhaveli.1" "$(share)/man/man1/cuzhaveli-"*.1 "$(share)/bash-completion/completions/cuzhaveli" "$(share)/zsh/site-functions/_cuzhaveli" "$(share)/fish/vendor_completions.d/cuzhaveli.fish"
 
 examples: $(archives) $(shared)
 	@rm -rf "$(scratch)" && mkdir -p "$(scratch)"
@@ -126,7 +143,7 @@ IMPL =
 IMPL_CFLAGS =
 IMPL_LIBS =
 OPTIONS =
-share = $(DESTDIR)$(PREFIX)/share/cuzhaveli
+kit = $(share)/cuzhaveli
 .PHONY: conformance install-kit uninstall-kit
 
 conformance: build/libcuzhaveli.a
@@ -135,12 +152,12 @@ conformance: build/libcuzhaveli.a
 
 install: install-kit
 install-kit:
-	@install -d "$(share)"
-	@cp -r conformance vectors "$(share)/"
+	@install -d "$(kit)"
+	@cp -r conformance vectors "$(kit)/"
 
 uninstall: uninstall-kit
 uninstall-kit:
-	rm -rf "$(share)/conformance" "$(share)/vectors"
+	rm -rf "$(kit)/conformance" "$(kit)/vectors"
 
 clean:
 	rm -rf build

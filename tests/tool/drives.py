@@ -90,8 +90,8 @@ def rebuilt_drives(setting, loops):
     # cut off: marked, so that the same command goes on; a label of another disk or set is no mark
     put(drive, 0, images.label(2, "part"))
     put(drive, images.offset(3, 0), bytes(512))
-    done = setting.call("rebuild", images.folder, status=0)
-    expect(content(drive, size) == good[2] and int(done.fields()["kept"]) == images.stripes - 8, done.told())
+    done = setting.told("rebuild", images.folder, status=0)
+    expect(content(drive, size) == good[2] and done["kept"] == images.stripes - 8, done.told())
     setting.call("rebuild", "--disk", 2, images.folder, status=0)
     for block in (images.label(1), images.label(1, "part"), images.label(2, "part").replace(images.set[:8].encode(), b"00000000")):
         put(drive, 0, block)

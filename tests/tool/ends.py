@@ -1,8 +1,11 @@
-"""Ends of all sorts: kill -9 at any moment, full devices, closed pipes."""
+"""Ends of all sorts: kill -9 at any moment, Ctrl-C, full devices, closed pipes; and progress up to them."""
 
 import os
 import pty
+import re
+import signal
 import subprocess
+import time
 
 from harness import CHANGES, Set, Traced, can_trace, expect, noise
 
@@ -36,11 +39,11 @@ def killed_rebuilds(setting):
             for disk in lost:
                 whole = images.path(disk).exists()
                 expect(not whole or images.path(disk).read_bytes() == before[disk], f"kill {moment}: an image that is not whole")
-            done = setting.call("rebuild", images.folder, status=0)
+            done = setting.told("rebuild", images.folder)
             expect(images.images() == before, f"lost {lost}, kill {moment}: other bytes after going on")
             left = [path.name for path in images.folder.iterdir() if not path.name.endswith(".img")]
             expect(not left, f"kill {moment}: {left} is left")
-            kept = max(kept, int(done.fields()["kept"]))
+            kept = max(kept, done["kept"])
             if ended:
                 break
             kills, moment = kills + 1, moment + 1
@@ -206,20 +209,81 @@ def all_of(terminal):
 
 
 def progress(setting):
-    """The bar is on standard error if that is a terminal, and not with -q; results are one line all the same."""
-    images = setting.encoded(noise(5 * 5 * 16 * 10), 5, s=16)
-    shown = {}
-    for quiet in ([], ["-q"]):
+    """A bar with rate and time left on a terminal, for work of over a second alone, and not with -q; results are one line all the same."""
+    images = setting.encoded(noise(5 * 5 * 256 * 40), 5, s=256, unit=1)
+    column = images.p * images.s * images.stripes
+    film = setting.new()
+    film.write_bytes(noise(100))
+    slow = {"rebuild": ["--disk", 1, "--rate", 3 * column], "check": ["--rate", 7 * column], "repair": ["--rate", 7 * column]}
+    bar = rb"\[#*\.*\] +\d+ %  [\d.]+ (bytes|[KMG]iB)/s  \d+:\d\d left"
+    for name, options in slow.items():
+        for quiet, wanted in (([], True), (["-q"], False)) if name == "check" else (([], True),):
+            ours, theirs = pty.openpty()
+            done = setting.call(name, *quiet, *options, images.folder, stderr=theirs, status=0)
+            os.close(theirs)
+            shown = all_of(ours)
+            expect(done.out.count(b"\n") == 1, done.told())
+            expect(bool(re.search(name.encode() + rb"[^\[]* " + bar, shown)) == wanted and wanted == bool(shown), f"{name} {quiet}: {shown}")
+    for words in (["rebuild", "--disk", 1, images.folder], ["encode", "-p", 3, film, setting.new()]):
         ours, theirs = pty.openpty()
-        done = setting.call("rebuild", *quiet, "--disk", 1, images.folder, stderr=theirs, status=0)
+        setting.call(*words, stderr=theirs, status=0)
         os.close(theirs)
-        shown[len(quiet)] = all_of(ours)
-        expect(done.out.count(b"\n") == 1, done.told())
-    expect(b"rebuild disk 1 [" in shown[0] and b" % " in shown[0], f"no bar: {shown[0]}")
-    expect(shown[1] == b"", f"a bar with -q: {shown[1]}")
-    done = setting.call("rebuild", "--disk", 1, images.folder, status=0)
-    expect(done.err == b"", f"no terminal, and yet: {done.told()}")
+        expect(all_of(ours) == b"", f"a bar for {words}, which takes no second")
+    done = setting.call("check", *slow["check"], images.folder, status=0)
+    expect(done.err == b"", f"no terminal, no minute, and yet: {done.told()}")
     return "on a terminal, quiet, and without"
 
 
-CHECKS = [killed_rebuilds, killed_encodes, killed_repairs, order, full_devices, closed_pipes, progress]
+def stopped(setting, words, ready, how=signal.SIGINT, **more):
+    """What a call says that is stopped once something is ready; it ends by the signal."""
+    with subprocess.Popen([setting.program, *map(str, words)], stdout=subprocess.PIPE, stderr=subprocess.PIPE, **more) as child:
+        until = time.monotonic() + 20
+        while not ready() and child.poll() is None and time.monotonic() < until:
+            time.sleep(0.01)
+        time.sleep(0.3)
+        child.send_signal(how)
+        _, err = child.communicate()
+    expect(child.returncode == -how, f"{words} ended with {child.returncode}: {err}")
+    return err.decode()
+
+
+def interrupts(setting):
+    """Ctrl-C and kill leave things as they are and say how to go on; doing that ends it."""
+    film, images = setting.new(), setting.encoded(noise(5 * 5 * 256 * 40), 5, s=256, unit=1)
+    film.write_bytes(noise(5 * 5 * 256 * 40))
+    before = images.images()
+    images.lose(1)
+    for how in (signal.SIGINT, signal.SIGTERM):
+        told = stopped(setting, ["rebuild", "--rate", "20K", images.folder], images.part(1).exists, how)
+        expect(told.endswith("cuzhaveli: stopped; what is rebuilt stays; the same command goes on\n"), told)
+        expect(images.part(1).exists() and not images.path(1).exists(), "a rebuild that was stopped left no part")
+    done = setting.told("rebuild", images.folder)
+    expect(images.images() == before and done["kept"] > 0, f"gone on after a stop: {done.told()}")
+    images.flip(2, images.offset(30, 0))
+    told = stopped(setting, ["check", "--rate", "60K", images.folder], lambda: True)
+    again = re.fullmatch(r"cuzhaveli: stopped; to go on: cuzhaveli check --from (\d+) (.*)\n", told)
+    expect(again and again[2] == str(images.folder) and 0 < int(again[1]) <= 30, f"a check that was stopped says {told}")
+    done = setting.told("check", "--from", again[1], images.folder, status=1)
+    expect(done.sums() == (40 - int(again[1]), 1, 0, 0), done.told())
+    told = stopped(setting, ["repair", "--rate", "60K", images.folder], lambda: True)
+    expect("the same command goes on" in told, told)
+    setting.call("repair", images.folder, status=0)
+    expect(images.images() == before, "repaired after a stop: other images")
+    folder, out = setting.new(), setting.new()
+    told = stopped(setting, ["encode", "-p", 3, "-", folder], lambda: list(folder.glob("*")) if folder.exists() else [], stdin=subprocess.PIPE)
+    expect(f"no set is in {folder} yet: remove its .part files, and encode again" in told, told)
+    for part in folder.iterdir():
+        expect(part.name.endswith(".part"), f"a stopped encode left {part}")
+        part.unlink()
+    setting.call("encode", "-p", 3, film, folder, status=0)
+    with subprocess.Popen([setting.program, "check", "-q", "--rate", "100K", images.folder], stdout=subprocess.DEVNULL,
+                          preexec_fn=lambda: signal.signal(signal.SIGINT, signal.SIG_IGN)) as child:
+        time.sleep(0.3)
+        child.send_signal(signal.SIGINT)
+        time.sleep(0.3)
+        expect(child.poll() is None, "a call that was started to ignore Ctrl-C ended by it")
+        child.kill()
+    return "6 stops"
+
+
+CHECKS = [killed_rebuilds, killed_encodes, killed_repairs, order, full_devices, closed_pipes, progress, interrupts]

@@ -1,6 +1,7 @@
 """What the checks share: the program, sets of images, a model of their layout, and a tracer."""
 
 import ctypes
+import json
 import os
 import pathlib
 import random
@@ -13,6 +14,7 @@ import time
 
 LABEL = 4096
 MEMORY = pathlib.Path("/dev/shm")
+TOP = pathlib.Path(__file__).resolve().parents[2]
 
 
 class Wrong(Exception):
@@ -33,10 +35,21 @@ class Done:
     def told(self):
         return f"{' '.join(map(str, self.words))}: status {self.status}, stdout {self.out[:300]!r}, stderr {self.err[:600]!r}"
 
-    def fields(self):
-        """The numbers of the last line of results by the word before them."""
-        words = self.out.decode().splitlines()[-1].split(",") if self.out else []
-        return {words[i]: words[i + 1] for i in range(0, len(words) - 1)}
+    def figures(self):
+        """The object of --json, which is all that stands on standard output."""
+        expect(self.out.endswith(b"\n") and self.out.count(b"\n") == 1, f"not one line: {self.told()}")
+        return json.loads(self.out)
+
+    def __getitem__(self, name):
+        return self.figures()[name]
+
+    def found(self):
+        """What a check found, each as a tuple."""
+        return [tuple(tuple(value) if isinstance(value, list) else value for value in one.values()) for one in self["found"]]
+
+    def sums(self):
+        """The sums of a check."""
+        return tuple(self[name] for name in ("stripes", "bad", "dirty", "beyond"))
 
 
 def has_room(folder):
@@ -89,6 +102,10 @@ class Setting:
         expect(done.status != 101 and b"panicked" not in done.err, f"a panic: {done.told()}")
         expect(status is None or done.status == status, f"status {status} expected: {done.told()}")
         return done
+
+    def told(self, command, *words, status=0, **more):
+        """A call that tells its figures to programs."""
+        return self.call(command, "--json", *words, status=status, **more)
 
     def measured(self, *words):
         """The same with what the kernel counted of the call."""

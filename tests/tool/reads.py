@@ -21,7 +21,7 @@ def bytes_asked(setting):
         for lost in (0, 1, images.k, images.k + 1):
             images.lose(lost)
             most = listed(images, setting, lost) * s * stripes
-            would = int(setting.call("rebuild", "-n", images.folder, status=0).fields()["read"])
+            would = setting.told("rebuild", "-n", images.folder)["read"]
             expect(would <= most and (k or would == most), f"lost {lost}: would read {would}, our plan {most}")
             traced = Traced(setting, "rebuild", images.folder)
             asked = sum(length for name, file, _, length in traced.calls()
@@ -31,7 +31,7 @@ def bytes_asked(setting):
             wanted = would + images.block_len * images.units() + 2 * 4096 * (images.disks - 1)
             expect(asked == wanted, f"p {p}, lost {lost}: {asked} bytes asked, {wanted} expected")
             images.lose(lost)
-            told = int(setting.call("rebuild", images.folder, status=0).fields()["read"])
+            told = setting.told("rebuild", images.folder)["read"]
             expect(told == would + images.block_len * images.units(), f"p {p}, lost {lost}: {told} bytes told")
             count += 1
     return f"{count} rebuilds"
@@ -56,14 +56,14 @@ def device_reads(setting):
     if whole < stripes:
         return "left out: the file system does not count device reads"
     setting.call("decode", images.folder, "/dev/null", status=0)  # all data is in the cache now
-    again = setting.measured("check", images.folder)
-    if again.out.endswith(b",medium\n"):
+    again = setting.measured("check", "--json", images.folder)
+    if not again["cached"]:
         read = again.usage.ru_inblock * 512
         expect(read >= stripes, f"check says medium, and {read} bytes of {stripes} were read from the device")
     seen = []
     for lost in (1, 3):
         images.lose(lost)
-        asked = int(setting.call("rebuild", "-n", images.folder, status=0).fields()["read"])
+        asked = setting.told("rebuild", "-n", images.folder)["read"]
         expect(asked == listed(images, setting, lost) * images.s * images.stripes, f"{asked} bytes would be read")
         cold(images)
         read = setting.measured("rebuild", images.folder).usage.ru_inblock * 512

@@ -93,8 +93,8 @@ def odd_labels(setting):
         changed = [change if line.split()[0] == name else line for line in lines]
         block = label_block(changed)
         images.path(0).write_bytes(block + good[0][LABEL:-LABEL] + block)
-        done = setting.call("info", images.folder, status=1)
-        expect(done.out.endswith(b"lost,0\n") and b"disk-00.img has damaged labels" in done.err, f"{change}: {done.told()}")
+        done = setting.told("info", images.folder, status=1)
+        expect(done["lost"] == [0] and b"disk-00.img has damaged labels" in done.err, f"{change}: {done.told()}")
     for change in changes:  # all labels: no set, no crash, nothing of that size taken
         name = change.split()[0]
         for disk, image in good.items():
@@ -125,12 +125,12 @@ def lost_disks(setting):
     cases = (b"", good[2][:-1], good[2] + b"\0", good[2][:LABEL], images.label(2, "part") + good[2][LABEL:])
     for content in cases:
         images.path(2).write_bytes(content)
-        done = setting.call("info", images.folder, status=1)
-        expect(done.out.endswith(b"lost,2\n") and b"it counts as lost" in done.err, done.told())
+        done = setting.told("info", images.folder, status=1)
+        expect(done["lost"] == [2] and b"it counts as lost" in done.err, done.told())
         expect(setting.film(images) == FILM, f"{content[:20]}..: another film")
         setting.call("rebuild", images.folder, status=0)
         expect(images.images() == good, f"{content[:20]}..: other images")
-    stands(setting, images, 3, "rebuild", "--disk", 7, images.folder, says=b"refused,3: ")
+    stands(setting, images, 3, "rebuild", "--disk", 7, images.folder, says=b"--disk 7: the array has no disk of that number, or no data disk (refusal 3)")
     stands(setting, images, 0, "rebuild", images.folder)
     return f"{len(cases)} sorts of lost disks"
 
@@ -186,8 +186,8 @@ def outside(setting):
     images.path(2).unlink()
     images.path(2).symlink_to("/dev/zero")
     expect(setting.film(images) == FILM, "a device in an image's place")
-    done = setting.call("judge", "-p", 5, "-d", 1, "/dev/zero", status=1)
-    expect(done.out == b"refused,22,0\n", done.told())
+    done = setting.told("judge", "-p", 5, "-d", 1, "/dev/zero", status=1)
+    expect(done["refusal"] == 22, done.told())
     target = images.path(3).rename(setting.new())
     images.path(3).symlink_to(target)
     images.path(2).unlink()
@@ -218,9 +218,9 @@ def parts(setting):
              (good[1], 9), (mark + good[1][LABEL:] + bytes(500), 9)]
     for content, kept in cases:
         images.part(1).write_bytes(content)
-        done = setting.call("rebuild", images.folder, status=0)
+        done = setting.told("rebuild", images.folder)
         expect(images.images() == good, f"a part of {len(content)} bytes, {kept} stripes good: other images")
-        expect(done.fields()["kept"] == str(kept) and done.fields()["stripes"] == str(9 - kept), f"{kept} kept expected: {done.told()}")
+        expect((done["kept"], done["stripes"]) == (kept, 9 - kept), f"{kept} kept expected: {done.told()}")
         images.lose(1)
     return f"{5 + len(cases)} parts"
 

@@ -86,13 +86,13 @@ def every_loss(setting):
         pairs = list(itertools.combinations(disks, 2))
         for lost in [(disk,) for disk in disks] + (pairs if p < 31 else pairs[::7] + pairs[-3:]):
             images.lose(*lost)
-            done = setting.call("decode", images.folder, out := setting.new(), status=0)
+            done = setting.told("decode", images.folder, out := setting.new())
             expect(out.read_bytes() == film, f"p {p}, group {group}, lost {lost}: decode gave another film")
             out.unlink()
-            again = setting.call("rebuild", images.folder, status=0)
+            again = setting.told("rebuild", images.folder)
             expect(images.images() == before, f"p {p}, group {group}, lost {lost}: other images")
             for told in (done, again):
-                expect(told.fields()["mended"] == "0", f"the plan alone does not bring disks {lost} back: {told.told()}")
+                expect(told["mended"] == 0, f"the plan alone does not bring disks {lost} back: {told.told()}")
             expect(len(list(images.folder.iterdir())) == images.disks, f"lost {lost}: something is left in the folder")
             losses += 1
     return f"{losses} losses rebuilt and decoded"
@@ -107,12 +107,11 @@ def every_way(setting):
         rows = images.k * images.p * images.s * images.stripes
         blocks = images.block_len * images.units()
         for disk in range(images.disks):
-            for way, read in ((["--by-rows"], rows), (["--test"], rows + rows // images.k), ([], None)):
-                done = setting.call("rebuild", *way, "--disk", disk, images.folder, status=0)
+            for way, read in ((["--plan", "rows"], rows), (["--test"], rows + rows // images.k), ([], None)):
+                done = setting.told("rebuild", *way, "--disk", disk, images.folder)
                 expect(images.images() == before, f"{way} of disk {disk}: other bytes")
-                told = done.fields()
-                expect(read is None or int(told["read"]) == read + blocks, f"{way}: {read} + {blocks} bytes expected: {done.told()}")
-                expect(int(told["rows"]) == rows and told["rebuilt"] == str(disk), done.told())
+                expect(read is None or done["read"] == read + blocks, f"{way}: {read} + {blocks} bytes expected: {done.told()}")
+                expect(done["rows"] == rows and done["lost"] == [disk] and done["done"], done.told())
                 count += 1
     return f"{count} rebuilds"
 

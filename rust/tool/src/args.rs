@@ -1,75 +1,122 @@
-//! The words of a command: options first or between, operands.
+//! The words of a command line, sorted by the table: options first or between, operands.
 
 use std::ffi::{OsStr, OsString};
+use std::os::unix::ffi::OsStrExt;
 use std::path::Path;
 
-use cuzhaveli::Shape;
+use cuzhaveli::{Refusal, RefusalKind, Shape};
 use cuzhaveli_tool::drives::Overwrite;
 use cuzhaveli_tool::pace::Pace;
 
 use crate::fault::Fault;
+use crate::near::meant;
+use crate::table::{Command, Kind, Opt};
 
-/// An option of a command.
-pub enum Form {
-    /// A word alone.
-    Flag(&'static str),
-    /// A word and a value.
-    Value(&'static str),
-    /// The same, any number of times.
-    Values(&'static str),
-}
-
-impl Form {
-    fn name(&self) -> &'static str {
-        match self {
-            Form::Flag(name) | Form::Value(name) | Form::Values(name) => name,
-        }
-    }
-}
+type Words<'a> = &'a mut dyn Iterator<Item = OsString>;
 
 /// The options and operands that were given.
 pub struct Given {
+    command: &'static Command,
     options: Vec<(&'static str, OsString)>,
     pub operands: Vec<OsString>,
 }
 
 impl Given {
-    /// Sorts the words by the forms; `--` ends the options.
-    pub fn sort(words: impl Iterator<Item = OsString>, forms: &[Form]) -> Result<Given, Fault> {
-        let mut given = Given { options: Vec::new(), operands: Vec::new() };
-        let mut words = words;
+    /// Sorts the words of a command; `--` ends the options.
+    pub fn sort(
+        mut words: impl Iterator<Item = OsString>,
+        command: &'static Command,
+    ) -> Result<Given, Fault> {
+        let mut given = Given { command, options: Vec::new(), operands: Vec::new() };
         while let Some(word) = words.next() {
-            if word == "--" {
-                given.operands.extend(words);
-                break;
+            match word.as_bytes() {
+                b"--" => given.operands.extend(words.by_ref()),
+                [b'-', b'-', ..] => given.long(&word, &mut words)?,
+                [b'-', _, ..] => given.short(&word, &mut words)?,
+                _ => given.operands.push(word),
             }
-            if word == "-" || !word.as_encoded_bytes().starts_with(b"-") {
-                given.operands.push(word);
-                continue;
-            }
-            let form = forms.iter().find(|form| word == form.name());
-            let form = form.ok_or_else(|| usage(format!("no option {}", word.display())))?;
-            given.take(form, &mut words)?;
         }
+        given.is_whole()?;
         Ok(given)
+    }
+
+    /// `--name` or `--name=value`.
+    fn long(&mut self, word: &OsStr, words: Words) -> Result<(), Fault> {
+        let mut parts = word.as_bytes().splitn(2, |byte| *byte == b'=');
+        let found = self.find(parts.next().unwrap_or_default())?;
+        self.take(found, parts.next(), words)
+    }
+
+    /// `-n`, `-nVALUE`, `-n=VALUE`, or flags together as in `-qn`.
+    fn short(&mut self, word: &OsStr, words: Words) -> Result<(), Fault> {
+        let mut letters = &word.as_bytes()[1..];
+        while let [letter, after @ ..] = letters {
+            let found = self.find(&[b'-', *letter])?;
+            letters = after;
+            let mut value = None;
+            if !after.is_empty() && (found.0.value.is_some() || after[0] == b'=') {
+                letters = &[];
+                value = Some(after.strip_prefix(b"=").unwrap_or(after));
+            }
+            self.take(found, value, words)?;
+        }
+        Ok(())
+    }
+
+    fn find(&self, name: &[u8]) -> Result<(&'static Opt, bool), Fault> {
+        let mut options = self.command.options();
+        options.find(|(option, _)| name == option.name.as_bytes()).ok_or_else(|| {
+            let name = String::from_utf8_lossy(name);
+            let names = self.command.options().map(|(option, _)| option.name);
+            usage(format!("no option {name}{}", meant(&name, names)))
+        })
     }
 
     fn take(
         &mut self,
-        form: &Form,
-        words: &mut impl Iterator<Item = OsString>,
+        (option, many): (&'static Opt, bool),
+        value: Option<&[u8]>,
+        words: Words,
     ) -> Result<(), Fault> {
-        let name = form.name();
-        if !matches!(form, Form::Values(_)) && self.value(name).is_some() {
-            return Err(usage(format!("{name} is given twice")));
+        let name = option.name;
+        if !many && self.value(name).is_some() {
+            return Err(usage(format!("{name} is given twice; give it once")));
         }
-        let value = match form {
-            Form::Flag(_) => Some(OsString::new()),
-            _ => words.next(),
+        let within = value.map(|value| OsStr::from_bytes(value).to_owned());
+        let value = match (option.value, within) {
+            (None, None) => OsString::new(),
+            (None, Some(value)) => {
+                let value = value.display();
+                return Err(usage(format!("{name} takes no value; leave {value} out")));
+            }
+            (Some((value, _)), within) => within
+                .or_else(|| words.next())
+                .ok_or_else(|| usage(format!("{name} needs {value} after it: {}", option.about)))?,
         };
-        let value = value.ok_or_else(|| usage(format!("{name} needs a value after it")))?;
+        fits(option, &value)?;
         self.options.push((name, value));
         Ok(())
+    }
+
+    /// Whether nothing that is needed is missing, and no word is too many.
+    fn is_whole(&self) -> Result<(), Fault> {
+        for option in self.command.needed().filter(|option| !self.flag(option.name)) {
+            return Err(usage(format!("{} is missing: {}", option.shown(), option.about)));
+        }
+        let count = self.operands.len();
+        if let Some((operand, _)) = self.command.operands().nth(count) {
+            if count < self.command.needed_operands() {
+                return Err(usage(format!("{} is missing: {}", operand.name, operand.about)));
+            }
+        }
+        let many = self.command.operands().any(|(_, many)| many);
+        match self.operands.get(self.command.operands().count()) {
+            Some(word) if !many => {
+                let word = word.display();
+                Err(usage(format!("{word} is a word too many; leave it out")))
+            }
+            _ => Ok(()),
+        }
     }
 
     pub fn flag(&self, name: &str) -> bool {
@@ -80,9 +127,20 @@ impl Given {
         self.options.iter().find(|(given, _)| *given == name).map(|(_, value)| &**value)
     }
 
-    fn values<'a>(&'a self, name: &'a str) -> impl Iterator<Item = &'a OsStr> {
+    pub fn values<'a>(&'a self, name: &'a str) -> impl Iterator<Item = &'a OsStr> {
         let named = move |(given, _): &&(&str, OsString)| *given == name;
         self.options.iter().filter(named).map(|(_, value)| &**value)
+    }
+
+    /// Refuses options of which one alone may be given.
+    pub fn at_most_one(&self, names: &[&str]) -> Result<(), Fault> {
+        let given: Vec<&str> = names.iter().copied().filter(|name| self.flag(name)).collect();
+        match given[..] {
+            [one, other, ..] => {
+                Err(usage(format!("{one} and {other} exclude each other; leave one out")))
+            }
+            _ => Ok(()),
+        }
     }
 
     /// The drives that may be overwritten.
@@ -94,7 +152,7 @@ impl Given {
     pub fn pace(&self) -> Result<Pace, Fault> {
         let rate = self.number("--rate")?;
         if rate == Some(0) {
-            return Err(usage("--rate 0: nothing would ever be read".into()));
+            return Err(usage("--rate 0: nothing would ever be read; give 1 or more".into()));
         }
         Ok(Pace::new(rate))
     }
@@ -102,11 +160,6 @@ impl Given {
     /// A number, if the option is given.
     pub fn number(&self, name: &str) -> Result<Option<u64>, Fault> {
         self.value(name).map(|value| number(name, value)).transpose()
-    }
-
-    /// All numbers of an option.
-    pub fn numbers(&self, name: &str) -> Result<Vec<usize>, Fault> {
-        self.values(name).map(|value| number(name, value).map(|n| n as usize)).collect()
     }
 
     /// A number that the command cannot do without.
@@ -119,7 +172,36 @@ impl Given {
         let width = self.needed("-p")? as usize;
         let disks = self.number("-k")?.map_or(width, |n| n as usize);
         let cell = self.number("-s")?.map_or(4096, |n| n as usize);
-        Ok(Shape::new(width, disks, cell)?)
+        Shape::new(width, disks, cell).map_err(|refusal| match refusal.kind() {
+            RefusalKind::BadDisks => self.refused("-k", refusal),
+            RefusalKind::BadCellSize => self.refused("-s", refusal),
+            _ => self.refused("-p", refusal),
+        })
+    }
+
+    /// The library's refusal of what an option says.
+    pub fn refused(&self, name: &str, refusal: Refusal) -> Fault {
+        match self.value(name) {
+            Some(value) => Fault::Refused(refusal, format!("{name} {}: ", value.display())),
+            None => refusal.into(),
+        }
+    }
+
+    /// The disk that an option names, of an array of that shape.
+    pub fn disk(&self, name: &str, shape: Shape) -> Result<Option<usize>, Fault> {
+        self.value(name).map(|value| Ok(Disk::of(name, value)?.number(shape))).transpose()
+    }
+
+    /// The lost disk.
+    pub fn lost(&self, shape: Shape) -> Result<usize, Fault> {
+        let lost = self.disk("-d", shape)?.ok_or_else(|| usage("-d is missing".into()))?;
+        shape.plan(lost).map_err(|refusal| self.refused("-d", refusal))?;
+        Ok(lost)
+    }
+
+    /// All disks that an option names.
+    pub fn disks(&self, name: &str) -> Result<Vec<Disk>, Fault> {
+        self.values(name).map(|value| Disk::of(name, value)).collect()
     }
 
     pub fn path(&self, place: usize) -> &Path {
@@ -127,9 +209,57 @@ impl Given {
     }
 }
 
+/// A disk as it is named.
+#[derive(Clone, Copy, Debug, PartialEq, Eq)]
+pub enum Disk {
+    Number(usize),
+    P,
+    Q,
+}
+
+impl Disk {
+    fn of(name: &str, value: &OsStr) -> Result<Disk, Fault> {
+        match value.as_bytes() {
+            b"P" | b"p" => Ok(Disk::P),
+            b"Q" | b"q" => Ok(Disk::Q),
+            _ => number(name, value).map(|number| Disk::Number(number as usize)).map_err(|_| {
+                let value = value.display();
+                usage(format!("{name} {value}: no disk; give its number from 0 on, P or Q"))
+            }),
+        }
+    }
+
+    pub fn number(self, shape: Shape) -> usize {
+        match self {
+            Disk::Number(number) => number,
+            Disk::P => shape.disks(),
+            Disk::Q => shape.disks() + 1,
+        }
+    }
+}
+
+/// Refuses a value that is not of the option's kind.
+fn fits(option: &Opt, value: &OsStr) -> Result<(), Fault> {
+    match option.value {
+        Some((_, Kind::Number)) => number(option.name, value).map(|_| ()),
+        Some((_, Kind::Disk)) => Disk::of(option.name, value).map(|_| ()),
+        Some((_, Kind::Word(words))) if !words.iter().any(|word| value == *word) => {
+            let near = meant(&value.to_string_lossy(), words.iter().copied());
+            let (name, value) = (option.name, value.display());
+            Err(usage(format!("{name} {value}: not one of {}{near}", words.join(", "))))
+        }
+        _ => Ok(()),
+    }
+}
+
 /// A decimal number, with K, M, G or T for powers of 1,024.
 pub fn number(name: &str, value: &OsStr) -> Result<u64, Fault> {
-    let wrong = || usage(format!("{name} {}: not a number below 2^64", value.display()));
+    let wrong = || {
+        usage(format!(
+            "{name} {}: not a number below 2^64; give digits, with K, M, G or T after them for powers of 1,024",
+            value.display()
+        ))
+    };
     let text = value.to_str().ok_or_else(wrong)?;
     let (digits, shift) = match text.as_bytes().last() {
         Some(b'K') => (&text[..text.len() - 1], 10),
@@ -147,4 +277,58 @@ pub fn number(name: &str, value: &OsStr) -> Result<u64, Fault> {
 
 pub fn usage(text: String) -> Fault {
     Fault::Usage(text)
+}
+
+#[cfg(test)]
+mod tests {
+    use super::*;
+    use crate::table::words::{DIR, LOST, QUIET, WIDTH};
+    use crate::table::Use;
+
+    const TRIED: Command = Command {
+        name: "tried",
+        brief: "",
+        about: &[],
+        words: &[
+            Use::Opt(&WIDTH),
+            Use::May(&Use::Opt(&QUIET)),
+            Use::May(&Use::Opt(&Opt { name: "-n", value: None, about: "" })),
+            Use::Any(&Use::Opt(&LOST)),
+            DIR,
+        ],
+        tells: &[],
+        run: |_| Ok(()),
+    };
+
+    fn given(line: &str) -> Result<Given, Fault> {
+        Given::sort(line.split(' ').map(OsString::from), &TRIED)
+    }
+
+    #[test]
+    fn a_value_stands_after_its_option_or_in_it() {
+        for line in ["-p 5 x", "-p5 x", "-p=5 x", "-qp5 x", "x -qnp 5", "x -p 5", "-p5 -- -x"] {
+            let given = given(line).unwrap();
+            assert_eq!((given.number("-p").unwrap(), given.operands.len()), (Some(5), 1), "{line}");
+        }
+        let named = given("-p5 -d1 -d=P -d Q x").unwrap().disks("-d").unwrap();
+        assert_eq!(named, [Disk::Number(1), Disk::P, Disk::Q]);
+    }
+
+    #[test]
+    fn wrong_words_are_named() {
+        for (line, named) in [
+            ("-p5 -q=1 x", "-q takes no value; leave 1 out"),
+            ("-p5 -qq x", "-q is given twice"),
+            ("x -p", "-p needs WIDTH after it"),
+            ("-px x", "-p x: not a number"),
+            ("-p5 -d R x", "-d R: no disk"),
+            ("-p5", "DIR is missing: the folder"),
+            ("-p5 x y", "y is a word too many"),
+            ("x", "-p WIDTH is missing: the rows"),
+            ("-p5 -z x", "no option -z"),
+        ] {
+            let told = given(line).err().unwrap().to_string();
+            assert!(told.starts_with(named), "{line}: {told}");
+        }
+    }
 }

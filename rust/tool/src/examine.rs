@@ -76,5 +76,5 @@ pub fn examine(
         let blocks = bad.into_iter().map(|(disk, unit)| BadBlock { disk, unit }).collect();
         each(Findings { reader: &reader, stripes: &mut stripes, batch, blocks, beyond })?;
     }
-    Ok(reader.read)
+    Ok(reader.read())
 }

@@ -12,7 +12,7 @@ pub enum Fault {
     No(String),
     /// The words of the command are not those of its usage.
     Usage(String),
-    /// The library refused; the text says where, or nothing.
+    /// The library refused; the text says of what or where, or nothing.
     Refused(Refusal, String),
     /// Reading or writing failed.
     Failed(String),
@@ -55,7 +55,9 @@ impl fmt::Display for Fault {
     fn fmt(&self, f: &mut fmt::Formatter) -> fmt::Result {
         match self {
             Fault::Refused(refusal, place) => {
-                write!(f, "{}{place}", refusal.to_string().replacen("refused, ", "refused,", 1))
+                let told = refusal.to_string();
+                let text = told.split_once(": ").map_or(&*told, |(_, text)| text);
+                write!(f, "{place}{text} (refusal {})", refusal.number())
             }
             Fault::No(text) | Fault::Usage(text) | Fault::Failed(text) => f.write_str(text),
             Fault::Images(text) | Fault::Beyond(text) => f.write_str(text),

@@ -53,7 +53,7 @@ impl<'a> Film<'a> {
         let some = Wanted::cells(readings);
         let beyond = self.reader.load(batch, if there { &some } else { &self.whole })?;
         if let [beyond, ..] = &beyond[..] {
-            return Err(Fault::Beyond(beyond.told()));
+            return Err(Fault::Beyond(beyond.told(self.geometry.shape)));
         }
         self.copy(at, bytes);
         Ok(())
@@ -132,7 +132,7 @@ pub fn read_all(set: &Set, sink: &mut impl Sink) -> Result<Account, Fault> {
             }
         }
     }
-    Ok(Account { read: reader.read, mended: reader.mended })
+    Ok(Account { read: reader.read(), mended: reader.mended })
 }
 
 /// Hands the film of some stripes of the batch on, by as many as there is room for.
@@ -234,8 +234,8 @@ mod tests {
         let mut film = Film::new(&set).unwrap();
         let mut read = [0; 16];
         film.read(1600, &mut read).unwrap();
-        assert_eq!(film.reader.read, 2 * 16 + geometry.block_len() as u64);
+        assert_eq!(film.reader.read(), 2 * 16 + geometry.block_len() as u64);
         film.read(1605, &mut read[..3]).unwrap();
-        assert_eq!(film.reader.read, 2 * 16 + geometry.block_len() as u64);
+        assert_eq!(film.reader.read(), 2 * 16 + geometry.block_len() as u64);
     }
 }

@@ -5,10 +5,17 @@
 
 mod args;
 mod commands;
+mod complete;
+mod help;
+mod json;
+mod manual;
+mod near;
 mod picture;
+mod plan_text;
 mod progress;
 mod say;
 mod svg;
+mod table;
 
 use std::process::ExitCode;
 

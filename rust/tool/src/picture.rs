@@ -2,7 +2,8 @@
 
 use std::fmt::Write;
 
-use cuzhaveli::{Set, Shape};
+use cuzhaveli::{Plan, Set, Shape};
+use cuzhaveli_tool::names::disk_name;
 
 use crate::fault::Fault;
 
@@ -40,10 +41,11 @@ impl Mark {
     }
 }
 
-/// The picture of our plan for a lost disk.
+/// The picture of a plan for a lost disk.
 pub struct Picture {
     pub shape: Shape,
     lost: usize,
+    plan: String,
     reads: u32,
     /// Row by row, disk by disk.
     pub marks: Vec<Vec<Mark>>,
@@ -66,9 +68,9 @@ fn holds(shape: Shape, set: Set, row: usize, disk: usize) -> bool {
 }
 
 impl Picture {
-    /// Draws the plan from its sets, and holds the drawing to the library's read list.
-    pub fn of(shape: Shape, lost: usize) -> Result<Picture, Fault> {
-        let (plan, list) = (shape.plan(lost)?, shape.read_list(lost)?);
+    /// Draws a plan of that name from its sets, and holds the drawing to the library's read list.
+    pub fn of(shape: Shape, lost: usize, plan: &Plan, name: String) -> Result<Picture, Fault> {
+        let list = shape.plan_list(lost, &plan.bytes())?;
         let mut sets = vec![String::new(); shape.width()];
         for step in plan.steps() {
             sets[usize::from(step.row)] = match step.set {
@@ -88,31 +90,43 @@ impl Picture {
                 "a defect: picture and read list differ; please report it".into(),
             ));
         }
-        Ok(Picture { shape, lost, reads: plan.reads(), marks, sets })
+        Ok(Picture { shape, lost, plan: name, reads: plan.reads(), marks, sets })
+    }
+
+    /// How many cells of a disk are read.
+    pub fn share(&self, disk: usize) -> usize {
+        self.marks.iter().filter(|row| !matches!(row[disk], Mark::Lost | Mark::Unread)).count()
+    }
+
+    /// The share of each disk, with the lost one's mark in its place.
+    pub fn shares(&self) -> Vec<String> {
+        let share = |disk| match disk == self.lost {
+            true => Mark::Lost.letter().to_string(),
+            false => self.share(disk).to_string(),
+        };
+        (0..self.shape.disks() + 2).map(share).collect()
+    }
+
+    /// The words after the shares.
+    pub fn most(&self) -> String {
+        let most = (0..self.shape.disks() + 2).map(|disk| self.share(disk)).max().unwrap_or(0);
+        format!("at most {most}")
     }
 
     /// The line above the picture.
     pub fn title(&self) -> String {
         let (p, k, reads) = (self.shape.width(), self.shape.disks(), self.reads);
         let disks = if k == p { String::new() } else { format!(", {k} data disks") };
-        let parity = match self.lost.checked_sub(k) {
-            Some(0) => " (P)",
-            Some(_) => " (Q)",
-            None => "",
-        };
-        let (lost, survivors, rows) = (self.lost, p * (k + 1), p * k);
+        let (lost, plan) = (self.disk_name(self.lost), &self.plan);
+        let (survivors, rows) = (p * (k + 1), p * k);
         format!(
-            "width {p}{disks}, lost disk {lost}{parity}: {reads} of {survivors} surviving cells read (all rows: {rows})"
+            "width {p}{disks}, lost disk {lost}, {plan}: {reads} of {survivors} surviving cells read (all rows: {rows})"
         )
     }
 
     /// The name of a disk at the head of its column.
     pub fn disk_name(&self, disk: usize) -> String {
-        match disk.checked_sub(self.shape.disks()) {
-            Some(0) => "P".into(),
-            Some(_) => "Q".into(),
-            None => disk.to_string(),
-        }
+        disk_name(self.shape, disk)
     }
 
     /// The picture for a terminal.
@@ -126,6 +140,8 @@ impl Picture {
             let cells: String = marks.iter().map(|mark| format!("  {}", mark.letter())).collect();
             let _ = writeln!(text, "{row:>4} {cells}   {set}");
         }
+        let shares: String = self.shares().iter().map(|share| format!("{share:>3}")).collect();
+        let _ = writeln!(text, "read {shares}   {}", self.most());
         let legend = Mark::ALL.map(|mark| format!("{} {}", mark.letter(), mark.meaning()));
         text + "\n  " + &legend.join("   ") + "\n"
     }
@@ -148,19 +164,33 @@ fn mark(shape: Shape, used: &[Set], lost: usize, row: usize, disk: usize) -> Mar
 mod tests {
     use super::*;
 
+    fn of(shape: Shape, lost: usize, plan: Plan) -> Picture {
+        let picture = Picture::of(shape, lost, &plan, "plan".into()).unwrap();
+        let reads: usize = (0..shape.disks() + 2).map(|disk| picture.share(disk)).sum();
+        assert_eq!(reads, picture.reads as usize);
+        assert!(picture.sets.iter().all(|set| !set.is_empty()));
+        picture
+    }
+
     #[test]
     fn every_plan_has_a_picture_that_its_read_list_agrees_with() {
         for p in [3, 5, 7, 11, 13, 17, 19, 23, 29, 31] {
             for k in 2..=p {
                 let shape = Shape::new(p, k, 1).unwrap();
                 for lost in 0..k + 2 {
-                    let picture = Picture::of(shape, lost).unwrap();
-                    let read = |mark: &&Mark| !matches!(mark, Mark::Lost | Mark::Unread);
-                    let reads = picture.marks.iter().flatten().filter(read).count();
-                    assert_eq!(reads, picture.reads as usize);
-                    assert!(picture.sets.iter().all(|set| !set.is_empty()));
+                    of(shape, lost, shape.plan(lost).unwrap());
+                    of(shape, lost, shape.balanced_plan(lost).unwrap());
                 }
             }
         }
+    }
+
+    #[test]
+    fn the_shares_of_the_further_plans() {
+        let shape = Shape::new(31, 31, 1).unwrap();
+        let balanced = of(shape, 3, shape.balanced_plan(3).unwrap());
+        assert_eq!(balanced.most(), "at most 23");
+        let relief = of(shape, 3, shape.relief_plan(3, 8).unwrap());
+        assert_eq!((relief.share(8), &*relief.shares()[3], &*relief.shares()[8]), (16, "x", "16"));
     }
 }

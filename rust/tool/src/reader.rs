@@ -6,15 +6,18 @@ mod mend;
 use std::io;
 use std::ops::Range;
 
+use cuzhaveli::Shape;
+
 use crate::blocks::Blocks;
 use crate::cells::Cells;
 use crate::fault::Fault;
 use crate::geometry::{Batch, Geometry};
 use crate::image::Bounce;
+use crate::names::{self, disk_names};
 use crate::pace::Pace;
 use crate::parallel;
 use crate::rows::{self, Row};
-use crate::set::{joined, Set};
+use crate::set::Set;
 use crate::wanted::{Reading, Wanted, Way};
 
 /// What is known of a piece of the batch.
@@ -53,14 +56,11 @@ pub struct Beyond {
 }
 
 impl Beyond {
-    pub fn told(&self) -> String {
-        let (first, last) = (self.stripes.start, self.stripes.end - 1);
+    pub fn told(&self, shape: Shape) -> String {
+        let stripes = names::stripes(self.stripes.start, self.stripes.end);
         match self.disks[..] {
-            [] => format!("stripes {first} to {last}: no image has their checksums"),
-            _ => format!(
-                "stripes {first} to {last}: too much is bad on disks {}",
-                joined(&self.disks)
-            ),
+            [] => format!("{stripes}: no image has the checksums"),
+            _ => format!("{stripes}: too much is bad on {}", disk_names(shape, &self.disks)),
         }
     }
 }
@@ -80,8 +80,8 @@ pub struct Reader<'a> {
     /// One for each thread, at least one.
     bounces: Vec<Bounce>,
     pace: Pace,
-    /// Bytes read so far, of cells and checksum blocks.
-    pub read: u64,
+    /// Bytes read so far of each disk, of cells and checksum blocks.
+    read: Vec<u64>,
     /// Units so far in which something had to be mended.
     pub mended: u64,
 }
@@ -101,7 +101,7 @@ impl<'a> Reader<'a> {
             stripe: vec![0; geometry.shape.stripe_len()],
             bounces: (0..set.threads()).map(|_| Bounce::default()).collect(),
             pace,
-            read: 0,
+            read: vec![0; geometry.disks()],
             mended: 0,
         }
     }
@@ -116,6 +116,16 @@ impl<'a> Reader<'a> {
 
     pub fn blocks(&self) -> &Blocks {
         &self.blocks
+    }
+
+    /// Bytes read so far, of cells and checksum blocks.
+    pub fn read(&self) -> u64 {
+        self.read.iter().sum()
+    }
+
+    /// The bytes of the disk of which the most were read.
+    pub fn busiest(&self) -> u64 {
+        self.read.iter().copied().max().unwrap_or(0)
     }
 
     /// The bad pieces of the batch that were seen.
@@ -191,7 +201,7 @@ impl<'a> Reader<'a> {
         if image.read(&mut bytes, at, &mut self.bounces[0]).is_err() {
             return;
         }
-        self.count(bytes.len());
+        self.count(disk, bytes.len());
         for (unit, block) in units.zip(bytes.chunks_exact(len)) {
             if !self.blocks.is_known(unit) {
                 self.blocks.take(unit, block);
@@ -224,15 +234,14 @@ impl<'a> Reader<'a> {
             (0..batch.units).filter(bad).map(|unit| (disk, unit)).collect()
         };
         let disks: Vec<usize> = set.present().collect();
-        let read = disks.len() * all;
         let mut bad = parallel::each(&mut self.bounces, disks, look).concat();
         bad.sort();
-        self.count(read);
+        set.present().for_each(|disk| self.count(disk, all));
         bad
     }
 
-    fn count(&mut self, bytes: usize) {
-        self.read += bytes as u64;
+    fn count(&mut self, disk: usize, bytes: usize) {
+        self.read[disk] += bytes as u64;
         self.pace.spend(bytes as u64);
     }
 
@@ -285,7 +294,8 @@ impl<'a> Reader<'a> {
         for (Row { disk, row }, verdict) in read {
             match verdict {
                 Ok(fits) => {
-                    self.read += (self.cells.batch.count * self.geometry.shape.cell_size()) as u64;
+                    let len = self.cells.batch.count * self.geometry.shape.cell_size();
+                    self.read[disk] += len as u64;
                     let judged = units.clone().zip(fits);
                     judged.for_each(|(unit, fits)| self.judge(unit, disk, row, fits));
                 }
@@ -327,7 +337,7 @@ impl<'a> Reader<'a> {
         let bytes = self.cells.cells_mut(disk, row, places);
         let len = bytes.len();
         image.read(bytes, at, &mut self.bounces[0])?;
-        self.count(len);
+        self.count(disk, len);
         Ok(())
     }
 

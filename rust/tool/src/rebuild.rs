@@ -28,6 +28,8 @@ pub struct Account {
     pub kept: u64,
     /// Bytes that were read of the survivors.
     pub read: u64,
+    /// Those of the disk of which the most were read.
+    pub busiest: u64,
     /// Units in which a survivor was bad.
     pub mended: u64,
     pub beyond: Vec<Beyond>,
@@ -64,7 +66,8 @@ pub fn rebuild(
     let geometry = set.label.geometry;
     let bytes = if pace.is_limited() { 1 } else { MOST_BYTES };
     let mut reader = Reader::new(set, bytes, pace);
-    let mut account = Account { stripes: 0, kept: 0, read: 0, mended: 0, beyond: Vec::new() };
+    let mut account =
+        Account { stripes: 0, kept: 0, read: 0, busiest: 0, mended: 0, beyond: Vec::new() };
     let begun = spares.iter().any(|spare| spare.begun);
     let mut batches = geometry.batches(0, bytes).peekable();
     reader.ahead(batches.peek().copied().filter(|_| !begun), wanted);
@@ -81,7 +84,8 @@ pub fn rebuild(
         done(batch.count as u64);
     }
     account.kept = geometry.stripes - account.stripes;
-    (account.read, account.mended) = (reader.read, reader.mended);
+    (account.read, account.busiest) = (reader.read(), reader.busiest());
+    account.mended = reader.mended;
     if account.beyond.is_empty() {
         finish(set, spares)?;
     }

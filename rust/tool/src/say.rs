@@ -1,13 +1,43 @@
-//! What the program says: results on standard output, all else on standard error.
+//! What the program says: results on standard output, all else on standard error; in colour on a terminal.
 
+use std::env;
 use std::fmt::Display;
-use std::io::{self, Write};
+use std::io::{self, IsTerminal, Write};
 
 use cuzhaveli_tool::reader::Beyond;
 use cuzhaveli_tool::set::Set;
 use cuzhaveli_tool::sys;
 
+use crate::args::Given;
 use crate::fault::Fault;
+use crate::json::Object;
+
+const RED: &str = "31";
+const GREEN: &str = "32";
+
+/// Tells what a command found: an object for programs, or text for people.
+pub fn told(given: &Given, object: Object, text: String) -> Result<(), Fault> {
+    line(if given.flag("--json") { object.to_string() } else { text })
+}
+
+/// Text in a colour, if that is wanted there: NO_COLOR has no value, and it is a terminal that knows colours.
+fn coloured(text: &str, colour: &str, terminal: bool) -> String {
+    let empty = |name| env::var_os(name).is_none_or(|value| value.is_empty());
+    match terminal && empty("NO_COLOR") && env::var_os("TERM").is_none_or(|term| term != "dumb") {
+        true => format!("\x1b[{colour}m{text}\x1b[0m"),
+        false => text.into(),
+    }
+}
+
+/// A result that is as it should be.
+pub fn good(text: &str) -> String {
+    coloured(text, GREEN, io::stdout().is_terminal())
+}
+
+/// A result that is not.
+pub fn bad(text: &str) -> String {
+    coloured(text, RED, io::stdout().is_terminal())
+}
 
 /// Writes a line of results.
 pub fn line(text: impl Display) -> Result<(), Fault> {
@@ -39,7 +69,8 @@ pub fn error(text: &str) {
 
 /// Tells the user something on the way. There is nobody to tell if that fails.
 pub fn warn(text: &str) {
-    let _ = writeln!(io::stderr(), "cuzhaveli: {text}");
+    let name = coloured("cuzhaveli:", RED, io::stderr().is_terminal());
+    let _ = writeln!(io::stderr(), "{name} {text}");
 }
 
 /// Tells of images that are there and are not believed.
@@ -49,5 +80,5 @@ pub fn notes(set: &Set) {
 
 /// Tells of stripes that cannot be made right.
 pub fn beyond(set: &Set, beyond: &Beyond) {
-    warn(&format!("{}, {}", set.folder().display(), beyond.told()));
+    warn(&format!("{}, {}", set.folder().display(), beyond.told(set.label.geometry.shape)));
 }

@@ -6,6 +6,7 @@ use std::path::{Path, PathBuf};
 use crate::fault::Fault;
 use crate::image::Image;
 use crate::label::{hex, Found, Label};
+use crate::names::disk_names;
 
 /// The most disks of a set: 31 with film, P and Q.
 pub const MOST_DISKS: usize = 33;
@@ -37,16 +38,6 @@ pub struct Set {
     /// The labels of the images that are there which are not as they should be: disk, and where.
     pub bad_labels: Vec<(usize, u64)>,
     direct: bool,
-}
-
-/// Disks as results name them: `1`, or `1+4`, or `none`.
-pub fn joined(disks: &[usize]) -> String {
-    let names: Vec<String> = disks.iter().map(usize::to_string).collect();
-    if names.is_empty() {
-        "none".into()
-    } else {
-        names.join("+")
-    }
 }
 
 /// What stands in a place, before the set is known.
@@ -108,7 +99,8 @@ impl Set {
             direct: false,
         };
         for disk in named {
-            label.geometry.shape.plan(*disk)?; // the library refuses a disk that the array lacks
+            let plan = label.geometry.shape.plan(*disk); // refused for a disk that the array lacks
+            plan.map_err(|refusal| Fault::Refused(refusal, format!("--disk {disk}: ")))?;
         }
         for (disk, seen) in seen.into_iter().enumerate().take(label.geometry.disks()) {
             let place = match named.contains(&disk) {
@@ -277,12 +269,11 @@ fn common_label(folder: &Path, seen: &[Seen]) -> Result<Label, Fault> {
 fn too_many(folder: &Path, label: &Label, lost: &[usize], notes: &[String]) -> Fault {
     let notes: String = notes.iter().map(|note| format!("; {note}")).collect();
     Fault::Images(format!(
-        "{}: {} disks of set {} are lost ({}), and no more than two can be rebuilt; put back the images that are \
-         somewhere else{notes}",
+        "{}: {} of set {} are lost, and no more than two can be rebuilt; put back the images that are somewhere \
+         else{notes}",
         folder.display(),
-        lost.len(),
-        hex(&label.set),
-        joined(lost)
+        disk_names(label.geometry.shape, lost),
+        hex(&label.set)
     ))
 }
 

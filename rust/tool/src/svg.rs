@@ -36,23 +36,22 @@ fn square(svg: &mut String, x: usize, y: usize, mark: Mark) {
 /// The picture: a square for each cell, the set of each row beside it, what the colours mean below.
 pub fn draw(picture: &Picture) -> String {
     let (p, disks) = (picture.shape.width(), picture.shape.disks() + 2);
-    let width = (LEFT + disks * SIDE + 70).max(640); // the legend has 610
-    let height = TOP + p * SIDE + 60;
+    let width = (LEFT + disks * SIDE + 90).max(640); // the legend has 610
+    let below = TOP + p * SIDE + 24; // where the shares end
+    let height = below + 60;
     let mut svg = format!(
         "<svg xmlns=\"http://www.w3.org/2000/svg\" width=\"{width}\" height=\"{height}\" \
          font-family=\"sans-serif\" font-size=\"14\">\n\
          <rect width=\"{width}\" height=\"{height}\" fill=\"#fff\"/>\n"
     );
     words(&mut svg, 12, 24, "start", &picture.title());
-    for disk in 0..disks {
-        words(
-            &mut svg,
-            LEFT + disk * SIDE + SIDE / 2 - 2,
-            TOP - 10,
-            "middle",
-            &picture.disk_name(disk),
-        );
+    let middle = |disk: usize| LEFT + disk * SIDE + SIDE / 2 - 2;
+    for (disk, share) in picture.shares().iter().enumerate() {
+        words(&mut svg, middle(disk), TOP - 10, "middle", &picture.disk_name(disk));
+        words(&mut svg, middle(disk), below - 6, "middle", share);
     }
+    words(&mut svg, LEFT - 12, below - 6, "end", "read");
+    words(&mut svg, LEFT + disks * SIDE + 12, below - 6, "start", &picture.most());
     for (row, (marks, set)) in picture.marks.iter().zip(&picture.sets).enumerate() {
         let y = TOP + row * SIDE;
         words(&mut svg, LEFT - 12, y + SIDE / 2 + 3, "end", &row.to_string());
@@ -63,8 +62,8 @@ pub fn draw(picture: &Picture) -> String {
     }
     let mut x = 12;
     for mark in Mark::ALL {
-        square(&mut svg, x, TOP + p * SIDE + 14, mark);
-        words(&mut svg, x + SIDE + 2, TOP + p * SIDE + 34, "start", mark.meaning());
+        square(&mut svg, x, below + 14, mark);
+        words(&mut svg, x + SIDE + 2, below + 34, "start", mark.meaning());
         x += SIDE + 20 + 7 * mark.meaning().len();
     }
     svg + "</svg>\n"

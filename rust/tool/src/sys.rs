@@ -24,6 +24,10 @@ const WILL_NEED: i32 = 3;
 const AT_CWD: i32 = -100;
 const NO_REPLACE: u32 = 1;
 const GET_FD: i32 = 1;
+const INTERRUPT: i32 = 2;
+const TERMINATE: i32 = 15;
+const BY_DEFAULT: usize = 0;
+const IGNORED: usize = 1;
 
 /// The kernel may cut one piece of advice to the read-ahead of the device; this is the usual one.
 const STRETCH: u64 = 128 << 10;
@@ -32,6 +36,9 @@ extern "C" {
     fn posix_fadvise(fd: i32, offset: i64, len: i64, advice: i32) -> i32;
     fn renameat2(from: i32, old: *const i8, to: i32, new: *const i8, flags: u32) -> i32;
     fn fcntl(fd: i32, command: i32, ...) -> i32;
+    fn signal(number: i32, handler: usize) -> usize;
+    fn raise(number: i32) -> i32;
+    fn write(fd: i32, bytes: *const u8, len: usize) -> isize;
 }
 
 fn advise(file: &File, offset: u64, len: u64, advice: i32) {
@@ -109,4 +116,31 @@ extern "C" fn look() {
 /// Whether the program was started without a standard output.
 pub fn output_was_closed() -> bool {
     CLOSED.load(Ordering::Relaxed)
+}
+
+/// Lets a function run when the program is to stop, unless it was started so that it does not.
+pub fn on_stop(handler: extern "C" fn(i32)) {
+    for number in [INTERRUPT, TERMINATE] {
+        // Sound: the handler is a function for the whole life of the program.
+        unsafe {
+            if signal(number, handler as usize) == IGNORED {
+                signal(number, IGNORED);
+            }
+        }
+    }
+}
+
+/// Writes to standard error, within a signal too.
+pub fn put_error(bytes: &[u8]) {
+    // Sound: the bytes are there for the whole call. There is nobody to tell if it fails.
+    unsafe { write(2, bytes.as_ptr(), bytes.len()) };
+}
+
+/// Ends the program by a signal, as if it had not been handled.
+pub fn end_by(number: i32) {
+    // Sound: both calls take any number.
+    unsafe {
+        signal(number, BY_DEFAULT);
+        raise(number);
+    }
 }

@@ -23,7 +23,7 @@ pub struct Need {
 }
 
 /// How lost disks come back where all that is read fits its checksums.
-#[derive(Clone, Copy, Debug, PartialEq, Eq)]
+#[derive(Clone, Debug, PartialEq, Eq)]
 pub enum Way {
     /// Nothing is lost of what is wanted.
     None,
@@ -31,6 +31,10 @@ pub enum Way {
     Ours(usize),
     /// By the balanced plan.
     Balanced(usize),
+    /// By these steps, an accepted plan that relieves a disk.
+    Relief(usize, Vec<u8>),
+    /// By these steps, an accepted plan of a host.
+    Plan(usize, Vec<u8>),
     /// By our plan, after all survivors of a stripe were tested.
     Tested(usize),
     /// By every row, for comparison.
@@ -38,12 +42,19 @@ pub enum Way {
     Two([usize; 2]),
 }
 
-/// How a rebuild was asked for.
-#[derive(Clone, Copy, Debug, PartialEq, Eq)]
+/// How a rebuild of one disk was asked for.
+#[derive(Clone, Debug, PartialEq, Eq)]
 pub enum Choice {
+    /// By the balanced plan where it reads as few cells as ours, else by ours.
     Fewest,
     Tested,
     Rows,
+    Ours,
+    Balanced,
+    /// With the least asked of this disk.
+    Relief(usize),
+    /// By these steps.
+    Plan(Vec<u8>),
 }
 
 pub struct Wanted {
@@ -63,13 +74,27 @@ fn runs(list: &ReadList) -> Vec<Reading> {
 /// The plan that reads the fewest cells, the balanced one if there are two, and its cells.
 fn fewest(shape: Shape, lost: usize) -> Result<(Way, ReadList), Refusal> {
     let ours = shape.read_list(lost)?;
-    if lost < shape.disks() {
-        let balanced = shape.plan_list(lost, &shape.balanced_plan(lost)?.bytes())?;
-        if balanced.len() <= ours.len() {
-            return Ok((Way::Balanced(lost), balanced));
+    let (way, list) = chosen(shape, lost, &Choice::Balanced)?;
+    Ok(if list.len() <= ours.len() { (way, list) } else { (Way::Ours(lost), ours) })
+}
+
+/// The plan of a choice for one lost disk, and its cells. For P and Q there is one plan alone.
+fn chosen(shape: Shape, lost: usize, choice: &Choice) -> Result<(Way, ReadList), Refusal> {
+    let listed = |plan: Vec<u8>, way: fn(usize, Vec<u8>) -> Way| {
+        let list = shape.plan_list(lost, &plan)?;
+        Ok((way(lost, plan), list))
+    };
+    match choice {
+        Choice::Plan(plan) => listed(plan.clone(), Way::Plan),
+        Choice::Relief(disk) if lost < shape.disks() => {
+            listed(shape.relief_plan(lost, *disk)?.bytes(), Way::Relief)
         }
+        Choice::Balanced if lost < shape.disks() => {
+            listed(shape.balanced_plan(lost)?.bytes(), |lost, _| Way::Balanced(lost))
+        }
+        Choice::Fewest => fewest(shape, lost),
+        _ => Ok((Way::Ours(lost), shape.read_list(lost)?)),
     }
-    Ok((Way::Ours(lost), ours))
 }
 
 impl Way {
@@ -80,7 +105,22 @@ impl Way {
             Way::Ours(one) | Way::Balanced(one) | Way::Tested(one) | Way::Rows(one) => {
                 std::slice::from_ref(one)
             }
+            Way::Relief(one, _) | Way::Plan(one, _) => std::slice::from_ref(one),
             Way::Two(both) => both,
+        }
+    }
+
+    /// What results call it.
+    pub fn name(&self) -> &'static str {
+        match self {
+            Way::None => "none",
+            Way::Ours(_) => "own",
+            Way::Balanced(_) => "balanced",
+            Way::Relief(..) => "relief",
+            Way::Plan(..) => "file",
+            Way::Tested(_) => "tested",
+            Way::Rows(_) => "rows",
+            Way::Two(_) => "two",
         }
     }
 }
@@ -108,7 +148,7 @@ impl Wanted {
     }
 
     /// What a rebuild of the lost disks reads.
-    pub fn rebuild(set: &Set, lost: &[usize], choice: Choice) -> Result<Wanted, Refusal> {
+    pub fn rebuild(set: &Set, lost: &[usize], choice: &Choice) -> Result<Wanted, Refusal> {
         let shape = set.label.geometry.shape;
         let all = || Wanted::all(set).readings;
         Ok(match (choice, lost) {
@@ -116,7 +156,7 @@ impl Wanted {
             (Choice::Tested, [one]) => Wanted::of(all(), &all(), Way::Tested(*one)),
             (Choice::Rows, [one]) if *one < shape.disks() => Wanted::by_rows(set, *one),
             (_, [one]) => {
-                let (way, list) = fewest(shape, *one)?;
+                let (way, list) = chosen(shape, *one, choice)?;
                 Wanted::of(runs(&list), &runs(&list), way)
             }
             (_, [first, second, ..]) => Wanted::of(all(), &all(), Way::Two([*first, *second])),
@@ -164,13 +204,20 @@ impl Wanted {
         self.readings.iter().map(|reading| reading.rows.len()).sum()
     }
 
+    /// The cells that are read of a disk of a stripe.
+    fn share(&self, disk: usize) -> usize {
+        self.readings.iter().filter(|one| one.disk == disk).map(|one| one.rows.len()).sum()
+    }
+
+    /// The cells of a stripe that are read of the disk of which the most are.
+    pub fn busiest(&self) -> usize {
+        self.readings.iter().map(|one| self.share(one.disk)).max().unwrap_or(0)
+    }
+
     /// Disks by how much is read of them, the least first.
     pub fn quietest(&self, set: &Set) -> Vec<usize> {
-        let read = |disk: &usize| -> usize {
-            self.readings.iter().filter(|one| one.disk == *disk).map(|one| one.rows.len()).sum()
-        };
         let mut disks: Vec<usize> = set.present().collect();
-        disks.sort_by_key(read);
+        disks.sort_by_key(|disk| self.share(*disk));
         disks
     }
 }

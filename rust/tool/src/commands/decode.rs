@@ -6,22 +6,46 @@ use std::os::fd::AsFd;
 
 use cuzhaveli_tool::drives::{apart, drive_at};
 use cuzhaveli_tool::film::{read_all, Account, Sink};
+use cuzhaveli_tool::names::{bytes, count};
 use cuzhaveli_tool::output::{folder_of, sync_folder, taken, Output};
 use cuzhaveli_tool::reader::Beyond;
 use cuzhaveli_tool::set::Set;
+use cuzhaveli_tool::stop;
 
-use crate::args::{Form, Given};
-use crate::commands::Command;
+use crate::args::{usage, Given};
 use crate::fault::Fault;
+use crate::json::Object;
 use crate::progress::Progress;
 use crate::say;
+use crate::table::words::{DIR, JSON, OVERWRITE, QUIET};
+use crate::table::{Command, Kind, Operand, Use};
 
 pub const COMMAND: Command = Command {
     name: "decode",
-    usage: "[-q] [--overwrite DRIVE] DIR FILM",
-    about: "the film back (- for stdout), with up to two images lost; --overwrite: FILM is DRIVE, and may be written",
-    options: &[Form::Flag("-q"), Form::Values("--overwrite")],
-    operands: 2..=2,
+    brief: "the film back from its images",
+    about: &[
+        "Gives the film back, with up to two images lost. A FILM that is there is not overwritten; until it is whole it \
+         is FILM.part.",
+        "Where film cannot be made right, FILM.part stays, with zeros there, and standard error says where; a pipe ends \
+         there.",
+        "Nothing is told of a film that goes to standard output.",
+    ],
+    words: &[
+        Use::May(&Use::Opt(&QUIET)),
+        Use::May(&Use::Opt(&JSON)),
+        Use::May(&Use::Opt(&OVERWRITE)),
+        DIR,
+        Use::Operand(&Operand {
+            name: "FILM",
+            kind: Kind::File,
+            about: "where the film goes; - for standard output",
+        }),
+    ],
+    tells: &[
+        ("length", "the bytes of the film"),
+        ("read", "the bytes that were read of the images"),
+        ("mended", "the units of which something had to be mended"),
+    ],
     run,
 };
 
@@ -41,10 +65,19 @@ struct Way<'a> {
 }
 
 fn run(given: &Given) -> Result<(), Fault> {
+    if given.flag("--json") && given.operands[1] == "-" {
+        return Err(usage(
+            "--json: standard output has the film; leave it out, or name a file".into(),
+        ));
+    }
     let set = Set::open(given.path(0), &[])?;
     say::notes(&set);
     let length = set.label.geometry.length;
     let target = Target::open(given, &set)?;
+    if let Target::Output(output) = &target {
+        let part = output.path().display();
+        stop::says(&format!("the film is not whole: remove {part}, and decode again"));
+    }
     let progress = Progress::new("decode".into(), Some(length), given.flag("-q"));
     let mut way = Way { set: &set, target, progress, gaps: 0 };
     let done = read_all(&set, &mut way);
@@ -65,8 +98,21 @@ fn run(given: &Given) -> Result<(), Fault> {
     if given.operands[1] == "-" {
         return Ok(());
     }
-    let Account { read, mended } = account;
-    say::line(format!("decoded,{length},read,{read},mended,{mended}"))
+    tell(given, length, &account)
+}
+
+fn tell(given: &Given, length: u64, Account { read, mended }: &Account) -> Result<(), Fault> {
+    let object = Object(vec![
+        ("length", length.into()),
+        ("read", (*read).into()),
+        ("mended", (*mended).into()),
+    ]);
+    let (film, path, read) = (bytes(length), given.path(1).display(), bytes(*read));
+    let mended = match mended {
+        0 => String::new(),
+        _ => format!(", {} mended", count(*mended, "unit")),
+    };
+    say::told(given, object, format!("Decoded {film} to {path}: {read} read{mended}"))
 }
 
 impl Sink for Way<'_> {
@@ -82,7 +128,10 @@ impl Sink for Way<'_> {
 
     /// A gap stays a hole in a file and ends a stream, which can have none.
     fn gap(&mut self, at: u64, bytes: u64, beyond: &Beyond) -> Result<(), Fault> {
-        let what = format!("{bytes} bytes of film from byte {at}: {}", beyond.told());
+        let what = format!(
+            "{bytes} bytes of film from byte {at}: {}",
+            beyond.told(self.set.label.geometry.shape)
+        );
         if matches!(self.target, Target::Stream(..)) {
             return Err(Fault::Beyond(format!("{what}; the film ends here")));
         }

@@ -10,30 +10,49 @@ use cuzhaveli_tool::drives::{apart, drive_at, Overwrite};
 use cuzhaveli_tool::encode::{encode, Source};
 use cuzhaveli_tool::geometry::{Geometry, MOST_GROUP, MOST_LENGTH, MOST_PIECE};
 use cuzhaveli_tool::label::{hex, new_name, Label};
+use cuzhaveli_tool::names::{bytes, count};
 use cuzhaveli_tool::output::{folder_of, lock, sync_folder, taken, Output};
 use cuzhaveli_tool::set::{image_path, MOST_DISKS};
+use cuzhaveli_tool::stop;
 
-use crate::args::{usage, Form, Given};
-use crate::commands::Command;
+use crate::args::{usage, Given};
 use crate::fault::Fault;
+use crate::json::Object;
 use crate::progress::Progress;
 use crate::say;
+use crate::table::words::{CELL, DIR, DISKS, GROUP, JSON, OVERWRITE, QUIET, UNIT, WIDTH};
+use crate::table::{Command, Kind, Operand, Use};
 
 pub const COMMAND: Command = Command {
     name: "encode",
-    usage: "-p WIDTH [-k DISKS] [-s CELL] [-u UNIT] [-g GROUP] [-q] [--overwrite DRIVE]... FILM DIR",
-    about: "make DISKS + 2 images of FILM (- for stdin) in DIR; --overwrite: DRIVE, to which an image is a link, may be \
-            written",
-    options: &[
-        Form::Value("-p"),
-        Form::Value("-k"),
-        Form::Value("-s"),
-        Form::Value("-u"),
-        Form::Value("-g"),
-        Form::Flag("-q"),
-        Form::Values("--overwrite"),
+    brief: "a film to the images of a set",
+    about: &[
+        "Makes DISKS + 2 images of FILM in DIR, which is made if it is not there: DISKS with film, P and Q.",
+        "Nothing is overwritten: an image that is there is an error, unless it is a link to a drive that --overwrite \
+         names. Images get their names once all of them are on the disks; until then they are DIR/disk-NN.img.part.",
     ],
-    operands: 2..=2,
+    words: &[
+        Use::Opt(&WIDTH),
+        Use::May(&Use::Opt(&DISKS)),
+        Use::May(&Use::Opt(&CELL)),
+        Use::May(&Use::Opt(&UNIT)),
+        Use::May(&Use::Opt(&GROUP)),
+        Use::May(&Use::Opt(&QUIET)),
+        Use::May(&Use::Opt(&JSON)),
+        Use::Any(&Use::Opt(&OVERWRITE)),
+        Use::Operand(&Operand {
+            name: "FILM",
+            kind: Kind::File,
+            about: "the file to keep; - for standard input",
+        }),
+        DIR,
+    ],
+    tells: &[
+        ("set", "the random name of the set"),
+        ("images", "the number of images, P and Q counted"),
+        ("stripes", "the stripes of the film"),
+        ("length", "the bytes of the film"),
+    ],
     run,
 };
 
@@ -46,6 +65,8 @@ fn run(given: &Given) -> Result<(), Fault> {
     make_folder(folder)?;
     let _lock = lock(folder)?;
     let name = new_name().map_err(|error| Fault::path(Path::new("/dev/urandom"), error))?;
+    let at = folder.display();
+    stop::says(&format!("no set is in {at} yet: remove its .part files, and encode again"));
     let mut outputs = Vec::new();
     let mut progress = Progress::new("encode".into(), source.length, given.flag("-q"));
     let (label, known) = (Label { set: name, geometry }, source.length.is_some());
@@ -65,9 +86,21 @@ fn run(given: &Given) -> Result<(), Fault> {
         output.name()?;
     }
     sync_folder(folder)?;
-    let (set, disks) = (hex(&label.set), outputs.len());
-    let Geometry { stripes, length, .. } = label.geometry;
-    say::line(format!("encoded,{set},disks,{disks},stripes,{stripes},length,{length}"))
+    tell(given, &label, outputs.len())
+}
+
+fn tell(given: &Given, label: &Label, images: usize) -> Result<(), Fault> {
+    let (set, Geometry { stripes, length, .. }) = (hex(&label.set), label.geometry);
+    let object = Object(vec![
+        ("set", (&*set).into()),
+        ("images", images.into()),
+        ("stripes", stripes.into()),
+        ("length", length.into()),
+    ]);
+    let (film, stripes, folder) =
+        (bytes(length), count(stripes, "stripe"), given.path(1).display());
+    let text = format!("Encoded {film} to {images} images in {folder}: {stripes}, set {set}");
+    say::told(given, object, text)
 }
 
 /// The numbers of the set; of a film whose length is not known yet, as if it were the longest.

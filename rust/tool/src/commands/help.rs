@@ -1,43 +1,45 @@
-//! `help` and `--version`.
+//! `help`: texts, manual pages and completion, all made from the table; and the version.
 
 use crate::args::Given;
-use crate::commands::{Command, COMMANDS};
+use crate::commands::find;
 use crate::fault::Fault;
-use crate::say;
+use crate::table::{Command, Kind, Operand, Opt, Use};
+use crate::{complete, help, manual, say};
 
 pub const COMMAND: Command = Command {
     name: "help",
-    usage: "[COMMAND] | --version",
-    about: "this text, or that of one command; --version: of the program and the library",
-    options: &[],
-    operands: 0..=1,
+    brief: "the commands, or one of them; also cuzhaveli COMMAND --help, and cuzhaveli --version",
+    about: &["Without COMMAND the usage of all; with it what it does, and its options."],
+    words: &[
+        Use::MayOne(&[
+            Use::Opt(&Opt { name: "--man", value: None, about: "the manual page" }),
+            Use::Opt(&Opt {
+                name: "--completion",
+                value: Some(("SHELL", Kind::Word(complete::SHELLS))),
+                about: "a script that completes command lines in bash, zsh or fish",
+            }),
+        ]),
+        Use::May(&Use::Operand(&Operand {
+            name: "COMMAND",
+            kind: Kind::Command,
+            about: "the command to tell of",
+        })),
+    ],
+    tells: &[],
     run,
 };
 
-const NOTES: &str = "
--k is as -p and -s 4096 if not given. Numbers are decimal, with K, M, G, T for powers of 1,024. `--` ends the options.
-Exit status: 0 done, or yes; 1 the answer is no; 2 usage; 3 refused by the library; 4 reading or writing failed;
-5 more than two disks lost, or something that is not of this set; 6 film that cannot be made right. The manual: man cuzhaveli
-";
-
-/// The usage of every command.
-pub fn usage() -> String {
-    COMMANDS.iter().map(|command| text(command)).collect()
-}
-
-fn text(command: &Command) -> String {
-    format!("  cuzhaveli {}\n      {}\n", command.line(), command.about)
-}
-
 fn run(given: &Given) -> Result<(), Fault> {
-    let Some(name) = given.operands.first() else {
-        let about = "cuzhaveli: images of disks, encoded, checked, rebuilt with few reads, in a full array the fewest\n\n";
-        return say::bytes(format!("{about}{}{NOTES}", usage()).as_bytes());
+    given.at_most_one(&["--man", "--completion"])?;
+    let command = given.operands.first().map(|name| find(name)).transpose()?;
+    let text = match (given.value("--completion"), given.flag("--man"), command) {
+        (Some(shell), ..) => complete::script(&shell.to_string_lossy()),
+        (_, true, None) => manual::whole(),
+        (_, true, Some(command)) => manual::of(command),
+        (_, false, None) => help::whole(),
+        (_, false, Some(command)) => help::of(command),
     };
-    match COMMANDS.iter().find(|command| name == command.name) {
-        Some(command) => say::bytes(text(command).as_bytes()),
-        None => Err(Fault::Usage(format!("no command {}", name.display()))),
-    }
+    say::bytes(text.as_bytes())
 }
 
 /// The versions of the program and of the library that it is linked with.

@@ -1,4 +1,4 @@
-//! The commands, their usage and their options.
+//! The commands: each is one entry of the table, in its own module.
 
 mod bill;
 mod check;
@@ -13,22 +13,13 @@ mod repair;
 mod space;
 
 use std::ffi::OsString;
-use std::ops::RangeInclusive;
 
-use crate::args::{Form, Given};
+use crate::args::{usage, Given};
 use crate::fault::Fault;
+use crate::table::Command;
+use crate::{help as text, near, say};
 
-pub struct Command {
-    pub name: &'static str,
-    /// The words after the name, as help shows them.
-    pub usage: &'static str,
-    pub about: &'static str,
-    options: &'static [Form],
-    operands: RangeInclusive<usize>,
-    run: fn(&Given) -> Result<(), Fault>,
-}
-
-pub const COMMANDS: [&Command; 11] = [
+pub const COMMANDS: &[&Command] = &[
     &encode::COMMAND,
     &decode::COMMAND,
     &info::COMMAND,
@@ -45,34 +36,32 @@ pub const COMMANDS: [&Command; 11] = [
 /// Runs the command that the words name.
 pub fn run(mut words: impl Iterator<Item = OsString>) -> Result<(), Fault> {
     let Some(name) = words.next() else {
-        return Err(Fault::Usage(format!("no command is given\n{}", help::usage())));
+        return Err(usage(format!("no command is given; these are there:\n{}", text::lines())));
     };
-    if name == "--version" {
+    if name == "--version" || name == "-V" {
         return help::version();
     }
     let name = if name == "--help" || name == "-h" { "help".into() } else { name };
-    let Some(command) = COMMANDS.into_iter().find(|command| name == command.name) else {
-        return Err(Fault::Usage(format!("no command {}\n{}", name.display(), help::usage())));
-    };
-    let given = Given::sort(words, command.options).and_then(|given| {
-        if command.operands.contains(&given.operands.len()) {
-            Ok(given)
-        } else {
-            Err(Fault::Usage("too few or too many words".into()))
-        }
-    });
+    let command = find(&name)?;
+    let words: Vec<OsString> = words.collect();
+    let mut options = words.iter().take_while(|word| *word != "--");
+    if options.any(|word| word == "--help" || word == "-h") {
+        return say::bytes(text::of(command).as_bytes());
+    }
+    let given = Given::sort(words.into_iter(), command);
     let done = given.and_then(|given| (command.run)(&given));
     done.map_err(|fault| match fault {
         Fault::Usage(text) => {
-            Fault::Usage(format!("{}: {text}\nusage: cuzhaveli {}", command.name, command.line()))
+            usage(format!("{}: {text}\nusage: cuzhaveli {}", command.name, command.line()))
         }
         other => other,
     })
 }
 
-impl Command {
-    /// The usage line after the program's name.
-    pub fn line(&self) -> String {
-        format!("{:<7} {}", self.name, self.usage).trim_end().to_string()
-    }
+/// The command of a name.
+pub fn find(name: &std::ffi::OsStr) -> Result<&'static Command, Fault> {
+    COMMANDS.iter().find(|command| name == command.name).copied().ok_or_else(|| {
+        let meant = near::meant(&name.to_string_lossy(), COMMANDS.iter().map(|one| one.name));
+        usage(format!("no command {}{meant}\nusage: cuzhaveli help", name.display()))
+    })
 }

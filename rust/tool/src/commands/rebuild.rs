@@ -1,91 +1,180 @@
 //! `rebuild`: the lost images of a set.
 
+use std::ffi::OsStr;
+use std::path::Path;
+
+use cuzhaveli::Shape;
 use cuzhaveli_tool::drives::{apart, drive_at, Overwrite};
+use cuzhaveli_tool::names::{bytes, count, disk_names};
 use cuzhaveli_tool::output::{lock, Output};
 use cuzhaveli_tool::rebuild::{rebuild, Account, Spare};
-use cuzhaveli_tool::set::{joined, Absence, Set};
-use cuzhaveli_tool::wanted::{Choice, Wanted};
+use cuzhaveli_tool::set::{Absence, Set};
+use cuzhaveli_tool::stop;
+use cuzhaveli_tool::wanted::{Choice, Wanted, Way};
 
-use crate::args::{usage, Form, Given};
-use crate::commands::bill::{bill, rates};
-use crate::commands::Command;
+use crate::args::{usage, Disk, Given};
+use crate::commands::bill::{bill, rates, RATES};
 use crate::fault::Fault;
+use crate::json::{self, Object};
+use crate::near::meant;
+use crate::plan_text::{read_text, steps};
 use crate::progress::Progress;
 use crate::say;
+use crate::table::words::{DIR, JSON, OVERWRITE, QUIET, RATE};
+use crate::table::{Command, Kind, Opt, Use};
+
+/// The plans that have a name.
+const PLANS: &[&str] = &["balanced", "own", "rows"];
 
 pub const COMMAND: Command = Command {
     name: "rebuild",
-    usage: "[-q] [-n] [--test] [--by-rows] [--rate BYTES] [--rates A,B,C] [--disk D]... [--overwrite DRIVE]... DIR",
-    about: "rebuild the lost images, or go on with it; -n: say what it would read; --test: test the survivors first; \
-            --by-rows: read every row, for comparison only; --rate: read no more than BYTES a second; --rates: bill \
-            what was read; --disk: D counts as lost; --overwrite: DRIVE, to which the image is a link, may be written",
-    options: &[
-        Form::Flag("-q"),
-        Form::Flag("-n"),
-        Form::Flag("--test"),
-        Form::Flag("--by-rows"),
-        Form::Value("--rate"),
-        Form::Value("--rates"),
-        Form::Values("--disk"),
-        Form::Values("--overwrite"),
+    brief: "the lost images of a set, from few reads",
+    about: &[
+        "Rebuilds the lost images, one or two, or goes on with a rebuild that has not ended. A disk is lost if its image \
+         is missing, empty, too short or too long, unfinished, or if --disk names it. Something else in its place, such as \
+         an image of another set, is replaced only if --disk names that disk.",
     ],
-    operands: 1..=1,
+    words: &[
+        Use::May(&Use::Opt(&QUIET)),
+        Use::May(&Use::Opt(&JSON)),
+        Use::May(&Use::Opt(&Opt {
+            name: "-n",
+            value: None,
+            about: "only say which bytes of cells it would read if nothing of it were there",
+        })),
+        Use::MayOne(&[
+            Use::Opt(&Opt {
+                name: "--plan",
+                value: Some(("PLAN", Kind::WordOrFile(PLANS))),
+                about: "the plan for one lost data disk: balanced, of which no survivor gives more than it must; own, which \
+                        the library's usual call takes; rows, every row as row parity alone would need, for comparison; or a \
+                        file with a plan, as cuzhaveli-judge(1) takes it (- for standard input). If it is not given, \
+                        balanced where it reads as few cells as own, else own",
+            }),
+            Use::Opt(&Opt {
+                name: "--relieve",
+                value: Some(("R", Kind::Disk)),
+                about: "the plan that asks the least of this data disk, one that is slow, failing or playing",
+            }),
+            Use::Opt(&Opt {
+                name: "--test",
+                value: None,
+                about: "read all survivors, and rebuild a stripe only if they belong together; stop at the first one where \
+                        they do not (refusal 19)",
+            }),
+        ]),
+        Use::May(&Use::Opt(&RATE)),
+        Use::May(&Use::Opt(&RATES)),
+        Use::Any(&Use::Opt(&Opt {
+            name: "--disk",
+            value: Some(("D", Kind::Disk)),
+            about: "this disk counts as lost: its number, P or Q",
+        })),
+        Use::Any(&Use::Opt(&OVERWRITE)),
+        DIR,
+    ],
+    tells: &[
+        ("lost", "the lost disks"),
+        ("plan", "how they come back: balanced, own, relief, file, rows, tested; two where two are lost, none where none is"),
+        ("done", "whether the images are there now; false with -n"),
+        ("stripes", "the stripes that this call rebuilt, or would"),
+        ("kept", "those that an earlier one had"),
+        ("read", "the bytes that were read of the survivors, cells and checksums; with -n of cells, if nothing is there yet"),
+        ("rows", "the bytes that all rows of the rebuilt stripes have"),
+        ("busiest", "the bytes of the survivor of which the most were read"),
+        ("mended", "the units in which a survivor was bad"),
+        ("cents", "the bill of what was read, by --rates; 0 without"),
+        ("beyond", "stripes that cannot be rebuilt: stripe, count, and the disks that are lost or bad there"),
+    ],
     run,
 };
 
 fn run(given: &Given) -> Result<(), Fault> {
     let folder = given.path(0);
-    let choice = match (given.flag("--test"), given.flag("--by-rows")) {
-        (false, false) => Choice::Fewest,
-        (true, false) => Choice::Tested,
-        (false, true) => Choice::Rows,
-        (true, true) => return Err(usage("--test and --by-rows exclude each other".into())),
-    };
+    given.at_most_one(&["--plan", "--relieve", "--test"])?;
     let (pace, named, rates) = (given.pace()?, given.overwrite()?, rates(given)?);
     if let Some(rates) = rates {
-        bill(0, rates)?; // refused before anything is read
+        bill(given, 0, rates)?; // refused before anything is read
     }
     let _lock = if given.flag("-n") { None } else { Some(lock(folder)?) };
-    let set = Set::open(folder, &given.numbers("--disk")?)?;
+    let set = Set::open(folder, &named_disks(given)?)?;
     say::notes(&set);
     let lost = set.lost();
-    testable(choice, &lost)?;
-    let wanted = Wanted::rebuild(&set, &lost, choice)?;
-    if given.flag("-n") {
-        return would(&set, &lost, &wanted);
-    }
-    if lost.is_empty() {
-        return say::line("rebuilt,none,stripes,0,kept,0,read,0,rows,0,mended,0");
-    }
-    let spares = spares(&set, &lost, &named)?;
-    let what = format!("rebuild disk {}", joined(&lost));
-    let each = wanted.reads() as u64 * set.label.geometry.shape.cell_size() as u64;
-    let mut progress =
-        Progress::new(what, Some(each * set.label.geometry.stripes), given.flag("-q"));
-    let done = rebuild(&set, &spares, &wanted, pace, |stripes| progress.add(stripes * each));
-    drop(progress);
-    let account = done?;
-    tell(&set, &lost, &account)?;
-    rates.map_or(Ok(()), |rates| say::line(bill(account.read, rates)?))
+    let choice = choice(given, set.label.geometry.shape, &lost)?;
+    let wanted = Wanted::rebuild(&set, &lost, &choice);
+    let wanted = wanted.map_err(|refusal| given.refused("--relieve", refusal))?;
+    let account = match given.flag("-n") || lost.is_empty() {
+        true => would(&set, &lost, &wanted),
+        false => {
+            let spares = spares(&set, &lost, &named)?;
+            stop::says("what is rebuilt stays; the same command goes on");
+            let what = format!("rebuild {}", disk_names(set.label.geometry.shape, &lost));
+            let each = wanted.reads() as u64 * set.label.geometry.shape.cell_size() as u64;
+            let total = Some(each * set.label.geometry.stripes);
+            let mut progress = Progress::new(what, total, given.flag("-q"));
+            rebuild(&set, &spares, &wanted, pace, |stripes| progress.add(stripes * each))?
+        }
+    };
+    let cents = match rates {
+        Some(rates) => bill(given, account.read, rates)?.cents,
+        None => 0,
+    };
+    Story { given, set: &set, lost: &lost, wanted: &wanted, account: &account, cents }.tell()
 }
 
-/// With two disks lost there is nothing to test survivors by.
-fn testable(choice: Choice, lost: &[usize]) -> Result<(), Fault> {
-    if choice == Choice::Tested && lost.len() == 2 {
-        return Err(usage(
-            "--test: with two disks lost any survivors belong together; leave it out".into(),
-        ));
+/// The plan that was asked for. With two disks lost there is none to choose, nor anything to test survivors by.
+fn choice(given: &Given, shape: Shape, lost: &[usize]) -> Result<Choice, Fault> {
+    let given_one = ["--plan", "--relieve", "--test"].into_iter().find(|name| given.flag(name));
+    let (Some(name), [one, more @ ..]) = (given_one, lost) else { return Ok(Choice::Fewest) };
+    if !more.is_empty() {
+        return Err(usage(format!(
+            "{name}: with two disks lost all survivors are read, and any belong together; leave it out"
+        )));
     }
-    Ok(())
+    if let Some(relieved) = given.disk("--relieve", shape)? {
+        return Ok(Choice::Relief(relieved));
+    }
+    let Some(plan) = given.value("--plan") else { return Ok(Choice::Tested) };
+    match plan.to_str() {
+        Some("balanced") => Ok(Choice::Balanced),
+        Some("own") => Ok(Choice::Ours),
+        Some("rows") => Ok(Choice::Rows),
+        _ => steps(shape, *one, &plan_file(plan)?)
+            .map(Choice::Plan)
+            .map_err(|refusal| given.refused("--plan", refusal)),
+    }
 }
 
-/// Says what a rebuild would read of cells, if nothing of it is there yet.
-fn would(set: &Set, lost: &[usize], wanted: &Wanted) -> Result<(), Fault> {
+/// The text of a plan's file; of a word that is neither a file nor a plan's name, that name.
+fn plan_file(plan: &OsStr) -> Result<Vec<u8>, Fault> {
+    if plan != "-" && !Path::new(plan).exists() {
+        let near = meant(&plan.to_string_lossy(), PLANS.iter().copied());
+        return Err(usage(format!("--plan {}: no such plan, and no file{near}", plan.display())));
+    }
+    read_text(plan)
+}
+
+/// The disks that count as lost. P and Q have numbers once the set is known.
+fn named_disks(given: &Given) -> Result<Vec<usize>, Fault> {
+    let disks = given.disks("--disk")?;
+    let known = disks.iter().map(|disk| match disk {
+        Disk::Number(number) => Some(*number),
+        _ => None,
+    });
+    if let Some(numbers) = known.collect() {
+        return Ok(numbers);
+    }
+    let shape = Set::open(given.path(0), &[])?.label.geometry.shape;
+    Ok(disks.into_iter().map(|disk| disk.number(shape)).collect())
+}
+
+/// What a rebuild would read of cells, if nothing of it is there yet.
+fn would(set: &Set, lost: &[usize], wanted: &Wanted) -> Account {
     let geometry = set.label.geometry;
     let stripes = if lost.is_empty() { 0 } else { geometry.stripes };
-    let read = (wanted.reads() * geometry.shape.cell_size()) as u64 * stripes;
-    let rows = stripes * geometry.shape.data_len() as u64;
-    say::line(format!("would,{},stripes,{stripes},read,{read},rows,{rows}", joined(lost)))
+    let bytes = |cells: usize| (cells * geometry.shape.cell_size()) as u64 * stripes;
+    let (read, busiest) = (bytes(wanted.reads()), bytes(wanted.busiest()));
+    Account { stripes, kept: 0, read, busiest, mended: 0, beyond: Vec::new() }
 }
 
 /// The images to be written, gone on with or begun.
@@ -147,21 +236,101 @@ fn strangers(set: &Set, lost: &[usize]) -> Result<(), Fault> {
     )))
 }
 
-fn tell(set: &Set, lost: &[usize], account: &Account) -> Result<(), Fault> {
-    let Account { stripes, kept, read, mended, beyond } = account;
-    if beyond.is_empty() {
-        let rows = stripes * set.label.geometry.shape.data_len() as u64;
-        let disks = joined(lost);
-        return say::line(format!(
-            "rebuilt,{disks},stripes,{stripes},kept,{kept},read,{read},rows,{rows},mended,{mended}"
-        ));
+/// What is told of a rebuild, done or not.
+struct Story<'a> {
+    given: &'a Given,
+    set: &'a Set,
+    lost: &'a [usize],
+    wanted: &'a Wanted,
+    account: &'a Account,
+    cents: u64,
+}
+
+impl Story<'_> {
+    fn tell(&self) -> Result<(), Fault> {
+        let beyond = &self.account.beyond;
+        if beyond.is_empty() || self.given.flag("--json") {
+            say::told(self.given, self.object(), self.text())?;
+        }
+        if beyond.is_empty() {
+            return Ok(());
+        }
+        beyond.iter().for_each(|beyond| say::beyond(self.set, beyond));
+        let stripes = beyond.iter().map(|beyond| beyond.stripes.end - beyond.stripes.start).sum();
+        let parts =
+            self.lost.iter().map(|disk| self.set.path(*disk).display().to_string() + ".part");
+        Err(Fault::Beyond(format!(
+            "{} cannot be rebuilt; the others are, in {}, which gets no label. Put back images that are somewhere else and \
+             run it again, or save the film: cuzhaveli decode {} FILM",
+            count(stripes, "stripe"),
+            parts.collect::<Vec<_>>().join(", "),
+            self.set.folder().display()
+        )))
     }
-    beyond.iter().for_each(|beyond| say::beyond(set, beyond));
-    Err(Fault::Beyond(format!(
-        "{} of the stripes cannot be rebuilt; the others are, in {}, which gets no label. Put back images that are \
-         somewhere else and run it again, or save the film: cuzhaveli decode {} FILM",
-        beyond.iter().map(|beyond| beyond.stripes.end - beyond.stripes.start).sum::<u64>(),
-        lost.iter().map(|disk| set.path(*disk).display().to_string() + ".part").collect::<Vec<_>>().join(", "),
-        set.folder().display()
-    )))
+
+    fn rows(&self) -> u64 {
+        self.account.stripes * self.set.label.geometry.shape.data_len() as u64
+    }
+
+    fn object(&self) -> Object {
+        let Account { stripes, kept, read, busiest, mended, beyond } = self.account;
+        Object(vec![
+            ("lost", self.lost.into()),
+            ("plan", self.wanted.way.name().into()),
+            ("done", (!self.given.flag("-n") && beyond.is_empty()).into()),
+            ("stripes", (*stripes).into()),
+            ("kept", (*kept).into()),
+            ("read", (*read).into()),
+            ("rows", self.rows().into()),
+            ("busiest", (*busiest).into()),
+            ("mended", (*mended).into()),
+            ("cents", self.cents.into()),
+            ("beyond", beyond.iter().map(json::beyond).collect()),
+        ])
+    }
+
+    /// Such as `Rebuilt disk 4 by the balanced plan: 984 stripes, 73.0 MiB read, 24 % less than by rows; busiest survivor
+    /// 11.8 MiB`.
+    fn text(&self) -> String {
+        let Account { stripes, kept, read, busiest, mended, .. } = self.account;
+        if self.lost.is_empty() {
+            return "Nothing is lost".into();
+        }
+        let (verb, of) =
+            if self.given.flag("-n") { ("Would rebuild", " of cells") } else { ("Rebuilt", "") };
+        let disks = disk_names(self.set.label.geometry.shape, self.lost);
+        let mut text =
+            format!("{verb} {disks} {}: {}", by(&self.wanted.way), count(*stripes, "stripe"));
+        if *kept > 0 {
+            text += &format!(" ({} were there already)", kept);
+        }
+        text += &format!(", {}{of} read", bytes(*read));
+        let rows = self.rows();
+        let less = (100 * rows.saturating_sub(*read) + rows / 2) / rows.max(1);
+        if less > 0 {
+            text += &format!(", {less} % less than by rows");
+        }
+        if *mended > 0 {
+            text += &format!(", {} mended", count(*mended, "unit"));
+        }
+        text += &format!("; busiest survivor {}", bytes(*busiest));
+        match self.given.flag("--rates") {
+            true => text + "; " + &count(self.cents, "cent"),
+            false => text,
+        }
+    }
+}
+
+/// How disks come back, in words.
+fn by(way: &Way) -> &'static str {
+    match way {
+        Way::None => "from nothing",
+        Way::Ours(_) => "by our plan",
+        Way::Balanced(_) => "by the balanced plan",
+        Way::Relief(..) => "by the relief plan",
+        Way::Plan(..) => "by the plan that was given",
+        Way::Tested(_) => "from tested survivors",
+        Way::Rows(_) => "by rows",
+        Way::Two(_) => "from all survivors",
+    }
 }

@@ -1,22 +1,41 @@
 //! `repair`: what is bad in the images that are there.
 
+use cuzhaveli_tool::names::{bytes, count, disk_names};
 use cuzhaveli_tool::output::{lock, Output};
 use cuzhaveli_tool::repair::{repair, Account};
-use cuzhaveli_tool::set::{joined, Set};
+use cuzhaveli_tool::set::Set;
+use cuzhaveli_tool::stop;
 
-use crate::args::{Form, Given};
-use crate::commands::Command;
+use crate::args::Given;
 use crate::fault::Fault;
+use crate::json::{self, Object};
 use crate::progress::Progress;
 use crate::say;
+use crate::table::words::{DIR, JSON, OVERWRITE, QUIET, RATE};
+use crate::table::{Command, Use};
 
 pub const COMMAND: Command = Command {
     name: "repair",
-    usage: "[-q] [--rate BYTES] [--overwrite DRIVE]... DIR",
-    about: "rewrite what is bad in the images, to the bytes that the checksums name; --rate: read no more than BYTES a \
-            second; --overwrite: DRIVE, whose first label is bad, may be written",
-    options: &[Form::Flag("-q"), Form::Value("--rate"), Form::Values("--overwrite")],
-    operands: 1..=1,
+    brief: "rewrite what is bad in the images, to the bytes that the checksums name",
+    about: &[
+        "Rewrites what is bad of the images that are there: pieces, checksums and labels; one disk after the other, each \
+         synced before the next. Nothing that is good is written.",
+    ],
+    words: &[
+        Use::May(&Use::Opt(&QUIET)),
+        Use::May(&Use::Opt(&JSON)),
+        Use::May(&Use::Opt(&RATE)),
+        Use::Any(&Use::Opt(&OVERWRITE)),
+        DIR,
+    ],
+    tells: &[
+        ("pieces", "the pieces that were rewritten"),
+        ("blocks", "the checksum blocks that were"),
+        ("labels", "the labels that were"),
+        ("read", "the bytes that were read"),
+        ("lost", "the lost disks, which rebuild brings back"),
+        ("beyond", "stripes that cannot be made right: stripe, count, and the disks that are lost or bad there"),
+    ],
     run,
 };
 
@@ -30,6 +49,7 @@ fn run(given: &Given) -> Result<(), Fault> {
     let each = geometry.shape.stripe_len() as u64;
     let mut progress =
         Progress::new("repair".into(), Some(each * geometry.stripes), given.flag("-q"));
+    stop::says("what is repaired stays; the same command goes on");
     let mut open = |disk: usize| -> Result<Output, Fault> {
         match set.image(disk) {
             Some(image) if image.drive.is_none() => Output::image(image),
@@ -38,15 +58,30 @@ fn run(given: &Given) -> Result<(), Fault> {
     };
     let done = repair(&set, pace, &mut open, |stripes| progress.add(stripes * each));
     drop(progress);
-    tell(&set, &done?)
+    tell(given, &set, &done?)
 }
 
-fn tell(set: &Set, account: &Account) -> Result<(), Fault> {
+fn tell(given: &Given, set: &Set, account: &Account) -> Result<(), Fault> {
     let Account { pieces, blocks, labels, read, beyond } = account;
-    let units = beyond.len();
-    say::line(format!(
-        "repaired,{pieces},blocks,{blocks},labels,{labels},beyond,{units},read,{read}"
-    ))?;
+    let object = Object(vec![
+        ("pieces", (*pieces).into()),
+        ("blocks", (*blocks).into()),
+        ("labels", (*labels).into()),
+        ("read", (*read).into()),
+        ("lost", (&*set.lost()).into()),
+        ("beyond", beyond.iter().map(json::beyond).collect()),
+    ]);
+    let parts = [(*pieces, "piece"), (*blocks, "checksum block"), (*labels, "label")];
+    let parts: Vec<String> = parts
+        .iter()
+        .filter(|(number, _)| *number > 0)
+        .map(|(number, what)| count(*number, what))
+        .collect();
+    let done = match parts.is_empty() {
+        true => "Nothing was rewritten".into(),
+        false => format!("Repaired {}", parts.join(", ")),
+    };
+    say::told(given, object, format!("{done}; {} read", bytes(*read)))?;
     let lost = set.lost();
     if !beyond.is_empty() {
         beyond.iter().for_each(|beyond| say::beyond(set, beyond));
@@ -57,11 +92,9 @@ fn tell(set: &Set, account: &Account) -> Result<(), Fault> {
         )));
     }
     if !lost.is_empty() {
-        return Err(Fault::No(format!(
-            "disks {} are lost; rebuild them: cuzhaveli rebuild {}",
-            joined(&lost),
-            set.folder().display()
-        )));
+        let (disks, folder) = (disk_names(set.label.geometry.shape, &lost), set.folder().display());
+        let what = if lost.len() == 1 { "is lost; rebuild it" } else { "are lost; rebuild them" };
+        return Err(Fault::No(format!("{disks} {what}: cuzhaveli rebuild {folder}")));
     }
     Ok(())
 }

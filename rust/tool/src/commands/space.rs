@@ -5,51 +5,84 @@ use std::path::Path;
 
 use cuzhaveli::{Shape, Space};
 use cuzhaveli_tool::geometry::Geometry;
+use cuzhaveli_tool::names::{bytes, count};
 
-use crate::args::{usage, Form, Given};
+use crate::args::{usage, Given};
 use crate::commands::encode::geometry;
-use crate::commands::Command;
 use crate::fault::Fault;
+use crate::json::Object;
 use crate::say;
+use crate::table::words::{BYTES, CELL, DISKS, GROUP, JSON, UNIT, WIDTH};
+use crate::table::{Command, Kind, Operand, Opt, Use};
 
 pub const COMMAND: Command = Command {
     name: "space",
-    usage: "-p WIDTH [-k DISKS] [-s CELL] [--images [-u UNIT] [-g GROUP]] --free BYTES (--bytes N | FILE...)",
-    about: "the stripes that a package of files takes, the bytes of each disk, and whether these are free; --images: the \
-            bytes of its images, as `encode` writes them, a set a file",
-    options: &[
-        Form::Value("-p"),
-        Form::Value("-k"),
-        Form::Value("-s"),
-        Form::Flag("--images"),
-        Form::Value("-u"),
-        Form::Value("-g"),
-        Form::Value("--free"),
-        Form::Value("--bytes"),
+    brief: "does a package of files fit?",
+    about: &[
+        "The stripes that a package of N bytes, or of the FILEs, takes, and the bytes of each disk; says whether these are \
+         free.",
     ],
-    operands: 0..=usize::MAX,
+    words: &[
+        Use::Opt(&WIDTH),
+        Use::May(&Use::Opt(&DISKS)),
+        Use::May(&Use::Opt(&CELL)),
+        Use::May(&Use::Opt(&Opt {
+            name: "--images",
+            value: None,
+            about: "count the images that encode would write, a set a file, with labels, checksums and what is \
+                    filled up; -u and -g do so too",
+        })),
+        Use::May(&Use::Opt(&UNIT)),
+        Use::May(&Use::Opt(&GROUP)),
+        Use::May(&Use::Opt(&JSON)),
+        Use::Opt(&Opt {
+            name: "--free",
+            value: Some(("BYTES", Kind::Number)),
+            about: "the bytes that each disk has free",
+        }),
+        Use::One(&[
+            Use::Opt(&BYTES),
+            Use::Operands(&Operand {
+                name: "FILE",
+                kind: Kind::File,
+                about: "a file of the package",
+            }),
+        ]),
+    ],
+    tells: &[
+        ("stripes", "the stripes of the package"),
+        ("bytes", "the bytes of each disk"),
+        ("fits", "whether these are free"),
+    ],
     run,
 };
 
 fn run(given: &Given) -> Result<(), Fault> {
     let (shape, free) = (given.shape()?, given.needed("--free")?);
-    let images = given.flag("--images");
-    if !images && (given.flag("-u") || given.flag("-g")) {
-        return Err(usage("-u and -g are of images: give --images too".into()));
-    }
+    let images = ["--images", "-u", "-g"].iter().any(|name| given.flag(name));
     let lengths = match given.number("--bytes")? {
         Some(bytes) if given.operands.is_empty() => vec![bytes],
         None if !given.operands.is_empty() => file_lengths(given)?,
         _ => return Err(usage("give --bytes or files, one of the two".into())),
     };
-    let mut space = shape.space(&lengths, free)?;
+    let space = shape.space(&lengths, free);
+    let mut space = space.map_err(|refusal| given.refused("--bytes", refusal))?;
     if images {
         space.bytes_per_disk = image_bytes(given, shape, &lengths)?;
         space.fits = space.bytes_per_disk <= free;
     }
     let Space { stripes, bytes_per_disk, fits } = space;
-    let answer = if fits { "yes" } else { "no" };
-    say::line(format!("stripes,{stripes},bytes,{bytes_per_disk},fits,{answer}"))?;
+    let object = Object(vec![
+        ("stripes", stripes.into()),
+        ("bytes", bytes_per_disk.into()),
+        ("fits", fits.into()),
+    ]);
+    let answer = match fits {
+        true => say::good("it fits"),
+        false => say::bad(&format!("{} too many", bytes(bytes_per_disk - free))),
+    };
+    let (stripes, each) = (count(stripes, "stripe"), bytes(bytes_per_disk));
+    say::told(given, object, format!("{stripes}, {each} of each disk: {answer}"))?;
     if fits {
         Ok(())
     } else {

@@ -20,16 +20,19 @@ impl Reader<'_> {
                 self.cells.take(need.row, need.disk, place, &mut self.stripe, need.as_disk);
             }
             let stripe = &mut self.stripe[..];
-            let done = match wanted.way {
+            let done = match &wanted.way {
                 Way::None => Ok(()),
-                Way::Ours(lost) => shape.rebuild_one(lost, stripe, &mut column),
-                Way::Balanced(lost) => shape.rebuild_balanced(lost, stripe, &mut column),
-                Way::Tested(lost) => shape.rebuild_tested(lost, stripe, &mut column),
+                Way::Ours(lost) => shape.rebuild_one(*lost, stripe, &mut column),
+                Way::Balanced(lost) => shape.rebuild_balanced(*lost, stripe, &mut column),
+                Way::Relief(lost, plan) | Way::Plan(lost, plan) => {
+                    shape.rebuild_by_plan(*lost, plan, stripe, &mut column)
+                }
+                Way::Tested(lost) => shape.rebuild_tested(*lost, stripe, &mut column),
                 Way::Rows(_) => shape.rebuild_one(shape.disks(), stripe, &mut column),
-                Way::Two(both) => shape.rebuild_two(both, stripe),
+                Way::Two(both) => shape.rebuild_two(*both, stripe),
             };
             let number = self.cells.batch.first + place as u64;
-            done.map_err(|refusal| Fault::Refused(refusal, format!(", stripe {number}")))?;
+            done.map_err(|refusal| Fault::Refused(refusal, format!("stripe {number}: ")))?;
             match wanted.way {
                 Way::Two(both) => both.iter().for_each(|disk| {
                     self.cells.put(*disk, place, &self.stripe[shape.disk_range(*disk)]);
