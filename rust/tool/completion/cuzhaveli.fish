@@ -5,7 +5,7 @@ complete -c cuzhaveli -n __fish_use_subcommand -a encode -d 'a film to the image
 complete -c cuzhaveli -n __fish_use_subcommand -a decode -d 'the film back from its images'
 complete -c cuzhaveli -n __fish_use_subcommand -a info -d 'what a set is, and which of its disks are lost'
 complete -c cuzhaveli -n __fish_use_subcommand -a check -d 'does every byte fit its checksum, and every stripe its parity?'
-complete -c cuzhaveli -n __fish_use_subcommand -a rebuild -d 'the lost images of a set, from the fewest reads'
+complete -c cuzhaveli -n __fish_use_subcommand -a rebuild -d 'the lost images of a set, from few reads'
 complete -c cuzhaveli -n __fish_use_subcommand -a repair -d 'rewrite what is bad in the images, to the bytes that the checksums name'
 complete -c cuzhaveli -n __fish_use_subcommand -a plan -d 'a picture of the plan for a lost disk'
 complete -c cuzhaveli -n __fish_use_subcommand -a judge -d 'is a host'\''s plan right, and how many cells does it read?'
