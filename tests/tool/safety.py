@@ -213,8 +213,10 @@ def parts(setting):
         spoiled[images.offset(2 * unit, 2)] ^= 1
     block = bytearray(mark + good[1][LABEL:])
     block[images.block(2)] ^= 1
+    fill = bytearray(mark + good[1][LABEL:])
+    fill[images.start(1)[0] - 1] ^= 1
     cases = [(mark, 0), (mark[:LABEL] + bytes(images.image_bytes() - LABEL), 0), (b"", 0), (bytes(100), 0), (mark + good[1][LABEL:], 9),
-             (bytes(spoiled), 5), (bytes(block), 7), (mark + good[1][LABEL:images.block(2)], 4), (mark + other.path(1).read_bytes()[LABEL:], 0),
+             (bytes(spoiled), 5), (bytes(block), 7), (bytes(fill), 7), (mark + good[1][LABEL:images.block(2)], 4), (mark + other.path(1).read_bytes()[LABEL:], 0),
              (good[1], 9), (mark + good[1][LABEL:] + bytes(500), 9)]
     for content, kept in cases:
         images.part(1).write_bytes(content)

@@ -41,8 +41,12 @@ impl Spare {
         let size = geometry.shape.cell_size();
         let places = geometry.places(batch, unit);
         let number = batch.unit + unit as u64;
-        let mut block = vec![0; geometry.block_len()];
+        let mut block = vec![0; geometry.blocks_len(geometry.batch_of(number, 1))];
         let read = self.output.read(&mut block, geometry.block_at(number));
+        let fill = block.split_off(geometry.block_len()); // up to the next group
+        if fill.iter().any(|byte| *byte != 0) {
+            return false; // a torn sector there would be bad for every check
+        }
         if read.is_err() || !blocks.is_known(unit) || block != blocks.block(unit) {
             return false;
         }
