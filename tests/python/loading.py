@@ -16,10 +16,14 @@ TOP = pathlib.Path(__file__).resolve().parents[2]
 NAME = "libcuzhaveli.so.1"
 
 
-def said(package, **environment):
-    """The status and what is said of one call, with the package in a folder."""
+ONE_CALL = ("-c", "import cuzhaveli; print(cuzhaveli.version(), cuzhaveli.library.path())")
+SELFTEST = ("-m", "cuzhaveli.selftest")
+
+
+def said(package, words=ONE_CALL, **environment):
+    """The status and what is said of a program, one call if none is given, with the package in a folder."""
     kept = {name: value for name, value in os.environ.items() if name not in ("CUZHAVELI_LIBRARY", "LD_LIBRARY_PATH")}
-    words = [sys.executable, "-B", "-c", "import cuzhaveli; print(cuzhaveli.version(), cuzhaveli.library.path())"]
+    words = [sys.executable, "-B", *words]
     done = subprocess.run(words, env={**kept, "PYTHONPATH": str(package), **environment}, capture_output=True, text=True)
     return done.returncode, (done.stdout + done.stderr).strip().splitlines()[-1]
 
@@ -43,6 +47,7 @@ def main():
             ("by the loader", said(alone, LD_LIBRARY_PATH=str(library.parent)), 0, [f"100 {NAME}"]),
             ("named, not there", said(beside, CUZHAVELI_LIBRARY="/none.so"), 1, ["LibraryError: CUZHAVELI_LIBRARY is /none.so, which", remedy]),
             ("named, older", said(alone, CUZHAVELI_LIBRARY=str(old)), 1, [f"LibraryError: {old} has no cuzhaveli_plan_disk: it is older", remedy]),
+            ("the selftest, not there", said(alone, SELFTEST, CUZHAVELI_LIBRARY="/none.so"), 2, ["selftest: CUZHAVELI_LIBRARY is /none.so, which", remedy]),
         ]
         status, words = said(alone)
         if status == 0:

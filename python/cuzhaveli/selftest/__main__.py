@@ -4,6 +4,7 @@ from __future__ import annotations
 
 import sys
 import time
+import traceback
 
 from .. import LibraryError, library, version
 from . import losses, memory, plans, records, refusals, stripes, texts
@@ -27,7 +28,11 @@ def main(words: list[str]) -> int:
     differ = 0
     for group in GROUPS:
         check, start = Check(seed), time.monotonic()
-        group.run(check)
+        try:
+            group.run(check)
+        except Exception:  # a call that is good was refused, or worse
+            check.differ += 1
+            print(f"DIFFERS: a call that was to be accepted\n{traceback.format_exc()}")
         name, took = group.__name__.rsplit(".", 1)[1], time.monotonic() - start
         print(f"selftest: {name}: {check.compared} comparisons, {check.differ} differ, {took:.1f} s")
         differ += check.differ

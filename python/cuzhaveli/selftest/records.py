@@ -64,8 +64,9 @@ def _runs(check: Check, shape: Shape) -> None:
     check.same(record, Run(shape, lost, 4, 3, 1), "a run's record", shape, lost)
     cells = 2 * plan_disk(shape.width, shape.disks, lost).reads
     check.same(run_progress(record), Progress(False, cells), "run_progress", record)
-    wanted_bill = _bill(check, cells * shape.cell_size, [7, 8, 9])
-    check.same(bill_run(record, 7, 8, 9), wanted_bill, "bill_run", record)
+    long = Run(shape, lost, 4294967295, 4000000005, 5)
+    wanted_bill = _bill(check, 2000000000 * cells * shape.cell_size, [7, 8, 9])
+    check.same(bill_run(long, 7, 8, 9), wanted_bill, "bill_run", long)
     skip_stripe(record, 3)
     check.same(run_progress(record), Progress(True, cells), "run_progress", record)
     check.refused(10, run_progress, Run(shape, lost, 4, 1, 2))

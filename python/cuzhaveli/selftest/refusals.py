@@ -10,7 +10,7 @@ from typing import Any
 
 import cuzhaveli
 
-from .. import ArrayState, Run, Shape, plan_disk, write_plan
+from .. import ArrayState, Run, Shape
 from .check import Check
 
 # Each call's parameters and its refusals, in the order in which they are tested.
@@ -51,10 +51,11 @@ PARTS = {
     "run": ("width", "disks", "cell_size", "lost", "skipped"),
 }
 BEYOND = (-1, 1 << 32, (1 << 64) + 1, 1 << 200)
-PLAN = plan_disk(5, 3, 1).to_bytes()
+PLAN = bytes([0, 0, 0, 2, 0, 2, 4, 0, 4, 1, 1, 0, 3, 1, 2])  # ours for width 5, disk 1
+TEXT = b"row,set,number\n0,R,0\n2,R,2\n4,R,4\n1,D,0\n3,D,2\n"
 GOOD: dict[str, Any] = {
     **{"width": 5, "disks": 3, "cell_size": 8, "lost": 1, "relieved": 2, "one": 0, "other": 4},
-    **{"plan": PLAN, "text": write_plan(5, 3, 1, PLAN), "list": bytes(25), "missing": bytes(25)},
+    **{"plan": PLAN, "text": TEXT, "list": bytes(25), "missing": bytes(25)},
     **{"stripe": bytes(200), "column": bytes(40), "cell": bytes(8), "row": 2, "data_disk": 1},
     **{"servers": 2, "server": 1, "stripes": bytes(600), "losses": bytes([255] * 6)},
     **{"skipped": 0, "which": 0, "count": 4, "rate": 10, "bytes": 1 << 54, "free": 0},
@@ -89,7 +90,7 @@ FAULTS: dict[int, dict[str, tuple[Any, ...]]] = {
     19: {"stripe": (bytes(100) + b"!" + bytes(99),)},
     20: {"array": (3, *BEYOND), "arrays": ([(9, 9, 9)] * 65, [])},
     21: {"back": (True,)},
-    22: {"text": (b"", GOOD["text"][:-1])},
+    22: {"text": (b"", TEXT[:-1])},
     23: {"missing": (bytes([1] * 25), bytes([1] * 15) + bytes(10))},
 }
 PLACES = {8: 1}
