@@ -58,11 +58,11 @@ def no_set(setting):
     images = small(setting)
     good = images.images()
     images.lose(0, 3, 6)
-    refused(setting, images, b"3 disks of set")
+    refused(setting, images, b"are lost, and no more than two can be rebuilt")
     images.write(good)
     for disk in (0, 1, 2):
         os.truncate(images.path(disk), LABEL)
-    refused(setting, images, b"3 disks of set")
+    refused(setting, images, b"are lost, and no more than two can be rebuilt")
     images.write({disk: bytes(len(image)) for disk, image in good.items()})
     refused(setting, images, b"no disk-NN.img with a label")
     first = b"cuzhaveli image 1\nset 0\n".ljust(len(good[0]), b"\0")

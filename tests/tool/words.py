@@ -82,11 +82,16 @@ def refusals(setting):
 
 
 def numbers(setting):
-    """K, M, G and T; options after operands; `--` before a name with a dash."""
+    """K, M, G and T; values in their options, flags together; options after operands; `--` before a name with a dash."""
     for text, value in (("0", 0), ("64G", 64 << 30), ("1K", 1024), ("3M", 3 << 20), ("1T", 1 << 40), ("0012", 12)):
         done = setting.told("bill", "--bytes", text, "--rates", "0,0,0")
         total = sum(done[band] for band in ("first", "second", "third"))
         expect(total == value, f"{value} expected: {done.told()}")
+    drawn = {setting.call("plan", *width, *disk, status=0).out for width in (["-p", 5], ["-p5"], ["-p=5"]) for disk in (["-d", "P"], ["-dp"], ["-d=5"])}
+    expect(len(drawn) == 1, "a value in its option draws another plan")
+    images = setting.encoded(noise(100), 3)
+    done = setting.call("rebuild", "-qn", "--disk=Q", images.folder, status=0)
+    expect(done.out.startswith(b"Would rebuild disk Q "), done.told())
     film = setting.scratch / "-film"
     film.write_bytes(noise(100))
     folder = setting.new()
@@ -94,7 +99,7 @@ def numbers(setting):
     out = setting.new()
     setting.call("decode", folder, out, "-q", status=0)
     expect(out.read_bytes() == noise(100), "a name with a dash: another film")
-    return "8 calls"
+    return "18 calls"
 
 
 def walk_through(setting):

@@ -34,13 +34,8 @@ pub fn of(command: &Command) -> String {
     for paragraph in command.about {
         text += &format!("\n{}", wrapped(paragraph, 0));
     }
-    let operands = command.operands().map(|(one, _)| (one.name.to_string(), one.about));
-    let options = command.options().map(|(one, _)| (one.shown(), one.about));
-    let words: Vec<(String, &str)> = operands.chain(options).collect();
-    if !words.is_empty() {
-        text.push('\n');
-    }
-    words.iter().for_each(|(name, about)| text += &listed(name, about));
+    text.push('\n');
+    command.explained().for_each(|(name, about)| text += &listed(&name, about));
     if !command.tells.is_empty() {
         text += "\nThe object of --json:\n";
     }

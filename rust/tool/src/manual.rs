@@ -58,9 +58,7 @@ pub fn of(command: &Command) -> String {
     page += &format!(".SH SYNOPSIS\n.nf\n{}.fi\n.SH DESCRIPTION\n", synopsis(command));
     let about: Vec<String> = command.about.iter().map(|text| paragraph(text)).collect();
     page += &about.join(".PP\n");
-    let operands = command.operands().map(|(one, _)| (one.name.to_string(), one.about));
-    let options = command.options().map(|(one, _)| (one.shown(), one.about));
-    let words = list(operands.chain(options));
+    let words = list(command.explained());
     if !words.is_empty() {
         page += &format!(".SH OPTIONS\n{words}");
     }

@@ -90,7 +90,8 @@ impl Drop for Progress {
     }
 }
 
-/// What is known of work that is under way: what was done, its part of all, the bytes a second, the time left.
+/// What is known of work that is under way: what was done, its part of all, the bytes a second, the
+/// time left.
 struct Pace {
     done: String,
     part: Option<f64>,

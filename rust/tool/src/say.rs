@@ -1,4 +1,5 @@
-//! What the program says: results on standard output, all else on standard error; in colour on a terminal.
+//! What the program says: results on standard output, all else on standard error; in colour on a
+//! terminal.
 
 use std::env;
 use std::fmt::Display;
@@ -20,7 +21,8 @@ pub fn told(given: &Given, object: Object, text: String) -> Result<(), Fault> {
     line(if given.flag("--json") { object.to_string() } else { text })
 }
 
-/// Text in a colour, if that is wanted there: NO_COLOR has no value, and it is a terminal that knows colours.
+/// Text in a colour, if that is wanted there: NO_COLOR has no value, and it is a terminal that
+/// knows colours.
 fn coloured(text: &str, colour: &str, terminal: bool) -> String {
     let empty = |name| env::var_os(name).is_none_or(|value| value.is_empty());
     match terminal && empty("NO_COLOR") && env::var_os("TERM").is_none_or(|term| term != "dumb") {

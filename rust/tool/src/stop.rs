@@ -1,6 +1,7 @@
 //! What is said when somebody stops the program: things stay as a kill leaves them.
 
-use std::sync::atomic::{AtomicPtr, AtomicU64, Ordering};
+use std::sync::atomic::{AtomicU64, Ordering};
+use std::sync::OnceLock;
 
 use crate::sys;
 
@@ -10,10 +11,11 @@ struct Words {
     after: Option<String>,
 }
 
-static WORDS: AtomicPtr<Words> = AtomicPtr::new(std::ptr::null_mut());
+static WORDS: OnceLock<Words> = OnceLock::new();
 static NUMBER: AtomicU64 = AtomicU64::new(0);
 
-/// From now on Ctrl-C, or the signal of `kill`, says this before it ends the program as it does without.
+/// From now on Ctrl-C, or the signal of `kill`, says this before it ends the program as it does
+/// without.
 pub fn says(text: &str) {
     set(Words { before: format!("cuzhaveli: stopped; {text}\n"), after: None });
 }
@@ -31,15 +33,14 @@ pub fn at(number: u64) {
 }
 
 fn set(words: Words) {
-    // It is kept to the end: a signal may come at any moment.
-    WORDS.store(Box::leak(Box::new(words)), Ordering::Release);
-    sys::on_stop(stopped);
+    if WORDS.set(words).is_ok() {
+        sys::on_stop(stopped);
+    }
 }
 
 /// Runs within a signal: it takes no memory and no locks.
 extern "C" fn stopped(signal: i32) {
-    // Sound: the pointer is that of a leaked box.
-    if let Some(words) = unsafe { WORDS.load(Ordering::Acquire).as_ref() } {
+    if let Some(words) = WORDS.get() {
         sys::put_error(words.before.as_bytes());
         if let Some(after) = &words.after {
             let mut room = [0; 20];

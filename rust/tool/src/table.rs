@@ -1,5 +1,5 @@
-//! What a command is: its words, what each is for, and what it tells. Parser, help, manual and completion are made from
-//! these entries, so that they cannot differ.
+//! What a command is: its words, what each is for, and what it tells. Parser, help, manual and
+//! completion are made from these entries, so that they cannot differ.
 
 use crate::args::Given;
 use crate::fault::Fault;
@@ -127,6 +127,12 @@ impl Command {
             Use::Operand(operand) | Use::Operands(operand) => Some((*operand, many)),
             _ => None,
         })
+    }
+
+    /// Its words, and what is said of each.
+    pub fn explained(&self) -> impl Iterator<Item = (String, &'static str)> {
+        let operands = self.operands().map(|(one, _)| (one.name.to_string(), one.about));
+        operands.chain(self.options().map(|(one, _)| (one.shown(), one.about)))
     }
 
     /// The options that it cannot do without.

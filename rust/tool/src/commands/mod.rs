@@ -19,6 +19,7 @@ use crate::fault::Fault;
 use crate::table::Command;
 use crate::{help as text, near, say};
 
+/// In the order of help. A new command is a module with its entry, a line here, and `make manual`.
 pub const COMMANDS: &[&Command] = &[
     &encode::COMMAND,
     &decode::COMMAND,
@@ -38,7 +39,7 @@ pub fn run(mut words: impl Iterator<Item = OsString>) -> Result<(), Fault> {
     let Some(name) = words.next() else {
         return Err(usage(format!("no command is given; these are there:\n{}", text::lines())));
     };
-    if name == "--version" || name == "-V" {
+    if name == "--version" {
         return help::version();
     }
     let name = if name == "--help" || name == "-h" { "help".into() } else { name };

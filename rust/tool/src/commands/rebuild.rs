@@ -122,7 +122,8 @@ fn run(given: &Given) -> Result<(), Fault> {
     Story { given, set: &set, lost: &lost, wanted: &wanted, account: &account, cents }.tell()
 }
 
-/// The plan that was asked for. With two disks lost there is none to choose, nor anything to test survivors by.
+/// The plan that was asked for. With two disks lost there is none to choose, nor anything to test
+/// survivors by.
 fn choice(given: &Given, shape: Shape, lost: &[usize]) -> Result<Choice, Fault> {
     let given_one = ["--plan", "--relieve", "--test"].into_iter().find(|name| given.flag(name));
     let (Some(name), [one, more @ ..]) = (given_one, lost) else { return Ok(Choice::Fewest) };
@@ -289,8 +290,8 @@ impl Story<'_> {
         ])
     }
 
-    /// Such as `Rebuilt disk 4 by the balanced plan: 984 stripes, 73.0 MiB read, 24 % less than by rows; busiest survivor
-    /// 11.8 MiB`.
+    /// Such as `Rebuilt disk 4 by the balanced plan: 984 stripes, 73.0 MiB read, 24 % less than by
+    /// rows; busiest survivor 11.8 MiB`.
     fn text(&self) -> String {
         let Account { stripes, kept, read, busiest, mended, .. } = self.account;
         if self.lost.is_empty() {
