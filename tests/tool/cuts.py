@@ -1,3 +1,4 @@
+#!/usr/bin/env python3
 """Power cuts: the states that they may leave after each system call of an encode, a rebuild, a repair and a decode, by a
 model of what was synced; in each the film is right or refused, and the next call ends what was cut off.
 
@@ -9,11 +10,13 @@ import pathlib
 import random
 import sys
 
+sys.dont_write_bytecode = True
+
 from harness import LABEL, Setting, Wrong, can_trace, expect, noise
 from recorder import Recorder
 from storage import Storage, lay_out, stands
 
-STATES, SEED = 8, 1  # random states for each system call
+STATES, SEED = 12, 1  # random states for each system call
 CELL = 200  # cells and checksum blocks of a group in sectors of their own, and some that share one
 NO_TRACE = "left out: no tracing on this machine"
 
@@ -52,7 +55,7 @@ class Cuts:
         for names, data in ((0, 0), (1, 1), (1, 0), (0, 1)):
             yield storage.after(lambda: names, lambda: data, self.draw, False)
         for state in range(STATES):
-            names, data = self.draw.choice((0.3, 0.7, 1)), self.draw.choice((0.1, 0.5, 0.9))
+            names, data = self.draw.choice((0.5, 1, 1)), self.draw.choice((0.1, 0.5, 0.9))
             kept = [lambda share=share: self.draw.random() < share for share in (names, data)]
             yield storage.after(*kept, self.draw, state % 2 == 1)
 
@@ -216,5 +219,4 @@ def main():
 
 
 if __name__ == "__main__":
-    sys.dont_write_bytecode = True
     main()

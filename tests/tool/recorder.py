@@ -10,7 +10,7 @@ FAILED = 1 << 63
 # System calls of Linux on x86-64 that change files; those with no case in Recorder.event end the recording.
 NAMES = {1: "write", 18: "pwrite64", 20: "writev", 40: "sendfile", 74: "fsync", 75: "fdatasync", 76: "truncate", 77: "ftruncate",
          82: "rename", 83: "mkdir", 84: "rmdir", 86: "link", 87: "unlink", 88: "symlink", 162: "sync", 257: "openat", 258: "mkdirat",
-         263: "unlinkat", 264: "renameat", 265: "linkat", 266: "symlinkat", 285: "fallocate", 295: "preadv", 296: "pwritev",
+         263: "unlinkat", 264: "renameat", 265: "linkat", 266: "symlinkat", 285: "fallocate", 296: "pwritev",
          306: "syncfs", 316: "renameat2", 326: "copy_file_range", 328: "pwritev2"}
 
 
