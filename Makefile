@@ -13,6 +13,9 @@
 #                                   not given)
 #   make uninstall PREFIX= DESTDIR=
 #   make dist                    build/cuzhaveli-VERSION-x86_64-linux.tar.gz, after .ci/run
+#   make conformance IMPL=FILE   compares your code, a .c, .a or .so that offers functions of conformance/yours.h, with the library;
+#                                IMPL_CFLAGS= IMPL_LIBS= what it needs, OPTIONS= options of the runner (docs/TEST-YOURS.md); that
+#                                kit and the vectors are installed in share/cuzhaveli
 #   make clean                   removes build/
 
 VERSION = 0.1.0
@@ -117,6 +120,27 @@ dist: $(archives) $(shared) build/cuzhaveli
 	@cd build/$(dist) && find . -type f ! -name SHA256SUMS | LC_ALL=C sort | xargs sha256sum >SHA256SUMS
 	@cd build && tar --sort=name --mtime=@0 --owner=0 --group=0 --numeric-owner -cf - $(dist) | gzip -n >$(dist).tar.gz
 	@sha256sum build/$(dist).tar.gz
+
+# The conformance kit: a user's code compared with the library.
+IMPL =
+IMPL_CFLAGS =
+IMPL_LIBS =
+OPTIONS =
+share = $(DESTDIR)$(PREFIX)/share/cuzhaveli
+.PHONY: conformance install-kit uninstall-kit
+
+conformance: build/libcuzhaveli.a
+	@[ -n "$(IMPL)" ] || { echo "make: say which code: make conformance IMPL=mine.c (or mine.a, mine.so); docs/TEST-YOURS.md tells the way" >&2; exit 2; }
+	@CC="$(CC)" CFLAGS="$(CFLAGS)" IMPL_CFLAGS="$(IMPL_CFLAGS)" IMPL_LIBS="$(IMPL_LIBS)" conformance/run $(IMPL) $(OPTIONS)
+
+install: install-kit
+install-kit:
+	@install -d "$(share)"
+	@cp -r conformance vectors "$(share)/"
+
+uninstall: uninstall-kit
+uninstall-kit:
+	rm -rf "$(share)/conformance" "$(share)/vectors"
 
 clean:
 	rm -rf build

@@ -1,71 +1,31 @@
-/* Writes stripes that Jerasure encoded or decoded, as text, to standard output.
-
-   Build and run (Debian packages libjerasure-dev and libgf-complete-dev):
-     cc -O2 -I/usr/include/jerasure make_vectors.c -lJerasure -o make_vectors
-     ./make_vectors > jerasure.txt
-
-   Jerasure's Liberation code with k data disks, words of p bits and a packet
-   of s bytes is the code of document 01 (k = p) and of document 02 (k < p) in
-   its layout, for s a multiple of 8.
-
-   A stripe is a line `p k s` and then a line of hexadecimal digits for each
-   disk: data disks 0 to k - 1, P, Q; cell (i, c) stands at byte
-   (c * p + i) * s of all lines together. Its data are random and Jerasure
-   encoded P and Q. After a line `p k s a b` all disks but a and b are random,
-   so in general of no encoding, and Jerasure decoded a and b. Lines that
-   begin with # say something to the reader. The seed is fixed. */
+/* Records stripes that Jerasure encoded and decoded, as vectors/FORMAT.md tells, on standard output.
+ *
+ * Build and run (Debian packages libjerasure-dev and libgf-complete-dev):
+ *     cc -O2 -I/usr/include/jerasure tests/vectors/make_vectors.c -lJerasure -o make_vectors
+ *     ./make_vectors >vectors/jerasure.txt
+ *
+ * Jerasure's Liberation code with k data disks, words of p bits and a packet of s bytes is the code
+ * of these arrays in their layout, for s a multiple of 8. The data are random, of a fixed seed. For
+ * every pair of disks Jerasure decodes it from the other disks alone; that it gave the stripe back
+ * is what a line `two A B` records. */
 
 #include <jerasure.h>
 #include <liberation.h>
 #include <stdint.h>
 #include <stdio.h>
 #include <stdlib.h>
+#include <string.h>
 
-enum { MOST_DISKS = 33 };
+enum { MOST_DISKS = 33, S = 8, MOST_COLUMN = 31 * S };
 
-/* A stripe to write; two lost disks that differ are decoded, others encoded. */
-struct Vector {
+static const int WIDTHS[] = { 3, 5, 7, 11, 13, 17, 19, 23, 29, 31 };
+
+/* An array and the stripe that is recorded. */
+struct Array {
     int p;
     int k;
-    int s;
-    int lost[2];
-};
-
-static const struct Vector VECTORS[] = {
-    /* as many data disks as rows, encoded */
-    { 3, 3, 8, { 0, 0 } }, { 3, 3, 16, { 0, 0 } }, { 5, 5, 8, { 0, 0 } },
-    { 5, 5, 16, { 0, 0 } }, { 7, 7, 8, { 0, 0 } }, { 11, 11, 8, { 0, 0 } },
-    { 17, 17, 8, { 0, 0 } }, { 31, 31, 8, { 0, 0 } },
-    /* decoded */
-    { 3, 3, 8, { 0, 1 } }, { 3, 3, 8, { 0, 2 } }, { 3, 3, 8, { 1, 2 } },
-    { 3, 3, 8, { 0, 3 } }, { 3, 3, 8, { 1, 4 } }, { 3, 3, 8, { 3, 4 } },
-    { 5, 5, 8, { 0, 1 } }, { 5, 5, 8, { 1, 3 } }, { 5, 5, 16, { 2, 4 } },
-    { 5, 5, 8, { 0, 4 } }, { 5, 5, 8, { 2, 5 } }, { 5, 5, 8, { 3, 6 } },
-    { 5, 5, 8, { 5, 6 } }, { 7, 7, 8, { 0, 3 } }, { 7, 7, 8, { 2, 6 } },
-    { 7, 7, 8, { 1, 7 } }, { 11, 11, 8, { 4, 9 } }, { 11, 11, 8, { 0, 10 } },
-    { 17, 17, 8, { 3, 11 } }, { 17, 17, 8, { 16, 17 } }, { 31, 31, 8, { 7, 20 } },
-    { 31, 31, 8, { 0, 30 } }, { 31, 31, 8, { 12, 32 } },
-    /* fewer data disks than rows, encoded */
-    { 3, 2, 8, { 0, 0 } }, { 5, 2, 8, { 0, 0 } }, { 5, 3, 8, { 0, 0 } },
-    { 5, 4, 16, { 0, 0 } }, { 7, 2, 8, { 0, 0 } }, { 7, 3, 8, { 0, 0 } },
-    { 7, 4, 8, { 0, 0 } }, { 7, 5, 8, { 0, 0 } }, { 7, 6, 8, { 0, 0 } },
-    { 11, 2, 8, { 0, 0 } }, { 11, 6, 8, { 0, 0 } }, { 11, 10, 8, { 0, 0 } },
-    { 13, 7, 8, { 0, 0 } }, { 13, 12, 8, { 0, 0 } }, { 17, 12, 8, { 0, 0 } },
-    { 17, 16, 8, { 0, 0 } }, { 19, 10, 8, { 0, 0 } }, { 23, 3, 8, { 0, 0 } },
-    { 29, 2, 8, { 0, 0 } }, { 29, 14, 8, { 0, 0 } }, { 31, 2, 8, { 0, 0 } },
-    { 31, 16, 8, { 0, 0 } },
-    /* decoded */
-    { 3, 2, 8, { 0, 1 } }, { 3, 2, 8, { 0, 2 } }, { 3, 2, 8, { 1, 3 } },
-    { 3, 2, 8, { 2, 3 } }, { 5, 2, 8, { 0, 1 } }, { 5, 3, 8, { 0, 2 } },
-    { 5, 3, 8, { 1, 3 } }, { 5, 3, 8, { 2, 4 } }, { 5, 3, 8, { 3, 4 } },
-    { 5, 4, 16, { 1, 3 } }, { 5, 4, 8, { 0, 5 } }, { 7, 2, 8, { 1, 2 } },
-    { 7, 3, 8, { 0, 2 } }, { 7, 4, 8, { 1, 3 } }, { 7, 5, 8, { 0, 4 } },
-    { 7, 5, 8, { 2, 3 } }, { 7, 5, 8, { 4, 5 } }, { 7, 6, 8, { 1, 5 } },
-    { 11, 2, 8, { 0, 1 } }, { 11, 6, 8, { 1, 5 } }, { 11, 10, 8, { 3, 8 } },
-    { 13, 7, 8, { 0, 6 } }, { 13, 12, 8, { 5, 13 } }, { 17, 12, 8, { 3, 11 } },
-    { 17, 16, 8, { 9, 16 } }, { 19, 10, 8, { 2, 9 } }, { 23, 3, 8, { 1, 2 } },
-    { 29, 2, 8, { 0, 1 } }, { 29, 14, 8, { 5, 9 } }, { 31, 2, 8, { 0, 1 } },
-    { 31, 16, 8, { 4, 13 } },
+    int *bitmatrix;
+    char *disks[MOST_DISKS];
 };
 
 static uint8_t random_byte(void)
@@ -77,88 +37,81 @@ static uint8_t random_byte(void)
     return (uint8_t)(state * 0x2545F4914F6CDD1DULL >> 56);
 }
 
-static void *lend(size_t length)
+static void stop(const char *what, const struct Array *array)
 {
-    void *bytes = NULL;
-    if (posix_memalign(&bytes, 64, length) != 0) {
-        fprintf(stderr, "make_vectors: no memory\n");
-        exit(1);
-    }
-    return bytes;
+    fprintf(stderr, "make_vectors: %s for p = %d, k = %d\n", what, array->p, array->k);
+    exit(1);
 }
 
-static int *code_of(const struct Vector *vector)
+static void fill_disk(const struct Array *array, int disk)
 {
-    int *bitmatrix = liberation_coding_bitmatrix(vector->k, vector->p);
-    if (bitmatrix == NULL) {
-        fprintf(stderr, "make_vectors: no code for p = %d, k = %d\n", vector->p, vector->k);
-        exit(1);
-    }
-    return bitmatrix;
+    for (int i = 0; i < array->p * S; i++)
+        array->disks[disk][i] = (char)random_byte();
 }
 
-static void encode(const struct Vector *vector, char **disks)
+static void encode(struct Array *array)
 {
-    int p = vector->p, k = vector->k, s = vector->s;
-    int *bitmatrix = code_of(vector);
-    jerasure_bitmatrix_encode(k, 2, p, bitmatrix, disks, disks + k, p * s, s);
-    free(bitmatrix);
+    int p = array->p, k = array->k;
+    for (int disk = 0; disk < k + 2; disk++)
+        fill_disk(array, disk);
+    jerasure_bitmatrix_encode(k, 2, p, array->bitmatrix, array->disks, array->disks + k, p * S, S);
 }
 
-static void decode(const struct Vector *vector, char **disks)
+static void write_stripe(const struct Array *array)
 {
-    int p = vector->p, k = vector->k, s = vector->s;
-    int *bitmatrix = code_of(vector);
-    int erased[] = { vector->lost[0], vector->lost[1], -1 };
-    if (jerasure_bitmatrix_decode(k, 2, p, bitmatrix, 1, erased, disks, disks + k, p * s, s)) {
-        fprintf(stderr, "make_vectors: no decoding for p = %d, k = %d\n", p, k);
-        exit(1);
-    }
-    free(bitmatrix);
+    printf("array %d %d %d\nstripe ", array->p, array->k, S);
+    for (int disk = 0; disk < array->k + 2; disk++)
+        for (int i = 0; i < array->p * S; i++)
+            printf("%02x", (uint8_t)array->disks[disk][i]);
+    printf("\n");
 }
 
-static void lend_disks(const struct Vector *vector, char **disks)
+/* Loses two disks, decodes them, and records that they came back. */
+static void decode(struct Array *array, int a, int b)
 {
-    int column = vector->p * vector->s;
-    for (int disk = 0; disk < vector->k + 2; disk++) {
-        disks[disk] = lend(column);
-        for (int i = 0; i < column; i++) {
-            disks[disk][i] = (char)random_byte();
-        }
-    }
+    int p = array->p, k = array->k, erased[] = { a, b, -1 };
+    char kept[2][MOST_COLUMN];
+    memcpy(kept[0], array->disks[a], (size_t)(p * S));
+    memcpy(kept[1], array->disks[b], (size_t)(p * S));
+    fill_disk(array, a);
+    fill_disk(array, b);
+    if (jerasure_bitmatrix_decode(k, 2, p, array->bitmatrix, 1, erased, array->disks, array->disks + k, p * S, S))
+        stop("no decoding", array);
+    if (memcmp(kept[0], array->disks[a], (size_t)(p * S)) || memcmp(kept[1], array->disks[b], (size_t)(p * S)))
+        stop("another stripe was decoded", array);
+    printf("two %d %d\n", a, b);
 }
 
-static void write_disks(const struct Vector *vector, char **disks)
+static void record(struct Array *array)
 {
-    for (int disk = 0; disk < vector->k + 2; disk++) {
-        for (int i = 0; i < vector->p * vector->s; i++) {
-            printf("%02x", (uint8_t)disks[disk][i]);
-        }
-        printf("\n");
-        free(disks[disk]);
-    }
-}
-
-static void write_vector(const struct Vector *vector)
-{
-    char *disks[MOST_DISKS];
-    lend_disks(vector, disks);
-    printf("%d %d %d", vector->p, vector->k, vector->s);
-    if (vector->lost[0] == vector->lost[1]) {
-        encode(vector, disks);
-        printf("\n");
-    } else {
-        decode(vector, disks);
-        printf(" %d %d\n", vector->lost[0], vector->lost[1]);
-    }
-    write_disks(vector, disks);
+    array->bitmatrix = liberation_coding_bitmatrix(array->k, array->p);
+    if (array->bitmatrix == NULL)
+        stop("no code", array);
+    encode(array);
+    write_stripe(array);
+    for (int b = 1; b < array->k + 2; b++)
+        for (int a = 0; a < b; a++)
+            decode(array, a, b);
+    free(array->bitmatrix);
 }
 
 int main(void)
 {
-    printf("# Stripes from Jerasure 2.0; make_vectors.c wrote them and tells the form.\n");
-    for (size_t i = 0; i < sizeof VECTORS / sizeof *VECTORS; i++) {
-        write_vector(&VECTORS[i]);
+    struct Array array;
+    for (int disk = 0; disk < MOST_DISKS; disk++) {
+        void *bytes = NULL;
+        if (posix_memalign(&bytes, 64, MOST_COLUMN) != 0) {
+            fprintf(stderr, "make_vectors: no memory\n");
+            return 1;
+        }
+        array.disks[disk] = bytes;
     }
+    printf("# Recorded from Jerasure 2.0 by tests/vectors/make_vectors.c; FORMAT.md tells the form.\n");
+    for (size_t w = 0; w < sizeof WIDTHS / sizeof *WIDTHS; w++)
+        for (int k = 2; k <= WIDTHS[w]; k++) {
+            array.p = WIDTHS[w];
+            array.k = k;
+            record(&array);
+        }
     return 0;
 }

@@ -8,3 +8,4 @@ pub mod exports;
 pub mod ffi;
 pub mod groups;
 pub mod harness;
+pub mod vectors;

@@ -2,6 +2,9 @@
 
 use std::fmt::Debug;
 
+use super::part::Part;
+use super::Shape;
+
 /// Differences shown for one group; further ones are only counted.
 const SHOWN: u64 = 5;
 
@@ -34,12 +37,45 @@ impl Group {
 
     /// Compares two stretches of bytes and tells the first place that differs.
     pub fn same_bytes(&mut self, call: impl FnOnce() -> String, expected: &[u8], got: &[u8]) {
+        self.same_part(call, Part::Any, expected, got);
+    }
+
+    /// Compares stripes, with guards around them or without, and tells the place by disk and row.
+    pub fn same_stripe(
+        &mut self,
+        call: impl FnOnce() -> String,
+        shape: Shape,
+        expected: &[u8],
+        got: &[u8],
+    ) {
+        self.same_part(call, Part::Stripe(shape), expected, got);
+    }
+
+    /// Compares columns, with guards around them or without, and tells the place by row.
+    pub fn same_column(
+        &mut self,
+        call: impl FnOnce() -> String,
+        shape: Shape,
+        expected: &[u8],
+        got: &[u8],
+    ) {
+        self.same_part(call, Part::Column(shape), expected, got);
+    }
+
+    fn same_part(
+        &mut self,
+        call: impl FnOnce() -> String,
+        part: Part,
+        expected: &[u8],
+        got: &[u8],
+    ) {
         self.comparisons += 1;
         if expected == got {
             return;
         }
         let place = expected.iter().zip(got).take_while(|(a, b)| a == b).count();
-        let call = format!("{}, first differing byte {place}", call());
+        let named = part.name(expected.len(), place);
+        let call = format!("{}, first differing byte {place}{named}", call());
         self.differ(&call, &show(expected, place), &show(got, place));
     }
 

@@ -2,7 +2,7 @@
 
 use super::Random;
 
-const GUARD: usize = 64;
+pub const GUARD: usize = 64;
 
 #[derive(Clone)]
 pub struct Lent {

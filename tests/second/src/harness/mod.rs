@@ -6,6 +6,7 @@ mod group;
 mod lent;
 pub mod model;
 pub mod numbers;
+mod part;
 pub mod plans;
 mod random;
 pub mod runner;

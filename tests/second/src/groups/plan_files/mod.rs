@@ -2,6 +2,6 @@
 
 pub mod calls;
 pub mod checks;
-mod forms;
+pub mod forms;
 pub mod model;
 mod odd;

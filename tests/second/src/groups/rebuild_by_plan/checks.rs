@@ -59,8 +59,8 @@ fn same_rebuild(
     let steps = plan.part().to_vec();
     let call = || format!("rebuild_by_plan({shape:?}, {lost}, {steps:?}), lengths {lengths:?}");
     group.same(call, expected, got);
-    group.same_bytes(|| format!("{}, column", call()), wanted.whole(), column.whole());
-    group.same_bytes(|| format!("{}, stripe", call()), before.whole(), stripe.whole());
+    group.same_column(|| format!("{}, column", call()), shape, wanted.whole(), column.whole());
+    group.same_stripe(|| format!("{}, stripe", call()), shape, before.whole(), stripe.whole());
     group.same_bytes(|| format!("{}, plan", call()), sent.whole(), plan.whole());
     got
 }
@@ -117,17 +117,23 @@ fn accepted(group: &mut Group, random: &mut Random, shape: Shape, loss: &Loss, s
     let mut clean = clean_stripe(random, shape);
     let cells = clean.part()[disk_place(shape, lost)].to_vec();
     random.fill(&mut clean.part()[disk_place(shape, lost)]);
-    group.same_bytes(|| say("clean"), &cells, &rebuilt(shape, lost, steps, clean.part()));
+    group.same_column(|| say("clean"), shape, &cells, &rebuilt(shape, lost, steps, clean.part()));
     let mut dirty = Lent::noise(stripe_length(shape), random);
     let column = rebuilt(shape, lost, steps, dirty.part());
     let choices = steps.iter().map(|step| loss.choice_of(step)).collect();
     let order = accepted_order(choices, random).expect("the order that they came in");
-    group.same_bytes(|| say("another order"), &column, &rebuilt(shape, lost, &order, dirty.part()));
+    group.same_column(
+        || say("another order"),
+        shape,
+        &column,
+        &rebuilt(shape, lost, &order, dirty.part()),
+    );
     for cell in cells_off_list(shape, lost, steps) {
         random.fill(&mut dirty.part()[cell_place(shape, cell)]);
     }
-    group.same_bytes(
+    group.same_column(
         || say("its cells alone"),
+        shape,
         &column,
         &rebuilt(shape, lost, steps, dirty.part()),
     );
@@ -141,10 +147,15 @@ fn ours(group: &mut Group, random: &mut Random, loss: &Loss) {
     let by = |steps: Vec<Step>, stripe: &[u8]| rebuilt(shape, lost, &steps, stripe);
     rebuild_one(shape, lost, stripe.part(), &mut column);
     let call = || format!("rebuild_by_plan({shape:?}, {lost}, our plan)");
-    group.same_bytes(call, &column, &by(our_steps(loss.p, loss.k, lost), stripe.part()));
+    group.same_column(call, shape, &column, &by(our_steps(loss.p, loss.k, lost), stripe.part()));
     rebuild_balanced(shape, lost, stripe.part(), &mut column);
     let call = || format!("rebuild_by_plan({shape:?}, {lost}, the balanced plan)");
-    group.same_bytes(call, &column, &by(balanced_steps(loss.p, loss.k, lost), stripe.part()));
+    group.same_column(
+        call,
+        shape,
+        &column,
+        &by(balanced_steps(loss.p, loss.k, lost), stripe.part()),
+    );
 }
 
 // Refused calls.
@@ -193,5 +204,5 @@ fn little_stack(group: &mut Group, random: &mut Random) {
     let expected = model::rebuild_by_plan(shape, 17, &plan, stripe.part(), &mut wanted);
     let call = || format!("rebuild_by_plan({shape:?}, 17) on 64 KiB of stack");
     group.same(call, expected, got);
-    group.same_bytes(call, &wanted, &column);
+    group.same_column(call, shape, &wanted, &column);
 }

@@ -47,7 +47,7 @@ fn same_mend(group: &mut Group, shape: Shape, marks: &mut Lent, stripe: &mut Len
     let length = stripe.part().len();
     let call = || format!("rebuild_cells({shape:?}, {given:?}), stripe of {length}");
     group.same(call, expected, got);
-    group.same_bytes(|| format!("{}, stripe", call()), wanted.whole(), stripe.whole());
+    group.same_stripe(|| format!("{}, stripe", call()), shape, wanted.whole(), stripe.whole());
     group.same_bytes(|| format!("{}, marks", call()), sent.whole(), marks.whole());
     got
 }
@@ -72,7 +72,7 @@ fn on_noise(group: &mut Group, random: &mut Random, shape: Shape, marks: &[u8], 
         scramble(random, shape, marks, &mut again);
         rebuild_cells(shape, marks, again.part());
         let call = || format!("rebuild_cells({shape:?}, {marks:?}), other bytes missing");
-        group.same_bytes(call, stripe.whole(), again.whole());
+        group.same_stripe(call, shape, stripe.whole(), again.whole());
     }
 }
 
@@ -83,7 +83,7 @@ fn on_clean(group: &mut Group, random: &mut Random, shape: Shape, marks: &[u8]) 
     scramble(random, shape, marks, &mut stripe);
     if rebuild_cells(shape, marks, stripe.part()) == ACCEPTED {
         let call = || format!("rebuild_cells({shape:?}, {marks:?}), clean");
-        group.same_bytes(call, clean.whole(), stripe.whole());
+        group.same_stripe(call, shape, clean.whole(), stripe.whole());
     }
 }
 
@@ -134,7 +134,7 @@ fn whole_disks(group: &mut Group, random: &mut Random, shape: Shape) {
             rebuild_two(shape, first, second, expected.part());
             let call = || format!("rebuild_cells({shape:?}) of disks {first} and {second}");
             group.same(call, ACCEPTED, got);
-            group.same_bytes(call, expected.whole(), stripe.whole());
+            group.same_stripe(call, shape, expected.whole(), stripe.whole());
         }
     }
 }
@@ -194,5 +194,5 @@ fn little_stack(group: &mut Group, random: &mut Random) {
     let got = small_stack::run(|| rebuild_cells(shape, &marks, part));
     let call = || format!("rebuild_cells({shape:?}, two disks) on 64 KiB of stack");
     group.same(call, ACCEPTED, got);
-    group.same_bytes(call, clean.whole(), stripe.whole());
+    group.same_stripe(call, shape, clean.whole(), stripe.whole());
 }

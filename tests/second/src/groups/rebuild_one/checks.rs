@@ -69,8 +69,8 @@ fn same_rebuild(on: &mut Checks, shape: Shape, lost: usize, stripe: &mut Lent, c
     let lengths = (stripe.part().len(), column.part().len());
     let call = || format!("{name}({shape:?}, {lost}), stripe and column of {lengths:?}");
     on.group.same(call, expected, got);
-    on.group.same_bytes(|| format!("{}, column", call()), wanted.whole(), column.whole());
-    on.group.same_bytes(|| format!("{}, stripe", call()), before.whole(), stripe.whole());
+    on.group.same_column(|| format!("{}, column", call()), shape, wanted.whole(), column.whole());
+    on.group.same_stripe(|| format!("{}, stripe", call()), shape, before.whole(), stripe.whole());
 }
 
 // Accepted calls.
@@ -85,7 +85,7 @@ fn example(on: &mut Checks, shape: Shape, known: &[u8]) {
         let mut column = Lent::noise(3, on.random);
         same_rebuild(on, shape, lost, &mut stripe, &mut column);
         let call = || format!("{name}({shape:?}, {lost}, example)");
-        on.group.same_bytes(call, &known[place], column.part());
+        on.group.same_column(call, shape, &known[place], column.part());
     }
 }
 
@@ -100,7 +100,7 @@ fn clean_losses(on: &mut Checks, shape: Shape) {
         let mut column = Lent::noise(column_length(shape), on.random);
         same_rebuild(on, shape, lost, &mut stripe, &mut column);
         let call = || format!("{name}({shape:?}, {lost}, clean)");
-        on.group.same_bytes(call, &cells, column.part());
+        on.group.same_column(call, shape, &cells, column.part());
         stripe.part()[place].copy_from_slice(&cells);
     }
 }
@@ -119,7 +119,7 @@ fn dirty_losses(on: &mut Checks, shape: Shape) {
         let mut second = Lent::noise(column_length(shape), on.random);
         same_rebuild(on, shape, lost, &mut stripe, &mut second);
         let call = || format!("{name}({shape:?}, {lost}, changed off the read list)");
-        on.group.same_bytes(call, first.part(), second.part());
+        on.group.same_column(call, shape, first.part(), second.part());
     }
 }
 
@@ -147,7 +147,7 @@ fn beside_full(on: &mut Checks, shape: Shape) {
         let got = (on.rebuild.call)(full_shape(shape), lost_there, &wide, &mut expected);
         let call = || format!("{name}({shape:?}, {lost}), beside the full array's");
         on.group.same(call, ACCEPTED, got);
-        on.group.same_bytes(call, &expected, column.part());
+        on.group.same_column(call, shape, &expected, column.part());
     }
 }
 
@@ -294,7 +294,17 @@ fn on_little_stack(on: &mut Checks, shape: Shape) {
         let expected = (on.rebuild.model)(shape, lost, before.part(), wanted.part());
         let call = || format!("{name}({shape:?}, {lost}) on 64 KiB of stack");
         on.group.same(call, expected, got);
-        on.group.same_bytes(|| format!("{}, column", call()), wanted.whole(), column.whole());
-        on.group.same_bytes(|| format!("{}, stripe", call()), before.whole(), stripe.whole());
+        on.group.same_column(
+            || format!("{}, column", call()),
+            shape,
+            wanted.whole(),
+            column.whole(),
+        );
+        on.group.same_stripe(
+            || format!("{}, stripe", call()),
+            shape,
+            before.whole(),
+            stripe.whole(),
+        );
     }
 }

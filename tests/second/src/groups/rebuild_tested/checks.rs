@@ -48,8 +48,8 @@ pub fn same_tested(
     let lengths = (stripe.part().len(), column.part().len());
     let call = || format!("rebuild_tested({shape:?}, {lost}), stripe and column of {lengths:?}");
     group.same(call, expected, got);
-    group.same_bytes(|| format!("{}, column", call()), wanted.whole(), column.whole());
-    group.same_bytes(|| format!("{}, stripe", call()), before.whole(), stripe.whole());
+    group.same_column(|| format!("{}, column", call()), shape, wanted.whole(), column.whole());
+    group.same_stripe(|| format!("{}, stripe", call()), shape, before.whole(), stripe.whole());
     got
 }
 
@@ -67,7 +67,12 @@ fn says(
     let got = same_tested(group, shape, lost, stripe, &mut column);
     let call = || format!("rebuild_tested({shape:?}, {lost}), {what}");
     group.same(call, expected.map_or(Answer::of(19), |_| ACCEPTED), got);
-    group.same_bytes(|| format!("{}, column", call()), expected.unwrap_or(&before), column.part());
+    group.same_column(
+        || format!("{}, column", call()),
+        shape,
+        expected.unwrap_or(&before),
+        column.part(),
+    );
 }
 
 // Survivors of a clean stripe.
@@ -122,7 +127,7 @@ fn changed_bits(group: &mut Group, random: &mut Random, shape: Shape) {
                 let got = rebuild_one(shape, lost, stripe.part(), &mut column);
                 let call = || format!("rebuild_one({shape:?}, {lost}), {what}");
                 group.same(call, ACCEPTED, got);
-                group.same_bytes(call, &cells, &column);
+                group.same_column(call, shape, &cells, &column);
             }
             stripe.part()[byte] ^= bit;
         }
@@ -213,7 +218,7 @@ fn beside_full(group: &mut Group, random: &mut Random, shape: Shape) {
             let expected = rebuild_tested(full_shape(shape), full, &wide, &mut wide_column);
             let call = || format!("rebuild_tested({shape:?}, {lost}), beside the full array's");
             group.same(call, expected, got);
-            group.same_bytes(call, &wide_column, column.part());
+            group.same_column(call, shape, &wide_column, column.part());
             stripe.part()[other] ^= bit;
         }
     }
@@ -236,7 +241,7 @@ fn little_stack(group: &mut Group, random: &mut Random) {
                 let call = || format!("rebuild_tested({shape:?}, {lost}) on 64 KiB of stack");
                 group.same(call, expected, got);
                 let wanted = if bit == 0 { cells } else { vec![0; column_length(shape)] };
-                group.same_bytes(call, &wanted, &column);
+                group.same_column(call, shape, &wanted, &column);
                 stripe.part()[last] ^= bit;
             }
         }

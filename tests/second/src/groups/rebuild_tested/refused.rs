@@ -42,7 +42,7 @@ fn every_fault(group: &mut Group, random: &mut Random, p: usize, k: usize) {
         let got = rebuild_tested(shape, lost, stripe.part(), column.part());
         let call = || format!("rebuild_tested({shape:?}, {lost}), faults {mix:#b}");
         group.same(call, first, Some(got));
-        group.same_bytes(call, &before, column.part());
+        group.same_column(call, shape, &before, column.part());
         same_tested(group, shape, lost, &mut stripe, &mut column);
     }
 }

@@ -85,7 +85,7 @@ fn exact(group: &mut Group, random: &mut Random, shape: Shape, (first, second): 
     let got = rebuild_two(shape, first, second, stripe.part());
     let call = || format!("rebuild_two({shape:?}, {first}, {second}, clean)");
     group.same(call, ACCEPTED, got);
-    group.same_bytes(|| format!("{}, memory", call()), before.whole(), stripe.whole());
+    group.same_stripe(|| format!("{}, memory", call()), shape, before.whole(), stripe.whole());
 }
 
 /// Any contents of the other disks: the result is clean, and the other disks are as they were.
@@ -121,7 +121,7 @@ fn made_clean(group: &mut Group, shape: Shape, (first, second): Pair, stripe: &m
         let column = stripe.part()[place.clone()].to_vec();
         before.part()[place].copy_from_slice(&column);
     }
-    group.same_bytes(|| format!("{}, other disks", call()), before.whole(), stripe.whole());
+    group.same_stripe(|| format!("{}, other disks", call()), shape, before.whole(), stripe.whole());
 }
 
 /// Absent disks count as zero: with any survivors the result is the full array's from the stripe
@@ -134,7 +134,7 @@ fn beside_full(group: &mut Group, random: &mut Random, shape: Shape, pair: Pair)
     let got = rebuild_two(full_shape(shape), first, second, &mut wide);
     let call = || format!("rebuild_two({shape:?}, {pair:?}), beside the full array's");
     group.same(call, ACCEPTED, got);
-    group.same_bytes(call, &wide, &widened(shape, stripe.part()));
+    group.same_stripe(call, full_shape(shape), &wide, &widened(shape, stripe.part()));
 }
 
 // Calls of which most are refused.
@@ -155,7 +155,7 @@ fn answered_on(group: &mut Group, shape: Shape, (first, second): Pair, stripe: &
     let got = rebuild_two(shape, first, second, stripe.part());
     let call = || format!("rebuild_two({shape:?}, {first}, {second}), length {length}");
     group.same(call, expected, got);
-    group.same_bytes(|| format!("{}, memory", call()), before.whole(), stripe.whole());
+    group.same_stripe(|| format!("{}, memory", call()), shape, before.whole(), stripe.whole());
 }
 
 fn refused_lengths(group: &mut Group, random: &mut Random, shape: Shape) {
@@ -214,6 +214,6 @@ fn little_stack(group: &mut Group, random: &mut Random) {
         random.fill(&mut stripe.part()[disk_place(shape, second)]);
         small_stack::run(|| rebuild_two(shape, first, second, stripe.part()));
         let call = || format!("rebuild_two({shape:?}, {first}, {second}) on 64 KiB of stack");
-        group.same_bytes(call, before.whole(), stripe.whole());
+        group.same_stripe(call, shape, before.whole(), stripe.whole());
     }
 }

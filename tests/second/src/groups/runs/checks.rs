@@ -53,8 +53,18 @@ fn same_step(group: &mut Group, run: &mut Run, which: u64, stripe: &mut Lent, co
     let call = || format!("step_run({before:?}, {which})");
     group.same(call, expected, got);
     group.same(|| format!("{}, record", call()), wanted_run, *run);
-    group.same_bytes(|| format!("{}, column", call()), wanted_column.whole(), column.whole());
-    group.same_bytes(|| format!("{}, stripe", call()), wanted_stripe.whole(), stripe.whole());
+    group.same_column(
+        || format!("{}, column", call()),
+        run.shape,
+        wanted_column.whole(),
+        column.whole(),
+    );
+    group.same_stripe(
+        || format!("{}, stripe", call()),
+        run.shape,
+        wanted_stripe.whole(),
+        stripe.whole(),
+    );
     same_progress(group, run);
 }
 
@@ -128,7 +138,12 @@ fn whole_run(group: &mut Group, random: &mut Random, shape: Shape, lost: usize, 
         let mut column = Lent::noise(column_length(shape), random);
         group.same(|| format!("run_progress({run:?}).over"), NO, run_progress(&run).over);
         same_step(group, &mut run, next.into(), &mut stripe, &mut column);
-        group.same_bytes(|| format!("step {next} of {shape:?}, {lost}"), &cells, column.part());
+        group.same_column(
+            || format!("step {next} of {shape:?}, {lost}"),
+            shape,
+            &cells,
+            column.part(),
+        );
     }
     group.same(|| format!("run_progress({run:?}).over"), YES, run_progress(&run).over);
     refused_steps(group, random, &mut run);
@@ -260,6 +275,6 @@ fn little_stack(group: &mut Group, random: &mut Random) {
         let expected = model::step_run(&mut same, 0, stripe.part(), wanted.part());
         let call = || format!("step_run({shape:?}) on 64 KiB of stack");
         group.same(call, (expected, same), (got, run));
-        group.same_bytes(|| format!("{}, column", call()), wanted.whole(), column.whole());
+        group.same_column(|| format!("{}, column", call()), shape, wanted.whole(), column.whole());
     }
 }

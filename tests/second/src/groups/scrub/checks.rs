@@ -40,7 +40,7 @@ pub fn same_scrub(group: &mut Group, shape: Shape, lent: &mut Lent) -> Scrubbed 
     let length = lent.part().len();
     let call = || format!("scrub_stripe({shape:?}, stripe of {length})");
     group.same(call, expected, got);
-    group.same_bytes(|| format!("{}, memory", call()), before.whole(), lent.whole());
+    group.same_stripe(|| format!("{}, memory", call()), shape, before.whole(), lent.whole());
     got
 }
 
@@ -96,7 +96,7 @@ fn whole_disk(group: &mut Group, random: &mut Random, shape: Shape, lent: &mut L
     says(group, shape, lent, found(1, disk), &format!("disk {disk} changed"));
     let mut column = vec![0; column_length(shape)];
     rebuild_one(shape, disk, lent.part(), &mut column);
-    group.same_bytes(|| format!("{shape:?}, disk {disk} named, rebuilt"), &old, &column);
+    group.same_column(|| format!("{shape:?}, disk {disk} named, rebuilt"), shape, &old, &column);
     lent.part()[place].copy_from_slice(&column);
     let clean = check_stripe(shape, lent.part()).clean;
     group.same(|| format!("{shape:?}, disk {disk} named, mended"), YES, clean);
@@ -285,5 +285,5 @@ fn on_little_stack(group: &mut Group, shape: Shape, lent: &mut Lent, expected: S
     let got = small_stack::run(|| scrub_stripe(shape, stripe));
     let call = || format!("scrub_stripe({shape:?}) on 64 KiB of stack");
     group.same(call, expected, got);
-    group.same_bytes(call, before.whole(), lent.whole());
+    group.same_stripe(call, shape, before.whole(), lent.whole());
 }

@@ -47,7 +47,7 @@ pub fn same_rebuild(
     let pairs = before.part().to_vec();
     let call = || format!("rebuild_server({shape:?}, {servers}, {lost}), losses {pairs:?}");
     group.same(call, expected, got);
-    group.same_bytes(|| format!("{}, stripes", call()), wanted.whole(), stripes.whole());
+    group.same_stripe(|| format!("{}, stripes", call()), shape, wanted.whole(), stripes.whole());
     group.same_bytes(|| format!("{}, losses", call()), before.whole(), losses.whole());
     got
 }
@@ -60,7 +60,7 @@ pub fn same_write(group: &mut Group, shape: Shape, servers: usize, stripes: &mut
     let length = stripes.part().len();
     let call = || format!("write_server({shape:?}, {servers}), stripes of {length} bytes");
     group.same(call, expected, got);
-    group.same_bytes(|| format!("{}, stripes", call()), wanted.whole(), stripes.whole());
+    group.same_stripe(|| format!("{}, stripes", call()), shape, wanted.whole(), stripes.whole());
     got
 }
 
@@ -117,11 +117,11 @@ fn example(group: &mut Group, random: &mut Random) {
     let mut stripes = Lent::of(&bad, random);
     let mut losses = Lent::of(&[0, 1, 200, 200, NONE, 3], random);
     same_rebuild(group, (shape, 2, 1), &mut stripes, &mut losses);
-    group.same_bytes(|| "rebuild_server(example)".into(), &good, stripes.part());
+    group.same_stripe(|| "rebuild_server(example)".into(), shape, &good, stripes.part());
     let mut stripes = Lent::of(&good, random);
     random.fill(&mut stripes.part()[24..]);
     same_write(group, shape, 2, &mut stripes);
-    group.same_bytes(|| "write_server(example)".into(), &good, stripes.part());
+    group.same_stripe(|| "write_server(example)".into(), shape, &good, stripes.part());
 }
 
 /// The extra stripe over clean and over dirty ones; over clean ones it is clean.
@@ -148,7 +148,7 @@ fn each_server(group: &mut Group, random: &mut Random, shape: Shape, servers: us
         let got = same_rebuild(group, case, &mut stripes, &mut Lent::of(&losses, random));
         let call = || format!("rebuild_server({case:?}), clean, losses {losses:?}");
         group.same(call, ACCEPTED, got);
-        group.same_bytes(call, before.whole(), stripes.whole());
+        group.same_stripe(call, shape, before.whole(), stripes.whole());
         let mut dirty = Lent::noise((servers + 1) * stripe_length(shape), random);
         beside_one_stripe(group, random, case, &mut dirty, &losses);
     }
@@ -179,7 +179,7 @@ fn beside_one_stripe(
         }
     }
     let call = || format!("rebuild_server({shape:?}, {servers}, {lost}), the XOR of all");
-    group.same_bytes(call, &vec![0; stripe_length(shape)], &sum);
+    group.same_stripe(call, shape, &vec![0; stripe_length(shape)], &sum);
 }
 
 /// A server's losses by the library's calls on one stripe.
@@ -219,7 +219,7 @@ fn each_kind(group: &mut Group, random: &mut Random, shape: Shape) {
             let mut lent = Lent::of(&losses, random);
             same_rebuild(group, (shape, 2, lost), &mut stripes, &mut lent);
             let call = || format!("rebuild_server({shape:?}, 2, {lost}), losses {losses:?}, clean");
-            group.same_bytes(call, before.whole(), stripes.whole());
+            group.same_stripe(call, shape, before.whole(), stripes.whole());
         }
     }
 }
@@ -235,7 +235,7 @@ fn large(group: &mut Group, random: &mut Random) {
         let got = rebuild_server(shape, servers, lost, stripes.part(), &losses);
         let call = || format!("rebuild_server({shape:?}, {servers}, {lost}), losses {losses:?}");
         group.same(call, ACCEPTED, got);
-        group.same_bytes(call, before.whole(), stripes.whole());
+        group.same_stripe(call, shape, before.whole(), stripes.whole());
     }
 }
 
@@ -250,9 +250,9 @@ fn little_stack(group: &mut Group, random: &mut Random) {
     lose(random, shape, 1, &mut stripes, &losses);
     small_stack::run(|| rebuild_server(shape, 3, 1, stripes.part(), &losses));
     let call = || format!("rebuild_server({shape:?}, 3, 1) on 64 KiB of stack");
-    group.same_bytes(call, before.whole(), stripes.whole());
+    group.same_stripe(call, shape, before.whole(), stripes.whole());
     random.fill(&mut stripes.part()[server_place(shape, 3)]);
     small_stack::run(|| write_server(shape, 3, stripes.part()));
     let call = || format!("write_server({shape:?}, 3) on 64 KiB of stack");
-    group.same_bytes(call, before.whole(), stripes.whole());
+    group.same_stripe(call, shape, before.whole(), stripes.whole());
 }

@@ -38,7 +38,12 @@ fn each_server_last(group: &mut Group, random: &mut Random, shape: Shape) {
             let got = same_rebuild(group, (shape, servers, lost), &mut stripes, &mut lent);
             let call = || format!("rebuild_server({shape:?}, {servers}, {lost}), {losses:?}");
             group.same(call, Answer::of(number), got);
-            group.same_bytes(|| format!("{}, as it was", call()), before.whole(), stripes.whole());
+            group.same_stripe(
+                || format!("{}, as it was", call()),
+                shape,
+                before.whole(),
+                stripes.whole(),
+            );
             not_read(group, random, (shape, servers, server), stripes, losses);
         }
     }

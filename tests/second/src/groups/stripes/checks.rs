@@ -62,7 +62,7 @@ fn same_encode(group: &mut Group, shape: Shape, lent: &mut Lent) {
     let length = wanted.part().len();
     let call = || format!("encode_stripe({shape:?}, stripe of {length})");
     group.same(call, expected, got);
-    group.same_bytes(|| format!("{}, memory", call()), wanted.whole(), lent.whole());
+    group.same_stripe(|| format!("{}, memory", call()), shape, wanted.whole(), lent.whole());
 }
 
 /// Checks, and compares the answer and all memory around; gives the answer.
@@ -73,7 +73,7 @@ fn same_check(group: &mut Group, shape: Shape, lent: &mut Lent) -> Checked {
     let length = lent.part().len();
     let call = || format!("check_stripe({shape:?}, stripe of {length})");
     group.same(call, expected, got);
-    group.same_bytes(|| format!("{}, memory", call()), before.whole(), lent.whole());
+    group.same_stripe(|| format!("{}, memory", call()), shape, before.whole(), lent.whole());
     got
 }
 
@@ -92,7 +92,7 @@ fn example(group: &mut Group, random: &mut Random, shape: Shape, stripe: &[u8]) 
     let mut lent = Lent::noise(length, random);
     lent.part()[..data].copy_from_slice(&stripe[..data]);
     same_encode(group, shape, &mut lent);
-    group.same_bytes(|| format!("encode_stripe({shape:?}, example)"), stripe, lent.part());
+    group.same_stripe(|| format!("encode_stripe({shape:?}, example)"), shape, stripe, lent.part());
     says(group, shape, &mut lent, true, "example");
     let got = encode_stripe(shape, &mut vec![0; length - 1]);
     group.same(|| format!("encode_stripe({shape:?}, a byte short)"), Answer::of(5), got);
@@ -113,7 +113,7 @@ fn encoded(group: &mut Group, random: &mut Random, shape: Shape) {
     let first = lent.part().to_vec();
     random.fill(&mut lent.part()[data..]);
     same_encode(group, shape, &mut lent);
-    group.same_bytes(|| say("again with other P and Q"), &first, lent.part());
+    group.same_stripe(|| say("again with other P and Q"), shape, &first, lent.part());
     says(group, shape, &mut lent, true, "what the library encoded");
 }
 
@@ -154,7 +154,7 @@ fn beside_full(group: &mut Group, random: &mut Random, shape: Shape) {
     let answers = (encode_stripe(shape, stripe.part()), encode_stripe(full, &mut wide));
     let say = || format!("encode_stripe({shape:?}), beside the full array's");
     group.same(say, (ACCEPTED, ACCEPTED), answers);
-    group.same_bytes(say, &wide, &widened(shape, stripe.part()));
+    group.same_stripe(say, full_shape(shape), &wide, &widened(shape, stripe.part()));
     same_verdict(group, shape, stripe.part(), YES);
     for disk in [random.below(shape.disks), shape.disks, shape.disks + 1] {
         let place = disk_place(shape, disk).start + random.below(column_length(shape));
@@ -290,10 +290,10 @@ fn on_little_stack(group: &mut Group, random: &mut Random, shape: Shape) {
     let expected = model::encode_stripe(shape, wanted.part());
     let call = |name: &str| format!("{name}({shape:?}, stripe) on 64 KiB of stack");
     group.same(|| call("encode_stripe"), expected, got);
-    group.same_bytes(|| call("encode_stripe"), wanted.whole(), lent.whole());
+    group.same_stripe(|| call("encode_stripe"), shape, wanted.whole(), lent.whole());
     let stripe = lent.part();
     let got = small_stack::run(|| check_stripe(shape, stripe));
     let expected = Checked { answer: ACCEPTED, clean: YES };
     group.same(|| call("check_stripe"), expected, got);
-    group.same_bytes(|| call("check_stripe"), wanted.whole(), lent.whole());
+    group.same_stripe(|| call("check_stripe"), shape, wanted.whole(), lent.whole());
 }

@@ -41,7 +41,7 @@ fn same_update(group: &mut Group, shape: Shape, cell: Cell, stripe: &mut Lent, n
     let lengths = (stripe.part().len(), new.part().len());
     let call = || format!("update_cell({shape:?}, {cell:?}), stripe and cell of {lengths:?}");
     group.same(call, expected, got);
-    group.same_bytes(|| format!("{}, stripe", call()), wanted.whole(), stripe.whole());
+    group.same_stripe(|| format!("{}, stripe", call()), shape, wanted.whole(), stripe.whole());
     group.same_bytes(|| format!("{}, cell", call()), before.whole(), new.whole());
 }
 
@@ -55,7 +55,7 @@ fn example(group: &mut Group, random: &mut Random) {
     let mut wanted = EXAMPLE;
     wanted[4] = 0x11;
     wanted[10..14].copy_from_slice(&[0x39, 0xC0, 0x10, 0x9D]);
-    group.same_bytes(|| "update_cell(example)".into(), &wanted, stripe.part());
+    group.same_stripe(|| "update_cell(example)".into(), shape, &wanted, stripe.part());
 }
 
 /// The data cells of an array.
@@ -94,12 +94,12 @@ fn clean_and_dirty(group: &mut Group, random: &mut Random, shape: Shape, cell: C
         group.same(|| call("cells changed"), may_change(shape, cell), changed);
         let after = stripe.clone();
         same_update(group, shape, cell, stripe, &mut Lent::of(&new, random));
-        group.same_bytes(|| call("the same bytes again"), after.whole(), stripe.whole());
+        group.same_stripe(|| call("the same bytes again"), shape, after.whole(), stripe.whole());
         if name == "clean" {
             let mut anew = before;
             anew[place].copy_from_slice(&new);
             encode_stripe(shape, &mut anew);
-            group.same_bytes(|| call("beside encoding anew"), &anew, stripe.part());
+            group.same_stripe(|| call("beside encoding anew"), shape, &anew, stripe.part());
         }
     }
 }
@@ -168,7 +168,7 @@ fn every_fault(group: &mut Group, random: &mut Random, p: usize, k: usize) {
         let first = (0..ORDER.len()).find(|n| bad(*n)).map(|n| Answer::of(ORDER[n]));
         let call = || format!("update_cell({shape:?}, {:?}), faults {mix:#b}", (row, disk));
         group.same(call, first, Some(got));
-        group.same_bytes(|| format!("{}, memory", call()), before.whole(), stripe.whole());
+        group.same_stripe(|| format!("{}, memory", call()), shape, before.whole(), stripe.whole());
         same_update(group, shape, (row, disk), &mut stripe, &mut new);
     }
 }
@@ -236,6 +236,6 @@ fn little_stack(group: &mut Group, random: &mut Random) {
         let expected = model::update_cell(shape, cell, wanted.part(), new.part());
         let call = || format!("update_cell({shape:?}, {cell:?}) on 64 KiB of stack");
         group.same(call, expected, got);
-        group.same_bytes(call, wanted.whole(), stripe.whole());
+        group.same_stripe(call, shape, wanted.whole(), stripe.whole());
     }
 }

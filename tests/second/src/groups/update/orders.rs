@@ -29,7 +29,7 @@ fn twice(group: &mut Group, random: &mut Random, shape: Shape, cell: Cell, befor
     ];
     let call = || format!("update_cell({shape:?}, {cell:?}), twice");
     group.same(call, [ACCEPTED; 3], answers);
-    group.same_bytes(call, alone.whole(), both.whole());
+    group.same_stripe(call, shape, alone.whole(), both.whole());
 }
 
 /// Two cells that share P, that share Q, and an extra cell with a cell of each of its diagonals: every pair of the
@@ -84,6 +84,6 @@ fn both_orders(group: &mut Group, random: &mut Random, shape: Shape, pair: [Cell
             }
         }
         let call = || format!("update_cell({shape:?}), both orders of {pair:?}, {name}");
-        group.same_bytes(call, left[0].whole(), left[1].whole());
+        group.same_stripe(call, shape, left[0].whole(), left[1].whole());
     }
 }
