@@ -235,8 +235,9 @@ def progress(setting):
 
 
 def stopped(setting, words, ready, how=signal.SIGINT, **more):
-    """What a call says that is stopped once something is ready; it ends by the signal."""
-    with subprocess.Popen([setting.program, *map(str, words)], stdout=subprocess.PIPE, stderr=subprocess.PIPE, **more) as child:
+    """What a call says that is stopped once something is ready; it ends by the signal, also where the tests ignore it."""
+    with subprocess.Popen([setting.program, *map(str, words)], stdout=subprocess.PIPE, stderr=subprocess.PIPE,
+                          preexec_fn=lambda: signal.signal(how, signal.SIG_DFL), **more) as child:
         until = time.monotonic() + 20
         while not ready() and child.poll() is None and time.monotonic() < until:
             time.sleep(0.01)
