@@ -23,8 +23,13 @@ fn the_picture_is_the_plan() {
     let readme = concat!(env!("CARGO_MANIFEST_DIR"), "/../../README.md");
     let readme = std::fs::read_to_string(readme).expect("README.md of the repository");
     let is_row = |line: &&str| line.contains(" x ") && !line.contains("lost");
-    let rows: Vec<Vec<&str>> =
-        readme.lines().filter(is_row).map(|line| line.split_whitespace().collect()).collect();
+    let is_share = |line: &&str| line.trim_start().starts_with("read ");
+    let rows: Vec<Vec<&str>> = readme
+        .lines()
+        .filter(is_row)
+        .filter(|line| !is_share(line))
+        .map(|line| line.split_whitespace().collect())
+        .collect();
     let shape = Shape::new(P, P, 1).unwrap();
     let (plan, list) = (shape.plan(LOST).unwrap(), shape.read_list(LOST).unwrap());
     assert_eq!(rows.len(), P, "the picture has a line for each row");
@@ -53,6 +58,11 @@ fn the_picture_is_the_plan() {
             assert_eq!(shown[disk + 1], mark, "row {row}, disk {disk}");
             assert_eq!(list.contains(row, disk), !"x.".contains(mark), "row {row}, disk {disk}");
         }
+    }
+    let shares = readme.lines().filter(is_row).find(is_share).expect("the share of each disk");
+    for (disk, share) in shares.split_whitespace().skip(1).take(P + 2).enumerate() {
+        let given = list.share(disk).to_string();
+        assert_eq!(share, if disk == LOST { "x" } else { &given[..] }, "the share of disk {disk}");
     }
     let told = format!("{} of {} surviving cells are read", plan.reads(), P * (P + 1));
     assert!(readme.contains(&told), "README.md says '{told}'");
