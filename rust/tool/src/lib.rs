@@ -23,6 +23,7 @@ pub mod rebuild;
 pub mod repair;
 mod rows;
 pub mod set;
+pub mod store;
 pub mod sums;
 pub mod sys;
 pub mod wanted;
