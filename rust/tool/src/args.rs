@@ -90,6 +90,14 @@ impl Given {
         Overwrite::of(self.values("--overwrite"))
     }
 
+    /// Refuses options that have a meaning for something else only.
+    pub fn only_for(&self, what: &str, names: &[&str]) -> Result<(), Fault> {
+        match names.iter().find(|name| self.flag(name)) {
+            Some(name) => Err(usage(format!("{name} is for {what} only; leave it out"))),
+            None => Ok(()),
+        }
+    }
+
     /// The most bytes that are read a second.
     pub fn pace(&self) -> Result<Pace, Fault> {
         let rate = self.number("--rate")?;

@@ -130,14 +130,7 @@ impl Set {
     }
 
     fn of(folder: PathBuf, paths: Vec<PathBuf>, label: Label) -> Set {
-        Set {
-            folder,
-            paths,
-            label,
-            places: Vec::new(),
-            bad_labels: Vec::new(),
-            direct: false,
-        }
+        Set { folder, paths, label, places: Vec::new(), bad_labels: Vec::new(), direct: false }
     }
 
     /// Refuses a set of which too much is lost.

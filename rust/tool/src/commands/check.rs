@@ -4,18 +4,20 @@ use std::time::{Duration, Instant};
 
 use cuzhaveli::Scrub;
 use cuzhaveli_tool::examine::{examine, Findings};
+use cuzhaveli_tool::pace::Pace;
 use cuzhaveli_tool::reader::Flaw;
 use cuzhaveli_tool::set::{joined, Absence, Set};
+use cuzhaveli_tool::store::place::is_store;
 
 use crate::args::{Form, Given};
-use crate::commands::Command;
+use crate::commands::{store_check, Command};
 use crate::fault::Fault;
 use crate::progress::Progress;
 use crate::say;
 
 pub const COMMAND: Command = Command {
     name: "check",
-    usage: "[-q] [--rate BYTES] [--from STRIPE] DIR",
+    usage: "[-q] [--rate BYTES] [--from STRIPE] DIR | STORE",
     about: "read every byte from the medium and compare it with its checksum, and every stripe with its parity; --rate: \
             read no more than BYTES a second; --from: begin at STRIPE",
     options: &[Form::Flag("-q"), Form::Value("--rate"), Form::Value("--from")],
@@ -28,46 +30,25 @@ const SAID_EVERY: Duration = Duration::from_secs(60);
 
 /// What was found so far.
 #[derive(Default)]
-struct Count {
-    bad: u64,
-    dirty: u64,
-    beyond: u64,
+pub struct Count {
+    /// What lines begin with after their first word: the file of a store, with a comma.
+    pub of: String,
+    pub bad: u64,
+    pub dirty: u64,
+    pub beyond: u64,
+    pub read: u64,
+    /// The disks that could not be read past the page cache.
+    pub cached: Vec<usize>,
 }
 
 fn run(given: &Given) -> Result<(), Fault> {
-    let (pace, from) = (given.pace()?, given.number("--from")?.unwrap_or(0));
+    if is_store(given.path(0)) {
+        return store_check::run(given);
+    }
+    let from = given.number("--from")?.unwrap_or(0);
     let mut set = Set::open(given.path(0), &[])?;
     say::notes(&set);
-    let geometry = set.label.geometry;
-    let mut count = Count { bad: set.bad_labels.len() as u64, ..Count::default() };
-    tell_images(&set)?;
-    let cached = set.go_direct();
-    let each = geometry.shape.stripe_len() as u64;
-    let first = (from / geometry.unit).min(geometry.units());
-    let begun = geometry.stripes - (first * geometry.unit).min(geometry.stripes);
-    let mut progress = Progress::new("check".into(), Some(each * begun), given.flag("-q"));
-    let mut said = Instant::now();
-    let read = examine(&set, first, pace, |mut found| {
-        tell_all(&set, &mut found, &mut count)?;
-        progress.add(found.batch.count as u64 * each);
-        if said.elapsed() >= SAID_EVERY {
-            said = Instant::now();
-            say::line(format!("at,{}", found.batch.first + found.batch.count as u64))?;
-        }
-        Ok(())
-    })?;
-    drop(progress);
-    let Count { bad, dirty, beyond } = count;
-    let way =
-        if cached.is_empty() { "medium".into() } else { format!("cached {}", joined(&cached)) };
-    say::line(format!(
-        "checked,{begun},bad,{bad},dirty,{dirty},beyond,{beyond},read,{read},{way}"
-    ))?;
-    what_to_do(&set, &count)
-}
-
-/// Prints which disks are lost, and which labels are bad.
-fn tell_images(set: &Set) -> Result<(), Fault> {
+    let mut count = Count::default();
     for disk in set.lost() {
         let why = match set.absence(disk) {
             Some(Absence::Unfinished(_)) => "unfinished",
@@ -76,10 +57,62 @@ fn tell_images(set: &Set) -> Result<(), Fault> {
         };
         say::line(format!("lost,{disk},{why}"))?;
     }
-    for (disk, at) in &set.bad_labels {
-        say::line(format!("label,{disk},{}", if *at == 0 { "first" } else { "last" }))?;
+    let begun = examine_set(&mut set, from, given.pace()?, given.flag("-q"), &mut count)?;
+    let Count { bad, dirty, beyond, read, .. } = count;
+    let way = count.way();
+    say::line(format!(
+        "checked,{begun},bad,{bad},dirty,{dirty},beyond,{beyond},read,{read},{way}"
+    ))?;
+    what_to_do(&set, &count)
+}
+
+impl Count {
+    /// Whether all was read from the medium.
+    pub fn way(&self) -> String {
+        match self.cached[..] {
+            [] => "medium".into(),
+            _ => format!("cached {}", joined(&self.cached)),
+        }
     }
-    Ok(())
+}
+
+/// Checks the images of a set from a stripe on; gives the stripes.
+pub fn examine_set(
+    set: &mut Set,
+    from: u64,
+    pace: Pace,
+    quiet: bool,
+    count: &mut Count,
+) -> Result<u64, Fault> {
+    let geometry = set.label.geometry;
+    count.bad += set.bad_labels.len() as u64;
+    for (disk, at) in &set.bad_labels {
+        let which = if *at == 0 { "first" } else { "last" };
+        say::line(format!("label,{}{disk},{which}", count.of))?;
+    }
+    for disk in set.go_direct() {
+        if !count.cached.contains(&disk) {
+            count.cached.push(disk);
+        }
+    }
+    let each = geometry.shape.stripe_len() as u64;
+    let first = (from / geometry.unit).min(geometry.units());
+    let begun = geometry.stripes - (first * geometry.unit).min(geometry.stripes);
+    let mut progress = Progress::new("check".into(), Some(each * begun), quiet);
+    let mut said = Instant::now();
+    let set = &*set;
+    let read = examine(set, first, pace, |mut found| {
+        tell_all(set, &mut found, count)?;
+        progress.add(found.batch.count as u64 * each);
+        if said.elapsed() >= SAID_EVERY {
+            said = Instant::now();
+            let at = found.batch.first + found.batch.count as u64;
+            say::line(format!("at,{}{at}", count.of))?;
+        }
+        Ok(())
+    })?;
+    count.read += read;
+    Ok(begun)
 }
 
 /// Prints what was found in a batch.
@@ -90,24 +123,24 @@ fn tell_all(set: &Set, found: &mut Findings, count: &mut Count) -> Result<(), Fa
         let (stripes, why) =
             (stripes(bad.unit), if bad.flaw == Flaw::Sum { "sum" } else { "read" });
         let (first, cells) = (stripes.start, stripes.end - stripes.start);
-        say::line(format!("bad,{},{},{first},{cells},{why}", bad.disk, bad.row))?;
+        say::line(format!("bad,{}{},{},{first},{cells},{why}", count.of, bad.disk, bad.row))?;
         count.bad += 1;
     }
     for bad in &found.blocks {
         let stripes = stripes(bad.unit);
         let (first, cells) = (stripes.start, stripes.end - stripes.start);
-        say::line(format!("block,{},{first},{cells}", bad.disk))?;
+        say::line(format!("block,{}{},{first},{cells}", count.of, bad.disk))?;
         count.bad += 1;
     }
     for beyond in &found.beyond {
         let (first, cells) = (beyond.stripes.start, beyond.stripes.end - beyond.stripes.start);
-        say::line(format!("beyond,{first},{cells},{}", joined(&beyond.disks)))?;
+        say::line(format!("beyond,{}{first},{cells},{}", count.of, joined(&beyond.disks)))?;
         count.beyond += 1;
     }
     for (stripe, verdict) in found.dirty()? {
         match verdict {
-            Scrub::OneDisk(disk) => say::line(format!("dirty,{stripe},{disk}"))?,
-            _ => say::line(format!("dirty,{stripe},several"))?,
+            Scrub::OneDisk(disk) => say::line(format!("dirty,{}{stripe},{disk}", count.of))?,
+            _ => say::line(format!("dirty,{}{stripe},several", count.of))?,
         }
         count.dirty += 1;
     }

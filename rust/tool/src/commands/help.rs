@@ -17,7 +17,8 @@ pub const COMMAND: Command = Command {
 const NOTES: &str = "
 -k is as -p and -s 4096 if not given. Numbers are decimal, with K, M, G, T for powers of 1,024. `--` ends the options.
 Exit status: 0 done, or yes; 1 the answer is no; 2 usage; 3 refused by the library; 4 reading or writing failed;
-5 more than two disks lost, or something that is not of this set; 6 film that cannot be made right. The manual: man cuzhaveli
+5 more than two disks lost, or something that is not of this set; 6 film that cannot be made right; 7 a change that may
+stand or not: run it again. The manual: man cuzhaveli
 ";
 
 /// The usage of every command.

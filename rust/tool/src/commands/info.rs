@@ -2,22 +2,26 @@
 
 use cuzhaveli_tool::label::hex;
 use cuzhaveli_tool::set::{joined, Set};
+use cuzhaveli_tool::store::place::is_store;
 
 use crate::args::Given;
-use crate::commands::Command;
+use crate::commands::{store_info, Command};
 use crate::fault::Fault;
 use crate::say;
 
 pub const COMMAND: Command = Command {
     name: "info",
-    usage: "DIR",
-    about: "label and lost disks",
+    usage: "DIR | STORE",
+    about: "label and lost disks; of a store its disks, what they lack, and bytes used and free",
     options: &[],
     operands: 1..=1,
     run,
 };
 
 fn run(given: &Given) -> Result<(), Fault> {
+    if is_store(given.path(0)) {
+        return store_info::run(given);
+    }
     let set = Set::open(given.path(0), &[])?;
     say::notes(&set);
     let (geometry, lost) = (set.label.geometry, set.lost());

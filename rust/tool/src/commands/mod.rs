@@ -1,16 +1,28 @@
 //! The commands, their usage and their options.
 
 mod bill;
+mod board;
 mod check;
+mod create;
 mod decode;
 mod encode;
+mod get;
 mod help;
 mod info;
 mod judge;
+mod list;
+mod patch;
 mod plan;
+mod put;
 mod rebuild;
+mod remove;
 mod repair;
 mod space;
+mod store_check;
+mod store_info;
+mod store_rebuild;
+mod store_repair;
+mod stores;
 
 use std::ffi::OsString;
 use std::ops::RangeInclusive;
@@ -28,7 +40,14 @@ pub struct Command {
     run: fn(&Given) -> Result<(), Fault>,
 }
 
-pub const COMMANDS: [&Command; 11] = [
+pub const COMMANDS: [&Command; 18] = [
+    &create::COMMAND,
+    &put::COMMAND,
+    &list::COMMAND,
+    &get::COMMAND,
+    &remove::COMMAND,
+    &patch::COMMAND,
+    &board::COMMAND,
     &encode::COMMAND,
     &decode::COMMAND,
     &info::COMMAND,

@@ -4,21 +4,24 @@ use cuzhaveli_tool::drives::{apart, drive_at, Overwrite};
 use cuzhaveli_tool::output::{lock, Output};
 use cuzhaveli_tool::rebuild::{rebuild, Account, Spare};
 use cuzhaveli_tool::set::{joined, Absence, Set};
+use cuzhaveli_tool::store::place::is_store;
 use cuzhaveli_tool::wanted::{Choice, Wanted};
 
 use crate::args::{usage, Form, Given};
 use crate::commands::bill::{bill, rates};
-use crate::commands::Command;
+use crate::commands::{store_rebuild, Command};
 use crate::fault::Fault;
 use crate::progress::Progress;
 use crate::say;
 
 pub const COMMAND: Command = Command {
     name: "rebuild",
-    usage: "[-q] [-n] [--test] [--by-rows] [--rate BYTES] [--rates A,B,C] [--disk D]... [--overwrite DRIVE]... DIR",
+    usage: "[-q] [-n] [--test] [--by-rows] [--rate BYTES] [--rates A,B,C] [--disk D]... [--new D]... [--from FOLDER] \
+            [--overwrite DRIVE]... DIR | STORE",
     about: "rebuild the lost images, or go on with it; -n: say what it would read; --test: test the survivors first; \
-            --by-rows: read every row, for comparison only; --rate: read no more than BYTES a second; --rates: bill \
-            what was read; --disk: D counts as lost; --overwrite: DRIVE, to which the image is a link, may be written",
+            --by-rows: read every row, for comparison only; --rate: read no more than BYTES a second; --disk: D counts \
+            as lost; --overwrite: DRIVE, to which the image is a link, may be written; --rates: bill what was \
+            read; of a store: --new: D is a new, empty disk; --from: FOLDER is its old drive, which is read first",
     options: &[
         Form::Flag("-q"),
         Form::Flag("-n"),
@@ -26,6 +29,8 @@ pub const COMMAND: Command = Command {
         Form::Flag("--by-rows"),
         Form::Value("--rate"),
         Form::Value("--rates"),
+        Form::Values("--new"),
+        Form::Value("--from"),
         Form::Values("--disk"),
         Form::Values("--overwrite"),
     ],
@@ -35,6 +40,10 @@ pub const COMMAND: Command = Command {
 
 fn run(given: &Given) -> Result<(), Fault> {
     let folder = given.path(0);
+    if is_store(folder) {
+        return store_rebuild::run(given);
+    }
+    given.only_for("a store", &["--new", "--from"])?;
     let choice = match (given.flag("--test"), given.flag("--by-rows")) {
         (false, false) => Choice::Fewest,
         (true, false) => Choice::Tested,
@@ -115,12 +124,7 @@ fn spare(set: &Set, disk: usize, named: &Overwrite) -> Result<Spare, Fault> {
         let begun = ours.contains(&output.first_block()?);
         return Ok(Spare { disk, output, begun });
     }
-    let (output, begun) = match Output::begun(&path, &ours)? {
-        Some(output) => (output, true),
-        None => (Output::create_part(&path)?, false),
-    };
-    let stands = path.symlink_metadata().is_ok(); // and counts as lost
-    Ok(Spare { disk, output: if stands { output.replacing() } else { output }, begun })
+    Spare::file(&path, label, disk)
 }
 
 /// What stands in a lost disk's place is not overwritten unless that disk is named; drives have

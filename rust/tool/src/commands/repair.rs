@@ -3,16 +3,17 @@
 use cuzhaveli_tool::output::{lock, Output};
 use cuzhaveli_tool::repair::{repair, Account};
 use cuzhaveli_tool::set::{joined, Set};
+use cuzhaveli_tool::store::place::is_store;
 
 use crate::args::{Form, Given};
-use crate::commands::Command;
+use crate::commands::{store_repair, Command};
 use crate::fault::Fault;
 use crate::progress::Progress;
 use crate::say;
 
 pub const COMMAND: Command = Command {
     name: "repair",
-    usage: "[-q] [--rate BYTES] [--overwrite DRIVE]... DIR",
+    usage: "[-q] [--rate BYTES] [--overwrite DRIVE]... DIR | STORE",
     about: "rewrite what is bad in the images, to the bytes that the checksums name; --rate: read no more than BYTES a \
             second; --overwrite: DRIVE, whose first label is bad, may be written",
     options: &[Form::Flag("-q"), Form::Value("--rate"), Form::Values("--overwrite")],
@@ -22,6 +23,9 @@ pub const COMMAND: Command = Command {
 
 fn run(given: &Given) -> Result<(), Fault> {
     let folder = given.path(0);
+    if is_store(folder) {
+        return store_repair::run(given);
+    }
     let (pace, named) = (given.pace()?, given.overwrite()?);
     let _lock = lock(folder)?;
     let set = Set::open(folder, &[])?;
