@@ -10,12 +10,19 @@ TOP = pathlib.Path(__file__).resolve().parents[2]
 MANUAL = TOP / "docs/cuzhaveli.1"
 
 USAGE = """
+cuzhaveli create  -p WIDTH [-k DISKS] [-s CELL] [-u UNIT] [-g GROUP] [--same-device] STORE
+cuzhaveli put     [-q] [-n] STORE PACKAGE (FILE | FOLDER)...
+cuzhaveli list    STORE [PACKAGE]
+cuzhaveli get     [-q] STORE PACKAGE [FILE] TO
+cuzhaveli remove  STORE PACKAGE
+cuzhaveli patch   [-q] --at OFFSET STORE PACKAGE FILE FROM
+cuzhaveli board   [--list FILE] STORE...
 cuzhaveli encode  -p WIDTH [-k DISKS] [-s CELL] [-u UNIT] [-g GROUP] [-q] [--overwrite DRIVE]... FILM DIR
 cuzhaveli decode  [-q] [--overwrite DRIVE] DIR FILM
-cuzhaveli info    DIR
-cuzhaveli check   [-q] [--rate BYTES] [--from STRIPE] DIR
-cuzhaveli rebuild [-q] [-n] [--test] [--by-rows] [--rate BYTES] [--rates A,B,C] [--disk D]... [--overwrite DRIVE]... DIR
-cuzhaveli repair  [-q] [--rate BYTES] [--overwrite DRIVE]... DIR
+cuzhaveli info    DIR | STORE
+cuzhaveli check   [-q] [--rate BYTES] [--from STRIPE] DIR | STORE
+cuzhaveli rebuild [-q] [-n] [--test] [--by-rows] [--rate BYTES] [--rates A,B,C] [--disk D]... [--new D]... [--from FOLDER] [--overwrite DRIVE]... DIR | STORE
+cuzhaveli repair  [-q] [--rate BYTES] [--overwrite DRIVE]... DIR | STORE
 cuzhaveli plan    -p WIDTH [-k DISKS] -d DISK [--csv | --svg]
 cuzhaveli judge   -p WIDTH [-k DISKS] -d DISK FILE
 cuzhaveli space   -p WIDTH [-k DISKS] [-s CELL] [--images [-u UNIT] [-g GROUP]] --free BYTES (--bytes N | FILE...)
