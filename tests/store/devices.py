@@ -124,6 +124,13 @@ def full_disks(setting, mounts):
     many.mkdir()
     for number in range(20):
         (many / str(number)).write_bytes(b"x")
+    mounts.unmount(4)
+    mounts.mount(4, ",nr_blocks=64")
+    done = setting.call("rebuild", "--new", 4, store, status=1)
+    expect(b"it does not fit" in done.err and not list(mounts.path(4).glob("*.img")), done.told())
+    mounts.unmount(4)
+    mounts.mount(4)
+    setting.call("rebuild", "--new", 4, store, status=0)
     setting.call("remove", store, "b", status=0)
     done = setting.call("put", store, "d", many, status=1)
     expect(b"disk 1 has" in done.err and b"files free" in done.err and b"disk 0" not in done.err, done.told())

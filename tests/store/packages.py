@@ -29,6 +29,7 @@ def names_and_bytes(setting):
     expect(out.read_bytes() == FILM, "get wrote over a file")
     shelf.call("get", shelf.folder, "week 1, reel", setting.scratch, status=4)
     shelf.call("get", shelf.folder, "no", setting.new(), status=1)
+    shelf.call("get", shelf.folder, "week 1, reel", "-", status=2)
     shelf.call("get", shelf.folder, "week 1, reel", "no", setting.new(), status=1)
     one, two = shelf.files(((b"x", b"1"),)), shelf.files(((b"y/z", b"2"),))
     shelf.call("put", shelf.folder, "p", one / "x", two, status=0)

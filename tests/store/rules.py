@@ -40,6 +40,9 @@ def stale_disks(setting):
     for away in ((), (0,), (2,), (0, 2), (0, 2, 3)):  # three disks have the new images
         found = shelf.get("a", shelf.view(away))
         expect(found == (REFUSED if away else NEW), f"without {away}: {str(found)[:60]}")
+        if len(away) < 3:
+            listed = shelf.call("list", shelf.view(away), status=0).out
+            expect(listed == b"package,a,files,1,length,333\n", f"without {away} a stale catalogue counts: {listed}")
     done = shelf.call("check", shelf.folder, status=1)
     expect(done.out.count(b"stale,1,2\nstale,4,2\n") == 1 and done.out.count(b"missing,a/film,") == 2, done.told())
     expect(b"cuzhaveli rebuild" in done.err, done.told())
@@ -206,6 +209,9 @@ def damaged_files(setting):
     os.unlink(shelf.drives[1] / "disk")
     os.mkfifo(shelf.drives[1] / "disk")
     expect(shelf.get("a") == OLD, "a pipe in the place of `disk`")
+    view = shelf.view([1])
+    os.mkfifo(view / "disk-01")
+    expect(shelf.get("a", view) == OLD, "a pipe in the place of a disk")
     return "bytes of images, labels, catalogues and disk files"
 
 

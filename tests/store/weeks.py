@@ -69,9 +69,13 @@ class Week:
         if kind == "patch":
             return self.patch(view, before, name)
         if kind == "rebuild":
-            there = [disk for disk in self.present if not any(self.shelf.drives[disk].iterdir())]
-            return ["rebuild", *(word for disk in there for word in ("--new", disk)), view], before
+            return ["rebuild", *self.new_disks(self.present), view], before
         return ["repair", view], before
+
+    def new_disks(self, disks):
+        """The options that name new drives, also those of which a cut left no more than a beginning."""
+        new = [disk for disk in disks if not (self.shelf.drives[disk] / "disk").exists()]
+        return [word for disk in new for word in ("--new", disk)]
 
     def patch(self, view, before, name):
         if not before or before == REFUSED:
@@ -168,8 +172,7 @@ class Week:
     def end(self):
         """All disks come back and are brought up to date: every package is there, and a check finds nothing."""
         view = self.shelf.view()
-        new = [disk for disk, drive in self.shelf.drives.items() if not any(drive.iterdir())]
-        done = self.shelf.call("rebuild", *(word for disk in new for word in ("--new", disk)), view)
+        done = self.shelf.call("rebuild", *self.new_disks(self.shelf.drives), view)
         self.expect(done.status == 0 or self.seen["exchange"] + self.seen["swap"], f"the last rebuild: {done.told()}")
         if done.status == 0:
             self.shelf.call("check", view, status=0)

@@ -2,6 +2,7 @@
 
 import pathlib
 import re
+import shutil
 import subprocess
 
 from harness import Done, expect, noise
@@ -121,33 +122,37 @@ def numbers(setting):
 
 
 def walk_through(setting):
-    """The four commands of README.md under 'By hand', as written, one after the other."""
+    """The commands of README.md under 'By hand', as written, one after the other."""
     readme = (TOP / "README.md").read_text().split("## By hand")[1].split("\n## ")[0]
     commands = re.findall(r"^    (\S.*)$", readme, re.M)
-    expect(len(commands) == 4, f"README.md has {len(commands)} commands by hand")
+    expect(len(commands) == 12, f"README.md has {len(commands)} commands by hand")
     folder = setting.new()
     (folder / "build").mkdir(parents=True)
     for name in ("cuzhaveli", "libcuzhaveli.a"):
         (folder / "build" / name).symlink_to(setting.program.parent / name)
+    for name in ("docs", "include"):
+        shutil.copytree(TOP / name, folder / name)
     told = []
     for command in commands:
         done = subprocess.run(["bash", "-o", "pipefail", "-c", command], cwd=folder, capture_output=True, text=True)
-        expect(done.returncode == 0 and done.stderr == "", f"{command}: {done}")
+        stale = "disk-0" in done.stderr and " store" in command  # of the lost disks that the lines have
+        expect(done.returncode == 0 and (done.stderr == "" or stale), f"{command}: {done}")
         told.append(done.stdout)
-    read, rows = map(int, re.search(r"read,(\d+),rows,(\d+)", told[2]).groups())
-    expect(rows * 19 < read * 25 < rows * 19 * 1.01, f"the rebuild told {told[2]}")
+    expect(told[6].startswith("rebuilt,") and told[6].endswith(",beyond,0,lacks,none\n"), f"the store's rebuild told {told[6]}")
+    read, rows = map(int, re.search(r"read,(\d+),rows,(\d+)", told[10]).groups())
+    expect(rows * 19 < read * 25 < rows * 19 * 1.01, f"the rebuild told {told[10]}")
     return f"{len(commands)} commands"
 
 
 def demo(setting):
-    """`make demo` comes to its end, tells what was read at each step, and leaves nothing."""
+    """`make demo` comes to its end, a whole store is left at it, and the folder is not."""
     folder = setting.new(setting.on_disk)
     done = subprocess.run([TOP / "examples/demo", setting.program, folder], capture_output=True, text=True)
-    expect(done.returncode == 0 and done.stderr == "", f"examples/demo: {done}")
-    told = re.findall(r"read: (\d+) bytes", done.stdout)
-    expect(len(told) == 3 and "24 % less" in done.stdout and "frame 96 of 96" in done.stdout, f"examples/demo says {done.stdout}")
+    expect(done.returncode == 0, f"examples/demo: {done}")
+    expect("the ball\n" in done.stdout and "frame 96 of 96" in done.stdout, f"examples/demo says {done.stdout}")
+    expect(done.stdout.endswith("stores,1,optimal,1,degraded,0,critical,0,failed,0,unknown,0\n"), f"examples/demo says {done.stdout}")
     expect(not folder.exists(), "examples/demo left its folder")
-    return f"{len(told)} steps with what they read"
+    return f"{done.stdout.count('$ cuzhaveli ')} commands"
 
 
 CHECKS = [usage_lines, usage_errors, refusals, numbers, walk_through, demo]

@@ -115,7 +115,7 @@ impl Set {
             };
             set.places.push(place);
         }
-        set.is_enough()
+        set.enough()
     }
 
     /// Opens the images of a set whose label is known, disk by disk at these paths.
@@ -126,7 +126,7 @@ impl Set {
             let place = set.place(disk, seen);
             set.places.push(place);
         }
-        set.is_enough()
+        set.enough()
     }
 
     fn of(folder: PathBuf, paths: Vec<PathBuf>, label: Label) -> Set {
@@ -134,7 +134,7 @@ impl Set {
     }
 
     /// Refuses a set of which too much is lost.
-    fn is_enough(self) -> Result<Set, Fault> {
+    fn enough(self) -> Result<Set, Fault> {
         match self.lost() {
             lost if lost.len() > 2 => {
                 Err(too_many(&self.folder, &self.label, &lost, &self.notes()))

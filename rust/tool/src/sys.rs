@@ -1,5 +1,5 @@
-//! What std lacks: flags of open, advice to the kernel, a rename that replaces nothing, room on file
-//! systems, drives by number. Linux on x86-64; the only unsafe code of the command.
+//! What std lacks: flags of open, advice to the kernel, a rename that replaces nothing, room on
+//! file systems, drives by number. Linux on x86-64; the only unsafe code of the command.
 
 use std::ffi::CString;
 use std::fs::{self, File, Metadata};
@@ -74,7 +74,8 @@ pub fn rename_new(old: &Path, new: &Path) -> io::Result<()> {
     fs::remove_file(old)
 }
 
-/// Takes room for so many bytes of a file, whose length it then is. Nothing is reserved where the file system cannot.
+/// Takes room for so many bytes of a file, whose length it then is. Nothing is reserved where the
+/// file system cannot.
 pub fn reserve(file: &File, len: u64) -> io::Result<()> {
     // Sound for any numbers: the call only looks at the open file.
     if unsafe { fallocate(file.as_raw_fd(), 0, 0, len as i64) } == 0 {

@@ -12,7 +12,7 @@ use cuzhaveli_tool::store::catalogue::{Entry, Package};
 use cuzhaveli_tool::store::opened::Store;
 use cuzhaveli_tool::sys;
 
-use crate::args::{Form, Given};
+use crate::args::{usage, Form, Given};
 use crate::commands::decode::{deliver, Target};
 use crate::commands::stores::{file_name, opened, package_name};
 use crate::commands::Command;
@@ -31,6 +31,11 @@ pub const COMMAND: Command = Command {
 fn run(given: &Given) -> Result<(), Fault> {
     let name = package_name(given, 1)?;
     let file = (given.operands.len() == 4).then(|| file_name(given, 2)).transpose()?;
+    if file.is_none() && given.operands[2] == "-" {
+        return Err(usage(
+            "a package goes to a folder; for standard output name one file of it".into(),
+        ));
+    }
     let store = opened(given.path(0))?;
     let package = store.package(&name)?;
     let (quiet, to) = (given.flag("-q"), given.operands.len() - 1);

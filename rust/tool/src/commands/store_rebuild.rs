@@ -5,7 +5,7 @@ use std::path::Path;
 use cuzhaveli_tool::output::lock;
 use cuzhaveli_tool::rebuild::Account;
 use cuzhaveli_tool::store::catalogue::{Entry, Package};
-use cuzhaveli_tool::store::change::Change;
+use cuzhaveli_tool::store::change::{has_leftovers, Change};
 use cuzhaveli_tool::store::create::add;
 use cuzhaveli_tool::store::opened::Store;
 use cuzhaveli_tool::store::refresh::{work, Work};
@@ -80,7 +80,8 @@ impl Total {
 
 /// Whether every disk is there and lacks nothing, so that there is nothing to change.
 fn is_done(store: &Store, from: Option<&Path>) -> Result<bool, Fault> {
-    if !store.is_settled() || store.there().len() < store.disks.len() {
+    let all = store.is_settled() && store.there().len() == store.disks.len();
+    if !all || has_leftovers(store)? {
         return Ok(false);
     }
     for (package, file) in store.catalogue.files() {

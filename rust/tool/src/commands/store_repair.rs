@@ -57,7 +57,8 @@ fn repair_set(given: &Given, set: &Set) -> Result<Account, Fault> {
     repair(set, given.pace()?, &mut open, |stripes| progress.add(stripes * each))
 }
 
-/// Writes the catalogue that counts anew where catalogues differ; the number of disks that got another.
+/// Writes the catalogue that counts anew where catalogues differ; the number of disks that got
+/// another.
 fn settle(store: &Store) -> Result<usize, Fault> {
     if store.is_settled() {
         return Ok(0);

@@ -51,7 +51,8 @@ pub fn new_entry(name: Name, length: u64) -> Result<Entry, Fault> {
     Ok(Entry { set: (length > 0).then_some(set), length, name })
 }
 
-/// What new files of a package take, and what is free; a catalogue that would be too long is refused.
+/// What new files of a package take, and what is free; a catalogue that would be too long is
+/// refused.
 pub fn reckon(
     store: &Store,
     package: &Package,

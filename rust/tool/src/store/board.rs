@@ -14,8 +14,8 @@ pub struct Standing {
     pub lost: Vec<usize>,
 }
 
-/// Which disks of a store are lost: those not there, those without the catalogue that counts, and those that lack an
-/// image. None if nothing is known of it.
+/// Which disks of a store are lost: those not there, those without the catalogue that counts, and
+/// those that lack an image. None if nothing is known of it.
 pub fn standing(folder: &Path) -> Option<Standing> {
     match Store::open(folder) {
         Ok(store) => Some(Standing { numbers: *store.numbers(), lost: lost(&store) }),

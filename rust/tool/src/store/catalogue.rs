@@ -92,7 +92,8 @@ impl Package {
         self.files.iter().map(|file| file.length).fold(0, u64::saturating_add)
     }
 
-    /// Whether its files are in order, no more and no longer than they may be, and none is a folder of another.
+    /// Whether its files are in order, no more and no longer than they may be, and none is a folder
+    /// of another.
     pub fn is_sound(&self) -> bool {
         let names: HashSet<&str> = self.files.iter().map(|file| file.name.as_str()).collect();
         let mut above = self.files.iter().flat_map(|file| file.name.above());

@@ -8,6 +8,7 @@ use std::rc::Rc;
 use super::catalogue::{self, Catalogue, Package};
 use super::disk_file::{self, DiskFile};
 use super::opened::Store;
+use super::place::Folder;
 use super::replace::replace;
 use crate::fault::Fault;
 use crate::label::{hex, name_of};
@@ -156,16 +157,11 @@ impl Done<'_> {
     fn sweep_disk(&self, disk: usize, named: &HashSet<SetName>) -> Result<(), Fault> {
         let Some(there) = self.store.disk(disk) else { return Ok(()) };
         let folder = &there.folder;
-        let names = folder.names().map_err(|error| Fault::path(&folder.path, error))?;
-        let mut gone = false;
-        for name in
-            names.iter().filter(|name| image_of(name).is_some_and(|set| !named.contains(&set)))
-        {
-            let path = folder.path.join(name);
+        let useless = useless(folder, named)?;
+        for path in useless.iter().map(|name| folder.path.join(name)) {
             fs::remove_file(&path).map_err(|error| Fault::path(&path, error))?;
-            gone = true;
         }
-        if gone {
+        if !useless.is_empty() {
             folder.sync().map_err(|error| Fault::path(&folder.path, error))?;
         }
         Ok(())
@@ -175,6 +171,24 @@ impl Done<'_> {
     pub fn lacking(&self) -> String {
         joined(&self.lack)
     }
+}
+
+/// The names of images in a disk's folder, whole or not, whose sets are not named.
+fn useless(folder: &Folder, named: &HashSet<SetName>) -> Result<Vec<String>, Fault> {
+    let names = folder.names().map_err(|error| Fault::path(&folder.path, error))?;
+    let is_useless = |name: &String| image_of(name).is_some_and(|set| !named.contains(&set));
+    Ok(names.into_iter().filter(is_useless).collect())
+}
+
+/// Whether a disk has images of a change that was cut off.
+pub fn has_leftovers(store: &Store) -> Result<bool, Fault> {
+    let named: HashSet<SetName> = store.catalogue.sets().collect();
+    for disk in store.there().iter().filter_map(|disk| store.disk(*disk)) {
+        if !useless(&disk.folder, &named)?.is_empty() {
+            return Ok(true);
+        }
+    }
+    Ok(false)
 }
 
 /// The set of a file that is named as an image, or as one that is being written.

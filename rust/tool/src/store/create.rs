@@ -17,7 +17,8 @@ use crate::set::MOST_DISKS;
 /// What a creation that was cut off may leave.
 const OURS: [&str; 4] = [disk_file::NAME, "disk.new", catalogue::NAME, "catalogue.new"];
 
-/// A store that has no catalogue yet, over the disks' folders, which are made if they may be on one device.
+/// A store that has no catalogue yet, over the disks' folders, which are made if they may be on one
+/// device.
 pub fn fresh(folder: &Path, numbers: Numbers) -> Result<Store, Fault> {
     if Store::open(folder).is_ok() {
         return Err(Fault::Failed(format!("{} is a store already", folder.display())));

@@ -1,5 +1,5 @@
-//! Names of packages and files. They come from outside and are never paths: no part of one is empty,
-//! `.` or `..`, and each is made a path below a folder of the program's own choice only.
+//! Names of packages and files. They come from outside and are never paths: no part of one is
+//! empty, `.` or `..`, and each is made a path below a folder of the program's own choice only.
 
 use std::ffi::OsStr;
 use std::os::unix::ffi::OsStrExt;

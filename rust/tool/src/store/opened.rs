@@ -191,7 +191,8 @@ impl Store {
     }
 }
 
-/// The numbers of a store that cannot be opened, and the disks that are not there, if any catalogue is.
+/// The numbers of a store that cannot be opened, and the disks that are not there, if any catalogue
+/// is.
 pub fn glance(folder: &Path) -> Option<(Numbers, Vec<usize>)> {
     let mut copies = Copies::default();
     let seen: Vec<Seen> =

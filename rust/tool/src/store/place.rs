@@ -1,8 +1,8 @@
 //! What stands in the places of a store's disks, before it is known which store they are of.
 
-use std::fs::{self, File};
+use std::fs::{self, File, OpenOptions};
 use std::io::ErrorKind;
-use std::os::unix::fs::MetadataExt;
+use std::os::unix::fs::{MetadataExt, OpenOptionsExt};
 use std::path::{Path, PathBuf};
 use std::rc::Rc;
 
@@ -10,6 +10,7 @@ use super::catalogue::{self, Catalogue};
 use super::disk_file::{self, DiskFile};
 use super::replace;
 use crate::set::MOST_DISKS;
+use crate::sys;
 
 /// A file system makes this folder by itself.
 const LOST_AND_FOUND: &str = "lost+found";
@@ -43,7 +44,7 @@ pub fn is_store(folder: &Path) -> bool {
 
 impl Folder {
     pub fn open(path: &Path) -> std::io::Result<Folder> {
-        let held = File::open(path)?;
+        let held = OpenOptions::new().read(true).custom_flags(sys::NO_WAIT).open(path)?;
         let data = held.metadata()?;
         if !data.is_dir() {
             return Err(ErrorKind::NotADirectory.into());

@@ -27,9 +27,9 @@ impl Quorum {
         self.all() + 1 - self.to_change()
     }
 
-    /// Of the generations of the catalogues that are seen, the one that counts; none if too few are seen. In falling
-    /// order it stands in place W less the disks whose catalogue is not seen: a higher one is on fewer than W disks,
-    /// whatever those have, and was never acknowledged.
+    /// Of the generations of the catalogues that are seen, the one that counts; none if too few are
+    /// seen. In falling order it stands in place W less the disks whose catalogue is not seen: a
+    /// higher one is on fewer than W disks, whatever those have, and was never acknowledged.
     pub fn counts(self, generations: &[u64]) -> Option<u64> {
         if generations.len() < self.to_read() {
             return None;
@@ -82,7 +82,8 @@ mod tests {
         }
     }
 
-    /// An acknowledged change counts, whichever disks are seen; one on a single disk does not, if all are.
+    /// An acknowledged change counts, whichever disks are seen; one on a single disk does not, if
+    /// all are.
     #[test]
     fn acknowledged_changes_count() {
         for data in 2..=5 {

@@ -12,6 +12,7 @@ use crate::output::part_path;
 use crate::pace::Pace;
 use crate::rebuild::{rebuild, Account, Spare};
 use crate::set::Set;
+use crate::sys;
 use crate::wanted::{Choice, Reading, Wanted};
 
 /// The rebuild of one file's images.
@@ -22,8 +23,8 @@ pub struct Work {
     pub wanted: Wanted,
 }
 
-/// What is to be done for a file: nothing if every disk that is there has its image. An old drive's folder is read
-/// first, where it has the image of one of these disks.
+/// What is to be done for a file: nothing if every disk that is there has its image. An old drive's
+/// folder is read first, where it has the image of one of these disks.
 pub fn work(
     store: &Store,
     package: &Package,
@@ -75,9 +76,22 @@ impl Work {
         for disk in &self.disks {
             let mut spare = spare(store, label, *disk)?;
             spare.output.mark(label, *disk, label.geometry.image_bytes())?;
+            reserve(&spare, label)?;
             spares.push(spare);
         }
         rebuild(&self.set, &spares, &self.wanted, pace, done)
+    }
+}
+
+/// Takes the room of an image, of which a part may be there.
+fn reserve(spare: &Spare, label: &Label) -> Result<(), Fault> {
+    let path = spare.output.path();
+    match spare.output.reserve(label.geometry.image_bytes()) {
+        Err(error) if sys::is_full(&error) => Err(Fault::No(format!(
+            "{}: it does not fit; give the disk more room and run it again",
+            path.display()
+        ))),
+        reserved => reserved.map_err(|error| Fault::path(path, error)),
     }
 }
 

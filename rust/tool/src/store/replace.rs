@@ -22,8 +22,8 @@ pub fn read(path: &Path, most: u64) -> io::Result<Vec<u8>> {
     Ok(bytes)
 }
 
-/// Replaces a file of a folder, or makes it: after any cut it is the old or the new one, and the new one once this has
-/// come back.
+/// Replaces a file of a folder, or makes it: after any cut it is the old or the new one, and the
+/// new one once this has come back.
 pub fn replace(folder: &Path, name: &str, bytes: &[u8]) -> Result<(), Fault> {
     let (target, new) = (folder.join(name), folder.join(format!("{name}.new")));
     write_new(&new, bytes).map_err(|error| Fault::path(&new, error))?;
