@@ -144,6 +144,10 @@ def boards(setting):
     shelves[1].put("a", ((b"film", noise(9)),), shelves[1].view([4]))
     done = shelves[0].call("board", shelves[1].folder, status=1)
     expect(b",degraded,lost,4\n" in done.out, f"a stale disk: {done.told()}")
+    shelves[3].put("b", ((b"film", FILM),))
+    shelves[3].call("remove", shelves[3].view([2]), "b", status=0)
+    done = shelves[0].call("board", shelves[3].folder, status=1)
+    expect(b",degraded,lost,2\n" in done.out, f"a stale disk with all images: {done.told()}")
     os.unlink(shelves[2].drives[3] / sorted(shelves[2].images(3))[0])
     done = shelves[0].call("board", shelves[2].folder, status=1)
     expect(b",degraded,lost,3\n" in done.out, f"an image that is missing: {done.told()}")
@@ -152,7 +156,7 @@ def boards(setting):
     shelves[0].call("board", *[views[0]] * 65, status=3)
     shelves[0].call("board", setting.scratch, status=5)
     shelves[0].call("board", status=2)
-    return "7 boards"
+    return "8 boards"
 
 
 def removed_bytes(setting):

@@ -53,7 +53,9 @@ pub fn run(given: &Given) -> Result<(), Fault> {
     let change = Change::begin(&store)?;
     for (package, file) in store.catalogue.files() {
         // Twice where an old drive has one disk's image and another disk lacks its own.
-        while rebuild_file(given, &store, package, file, from, &mut total)? {}
+        if rebuild_file(given, &store, package, file, from, &mut total)? {
+            rebuild_file(given, &store, package, file, from, &mut total)?;
+        }
     }
     let done = change.commit(store.catalogue.packages.clone())?;
     acknowledge(done, total.line())?;
