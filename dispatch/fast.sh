@@ -1,12 +1,13 @@
 #!/bin/sh
-# Puts two compilations of the proved modules, for x86-64 and for x86-64-v3, into libcuzhaveli_fast.a; pick.c chooses between
-# them when a program is loaded.
+# Puts two compilations of the proved modules, for x86-64 and for x86-64-v3, into
+# libcuzhaveli_fast.a; pick.c chooses between them when a program is loaded.
 # Usage: dispatch/fast.sh PLAIN V3 FOLDER [LEVEL]
 #   PLAIN, V3: libcuzhaveli.a as archive.sh writes it, and as it writes it for x86-64-v3
 #   FOLDER:    where the archive goes; its members stay in FOLDER/fast
-#   LEVEL:     x86-64 or x86-64-v3: an archive for tests, which takes that compilation on any processor
-# The members of the two archives are taken as they are, but for the names of their calls: cuzhaveli_NAME becomes
-# cuzhaveli_NAME_x86_64 or cuzhaveli_NAME_x86_64_v3.
+#   LEVEL:     x86-64 or x86-64-v3: an archive for tests, which takes that compilation on any
+#              processor
+# The members of the two archives are taken as they are, but for the names of their calls:
+# cuzhaveli_NAME becomes cuzhaveli_NAME_x86_64 or cuzhaveli_NAME_x86_64_v3.
 set -eu
 usage() { echo "usage: dispatch/fast.sh PLAIN V3 FOLDER [LEVEL], two archives and a folder" >&2; exit 2; }
 die() { echo "fast.sh: $1" >&2; exit 1; }

@@ -1,8 +1,10 @@
-/* Chooses between the two compilations of each call, x86-64 and x86-64-v3, when a program is loaded. fast.sh compiles
- * this file once for each member of the archive, whose calls stand in calls.h as PICK(name).
+/* Chooses between the two compilations of each call, x86-64 and x86-64-v3, when a program is loaded.
+ * fast.sh compiles this file once for each member of the archive, whose calls stand in calls.h as
+ * PICK(name).
  *
- * The loader runs a resolver before the program is relocated and has a stack protector. So a resolver calls nothing
- * outside this file, keeps no state, and is compiled without instrumentation. */
+ * The loader runs a resolver before the program is relocated and has a stack protector. So a
+ * resolver calls nothing outside this file, keeps no state, and is compiled without
+ * instrumentation. */
 
 #include "cuzhaveli.h"
 
@@ -13,8 +15,9 @@ struct words {
     unsigned leaf_1_ecx, leaf_7_ebx, extended_1_ecx, xcr0;
 };
 
-/* All that a compiler may use for x86-64-v3, that of v2 included, as the psABI lists it. Each is asked for: code for a
- * processor with LZCNT runs without it, too, but as BSR, which gives other numbers. */
+/* All that a compiler may use for x86-64-v3, that of v2 included, as the psABI lists it. Each is
+ * asked for: code for a processor with LZCNT runs without it, too, but as BSR, which gives other
+ * numbers. */
 static const struct words NEEDED = {
     .leaf_1_ecx = bit_SSE3 | bit_SSSE3 | bit_SSE4_1 | bit_SSE4_2 | bit_CMPXCHG16B | bit_POPCNT | bit_FMA | bit_MOVBE |
                   bit_OSXSAVE | bit_AVX | bit_F16C,
@@ -31,7 +34,8 @@ static inline bool is_v3(struct words has)
            (has.xcr0 & NEEDED.xcr0) == NEEDED.xcr0;
 }
 
-/* Nothing where leaf 7 is unknown: it tells of AVX2. The extended leaf is there on every x86-64: it tells of that. */
+/* Nothing where leaf 7 is unknown: it tells of AVX2. The extended leaf is there on every x86-64: it
+ * tells of that. */
 static inline struct words this_processor(void)
 {
     struct words has = {0, 0, 0, 0};

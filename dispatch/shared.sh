@@ -1,5 +1,6 @@
 #!/bin/sh
-# Links libcuzhaveli.so.1, in which the calls of the header alone are visible, and makes libcuzhaveli.so a link to it.
+# Links libcuzhaveli.so.1, in which the calls of the header alone are visible, and makes
+# libcuzhaveli.so a link to it.
 # Usage: dispatch/shared.sh ARCHIVE FOLDER
 #   ARCHIVE: libcuzhaveli_fast.a, or libcuzhaveli.a for a library of one compilation
 # No start files: the library has nothing to set up, and no data of its own.

@@ -7,6 +7,7 @@ is looked for when it is first called. The same files give the same wheel.
 
 import base64
 import hashlib
+import io
 import os
 import pathlib
 import re
@@ -41,13 +42,22 @@ def build_editable(wheel_directory, config_settings=None, metadata_directory=Non
 
 
 def build_sdist(sdist_directory, config_settings=None):
-    name = f"{NAME}.tar.gz"
     kept = [TOP / "pyproject.toml", TOP / "README.md", pathlib.Path(__file__).resolve(), *modules()]
-    kept += (TOP / "examples").glob("*")
+    kept += sorted((TOP / "examples").glob("lose_disks.*"))
+    files = {path.relative_to(TOP).as_posix(): path.read_bytes() for path in kept}
+    files["PKG-INFO"] = described()
+    name = f"{NAME}.tar.gz"
     with tarfile.open(pathlib.Path(sdist_directory) / name, "w:gz", format=tarfile.PAX_FORMAT) as archive:
-        for path in sorted(kept):
-            archive.add(path, f"{NAME}/{path.relative_to(TOP).as_posix()}")
+        for path, content in files.items():
+            entry = tarfile.TarInfo(f"{NAME}/{path}")
+            entry.size = len(content)
+            archive.addfile(entry, io.BytesIO(content))
     return name
+
+
+def described():
+    """What the package says of itself."""
+    return (METADATA + (TOP / "README.md").read_text(encoding="utf-8")).encode()
 
 
 def modules():
@@ -65,13 +75,13 @@ def built_library():
 
 def write_wheel(folder, files, tag):
     """Writes a wheel of these files and what describes them; gives its name."""
-    described = f"{NAME}.dist-info"
+    about = f"{NAME}.dist-info"
     wheel = f"Wheel-Version: 1.0\nGenerator: cuzhaveli_backend\nRoot-Is-Purelib: true\nTag: {tag}\n"
     files = dict(files)
-    files[f"{described}/METADATA"] = (METADATA + (TOP / "README.md").read_text(encoding="utf-8")).encode()
-    files[f"{described}/WHEEL"] = wheel.encode()
+    files[f"{about}/METADATA"] = described()
+    files[f"{about}/WHEEL"] = wheel.encode()
     record = "".join(f"{path},sha256={digest(content)},{len(content)}\n" for path, content in files.items())
-    files[f"{described}/RECORD"] = f"{record}{described}/RECORD,,\n".encode()
+    files[f"{about}/RECORD"] = f"{record}{about}/RECORD,,\n".encode()
     name = f"{NAME}-{tag}.whl"
     with zipfile.ZipFile(pathlib.Path(folder) / name, "w", zipfile.ZIP_DEFLATED) as archive:
         for path, content in files.items():

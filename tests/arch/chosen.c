@@ -1,4 +1,5 @@
-/* Prints where the loader leads each call of a shared library: its name and its offset in the file's addresses.
+/* Prints where the loader leads each call of a shared library: its name, and its offset in the
+ * addresses of the file.
  *
  * Usage: chosen LIBRARY NAME.. */
 

@@ -12,7 +12,8 @@ build_programs() {
         ${CC:-cc} $strict tests/arch/chosen.c -ldl -o "$work/chosen" || fail 'tests/arch does not compile'
 }
 
-# The level that a shared library takes for all its calls, on the processor that the words before the program emulate.
+# The level that a shared library takes for all its calls, on the processor that the words before
+# the program emulate.
 chosen_level() { # LIBRARY [WORD..]
     local library=$1 calls
     shift

@@ -1,4 +1,5 @@
-//! Links libcuzhaveli.a from the folder named by CUZHAVELI_LIB_DIR, or libcuzhaveli.so where it has no archive.
+//! Links libcuzhaveli.a from the folder named by CUZHAVELI_LIB_DIR, or libcuzhaveli.so where it has
+//! no archive.
 
 use std::path::Path;
 

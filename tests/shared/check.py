@@ -27,7 +27,7 @@ import check as interface  # noqa: E402
 PROMISED = HERE / "promised.txt"
 NAME, VERSION = "libcuzhaveli.so.1", "CUZHAVELI_1"
 NEEDED = {"libc.so.6"}
-# Sections that a program's loader writes once and then protects (RELRO), or that no program can write.
+# Sections that a program's loader writes once and then protects (RELRO).
 WRITTEN_AT_LOAD = {".dynamic", ".got", ".got.plt", ".data.rel.ro"}
 
 

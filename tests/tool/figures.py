@@ -9,10 +9,13 @@ from harness import TOP, expect, noise
 from tables import manual_text, synopsis
 
 
-def fields(name):
-    """The fields of a command's object, by its manual page."""
+def fields(name, of="set"):
+    """The fields of a command's object, of a set or of a store, by its manual page."""
     text = manual_text(TOP / f"docs/cuzhaveli-{name}.1")
-    return re.findall(r"^\.TP\n\.B (\w+)$", text.split("\n.SH JSON\n")[1].split("\n.SH ")[0], re.M) if ".SH JSON" in text else []
+    if ".SH JSON" not in text:
+        return []
+    listed = re.findall(r"^\.TP\n\.B (\w+)\n(.*)$", text.split("\n.SH JSON\n")[1].split("\n.SH ")[0], re.M)
+    return [field for field, about in listed if not re.match(r"of a \w+:", about) or about.startswith(f"of a {of}:")]
 
 
 def calls(setting):
@@ -32,13 +35,30 @@ def calls(setting):
               (["space", "-p", 5, "--free", 0, film], 1), (["bill", "--rates", "1,2,3", "--bytes", 1], 0)]
 
 
+def store_calls(setting):
+    """The same of the commands on stores."""
+    film, small, store, bad = setting.new(), setting.new(), setting.new(), setting.new()
+    film.write_bytes(noise(9000))
+    small.write_bytes(b"x")
+    made = [(["create", "-p", 3, "-s", 64, "--same-device", store], 0), (["create", "-p", 3, "-s", 64, "--same-device", bad], 0),
+            (["put", "-n", store, "a", film], 0), (["put", store, "a", film], 0), (["put", bad, "a", film], 0), (["list", store], 0),
+            (["list", store, "a"], 0), (["get", store, "a", setting.new()], 0), (["patch", "--at", 5, store, "a", film.name, small], 0)]
+    yield from made
+    for disk in range(3):
+        next((bad / f"disk-{disk:02}").glob("*.img")).unlink()
+    yield from [(["info", store], 0), (["check", store], 0), (["rebuild", "-n", store], 0), (["rebuild", store], 0), (["repair", store], 0),
+                (["info", bad], 1), (["check", bad], 6), (["rebuild", bad], 6), (["repair", bad], 6), (["board", store, bad, film], 5),
+                (["board", film], 5), (["remove", store, "a"], 0)]
+
+
 def objects(setting):
     """--json: one line, an object with just the fields of the manual, in their order; for every command that tells figures."""
     seen = set()
-    for words, status in calls(setting):
-        told = setting.told(*words, status=status).figures()
-        expect(list(told) == fields(words[0]), f"{words}: the object has {list(told)}, the manual {fields(words[0])}")
-        seen.add(words[0])
+    for of, all_calls in (("set", calls), ("store", store_calls)):
+        for words, status in all_calls(setting):
+            told, wanted = setting.told(*words, status=status).figures(), fields(words[0], of)
+            expect(list(told) == wanted, f"{words}: the object has {list(told)}, the manual {wanted}")
+            seen.add(words[0])
     names = {line.split()[0] for line in synopsis()}
     expect(seen == {name for name in names if fields(name)} == names - {"help"}, f"objects of {seen} were looked at, of {names}")
     images = setting.encoded(noise(9000), 5, s=64)

@@ -9,6 +9,7 @@ import shutil
 import signal
 import struct
 import subprocess
+import sys
 import tempfile
 import time
 
@@ -133,6 +134,28 @@ class Setting:
             options += [] if value is None else [name, value]
         self.call("encode", *options, path, folder, input=film, status=0)
         return Set(folder)
+
+
+def run_checks(what, folder, checks, wanted):
+    """Runs checks, by their names, and prints what each went through; ends with status 1 if one fails."""
+    unknown = [name for name in wanted if name not in checks]
+    if unknown:
+        sys.exit(f"{what}: no check {', '.join(unknown)}; there are {', '.join(checks)}")
+    wrong = 0
+    with Setting(folder) as setting:
+        for name in wanted or checks:
+            begun = time.monotonic()
+            try:
+                print(f"{what}: {name}: {checks[name](setting)} ({time.monotonic() - begun:.1f} s)", flush=True)
+            except Wrong as why:
+                wrong += 1
+                print(f"{what}: FAILED: {name}: {why}", flush=True)
+            setting.clear()
+    count = len(wanted or checks)
+    if wrong:
+        print(f"{what}: {wrong} of {count} checks FAILED")
+        sys.exit(1)
+    print(f"{what}: {count} checks passed")
 
 
 def noise(length, seed=1):

@@ -121,6 +121,23 @@ def variants(line):
     yield [alternatives[0] for _, alternatives in parts]
 
 
+def on_store(setting, words, film):
+    """The words of a command on a store, without those for sets only, and what they stand for."""
+    store, listed = setting.new(), setting.new()
+    if words[0] == "create":
+        return [*words, *(["--same-device"] if "--same-device" not in words else [])], {"STORE": store}
+    setting.call("create", "-p", 3, "-s", 64, "--same-device", store, status=0)
+    setting.call("put", store, "a", film, status=0)
+    listed.write_text(f"{store}\n")
+    if "--new" in words:
+        old = ["--from", "FOLDER"] if "--from" in words else []
+        words = [*(word for word in words if word in ("rebuild", "-q", "--json", "-n")), "--new", "D", *old, "DIR"]
+        for path in (store / "disk-01").iterdir():
+            path.unlink()
+    return words, {"STORE": store, "DIR": store, "PACKAGE": "a", "OFFSET": 5, "FROM": film, "TO": setting.new(), "FOLDER": setting.scratch,
+                   "FILE": {"board": listed, "put": film}.get(words[0], film.name)}
+
+
 def synopsis_runs(setting):
     """Every line of the manual's synopsis, with each of its options, ends with status 0."""
     film, plan, drive = setting.new(), setting.new(), setting.new()
@@ -135,11 +152,15 @@ def synopsis_runs(setting):
               "A,B,C": "3,2,1", "SHELL": "zsh", "COMMAND": "encode", "DRIVE": drive, "FILE": plan, "FILE...": film}
     count = 0
     for line in synopsis():
-        for parts in variants(line):
+        all_of_set = [part for part in parsed(line) if part[1][0][0] not in ("--new", "--from")]
+        for parts in [*variants(line), [alternatives[0] for _, alternatives in all_of_set]]:
             words = list(itertools.chain(*parts))
-            if "DRIVE" in words and drive is None:
+            if "DRIVE" in words and drive is None or words[0] == "board" and not {"STORE", "--list"} & set(words):
                 continue
             places = {**values, "FILM": film if words[0] == "encode" else setting.new(), "DIR": setting.new() if words[0] == "encode" else kept}
+            if {"STORE", "--new", "--list"} & set(words) or words[0] == "rebuild" and "--from" in words:
+                words, more = on_store(setting, words, film)
+                places.update(more)
             setting.call(*(places.get(word, word) for word in words), status=0)
             count += 1
     return f"{count} command lines"

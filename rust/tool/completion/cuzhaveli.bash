@@ -2,9 +2,44 @@
 _cuzhaveli() {
     local word=${COMP_WORDS[COMP_CWORD]} before=${COMP_WORDS[COMP_CWORD - 1]} words='' files=''
     if [ "$COMP_CWORD" -eq 1 ]; then
-        words='encode decode info check rebuild repair plan judge space bill help --help --version'
+        words='create put list get remove patch board encode decode info check rebuild repair plan judge space bill help --help --version'
     else
         case ${COMP_WORDS[1]} in
+        create)
+            case $before in
+            -p) words='' files='' ;;
+            -k) words='' files='' ;;
+            -s) words='' files='' ;;
+            -u) words='' files='' ;;
+            -g) words='' files='' ;;
+            *) words='-p -k -s -u -g --json --same-device --help' files=yes ;;
+            esac ;;
+        put)
+            case $before in
+            *) words='-q --json -n --help' files=yes ;;
+            esac ;;
+        list)
+            case $before in
+            *) words='--json --help' files=yes ;;
+            esac ;;
+        get)
+            case $before in
+            *) words='-q --json --help' files=yes ;;
+            esac ;;
+        remove)
+            case $before in
+            *) words='--json --help' files=yes ;;
+            esac ;;
+        patch)
+            case $before in
+            --at) words='' files='' ;;
+            *) words='-q --json --at --help' files=yes ;;
+            esac ;;
+        board)
+            case $before in
+            --list) words='' files=yes ;;
+            *) words='--json --list --help' files=yes ;;
+            esac ;;
         encode)
             case $before in
             -p) words='' files='' ;;
@@ -37,8 +72,10 @@ _cuzhaveli() {
             --rate) words='' files='' ;;
             --rates) words='' files='' ;;
             --disk) words='P Q' files='' ;;
+            --new) words='P Q' files='' ;;
+            --from) words='' files=yes ;;
             --overwrite) words='' files=yes ;;
-            *) words='-q --json -n --plan --relieve --test --rate --rates --disk --overwrite --help' files=yes ;;
+            *) words='-q --json -n --plan --relieve --test --rate --rates --disk --new --from --overwrite --help' files=yes ;;
             esac ;;
         repair)
             case $before in
@@ -81,7 +118,7 @@ _cuzhaveli() {
         help)
             case $before in
             --completion) words='bash zsh fish' files='' ;;
-            *) words='--man --completion --help encode decode info check rebuild repair plan judge space bill help' files='' ;;
+            *) words='--man --completion --help create put list get remove patch board encode decode info check rebuild repair plan judge space bill help' files='' ;;
             esac ;;
         esac
     fi

@@ -1,6 +1,13 @@
 # Completion of cuzhaveli for fish. Made by `make manual` from the table of commands.
 complete -c cuzhaveli -f
 complete -c cuzhaveli -l help -d 'what it does'
+complete -c cuzhaveli -n __fish_use_subcommand -a create -d 'a new store of packages, over a folder for each disk'
+complete -c cuzhaveli -n __fish_use_subcommand -a put -d 'files into a package of a store, if they fit on every disk'
+complete -c cuzhaveli -n __fish_use_subcommand -a list -d 'the packages of a store, or the files of one'
+complete -c cuzhaveli -n __fish_use_subcommand -a get -d 'a package of a store, or one file of it'
+complete -c cuzhaveli -n __fish_use_subcommand -a remove -d 'take a package out of a store'
+complete -c cuzhaveli -n __fish_use_subcommand -a patch -d 'replace some bytes of a file of a store'
+complete -c cuzhaveli -n __fish_use_subcommand -a board -d 'which stores can bear two more losses, one more, none, or are past saving'
 complete -c cuzhaveli -n __fish_use_subcommand -a encode -d 'a film to the images of a set'
 complete -c cuzhaveli -n __fish_use_subcommand -a decode -d 'the film back from its images'
 complete -c cuzhaveli -n __fish_use_subcommand -a info -d 'what a set is, and which of its disks are lost'
@@ -12,6 +19,42 @@ complete -c cuzhaveli -n __fish_use_subcommand -a judge -d 'is a host'\''s plan 
 complete -c cuzhaveli -n __fish_use_subcommand -a space -d 'does a package of files fit?'
 complete -c cuzhaveli -n __fish_use_subcommand -a bill -d 'the price of bytes read'
 complete -c cuzhaveli -n __fish_use_subcommand -a help -d 'the commands, or one of them; also cuzhaveli COMMAND --help, and cuzhaveli --version'
+complete -c cuzhaveli -n '__fish_seen_subcommand_from create' -s p -x -a '' -d 'the rows of a stripe: 3, 5, 7, 11, 13, 17, 19, 23, 29 or 31'
+complete -c cuzhaveli -n '__fish_seen_subcommand_from create' -s k -x -a '' -d 'the data disks, 2 to WIDTH; WIDTH if it is not given'
+complete -c cuzhaveli -n '__fish_seen_subcommand_from create' -s s -x -a '' -d 'the bytes of a cell, 1 to 4096; 4096 if it is not given'
+complete -c cuzhaveli -n '__fish_seen_subcommand_from create' -s u -x -a '' -d 'the stripes that are verified together: 1, or up to 32768 / CELL'
+complete -c cuzhaveli -n '__fish_seen_subcommand_from create' -s g -x -a '' -d 'the stripes that lie together, a multiple of UNIT up to 65536'
+complete -c cuzhaveli -n '__fish_seen_subcommand_from create' -l json -d 'tell the figures as one JSON object on a line of its own, for programs'
+complete -c cuzhaveli -n '__fish_seen_subcommand_from create' -l same-device -d 'the folders may be on one device, and are made; for trials'
+complete -c cuzhaveli -n '__fish_seen_subcommand_from create' -F
+complete -c cuzhaveli -n '__fish_seen_subcommand_from put' -s q -d 'no progress'
+complete -c cuzhaveli -n '__fish_seen_subcommand_from put' -l json -d 'tell the figures as one JSON object on a line of its own, for programs'
+complete -c cuzhaveli -n '__fish_seen_subcommand_from put' -s n -d 'only say what it would take'
+complete -c cuzhaveli -n '__fish_seen_subcommand_from put' -F
+complete -c cuzhaveli -n '__fish_seen_subcommand_from put' -a ''
+complete -c cuzhaveli -n '__fish_seen_subcommand_from put' -F
+complete -c cuzhaveli -n '__fish_seen_subcommand_from list' -l json -d 'tell the figures as one JSON object on a line of its own, for programs'
+complete -c cuzhaveli -n '__fish_seen_subcommand_from list' -F
+complete -c cuzhaveli -n '__fish_seen_subcommand_from list' -a ''
+complete -c cuzhaveli -n '__fish_seen_subcommand_from get' -s q -d 'no progress'
+complete -c cuzhaveli -n '__fish_seen_subcommand_from get' -l json -d 'tell the figures as one JSON object on a line of its own, for programs'
+complete -c cuzhaveli -n '__fish_seen_subcommand_from get' -F
+complete -c cuzhaveli -n '__fish_seen_subcommand_from get' -a ''
+complete -c cuzhaveli -n '__fish_seen_subcommand_from get' -a ''
+complete -c cuzhaveli -n '__fish_seen_subcommand_from get' -F
+complete -c cuzhaveli -n '__fish_seen_subcommand_from remove' -l json -d 'tell the figures as one JSON object on a line of its own, for programs'
+complete -c cuzhaveli -n '__fish_seen_subcommand_from remove' -F
+complete -c cuzhaveli -n '__fish_seen_subcommand_from remove' -a ''
+complete -c cuzhaveli -n '__fish_seen_subcommand_from patch' -s q -d 'no progress'
+complete -c cuzhaveli -n '__fish_seen_subcommand_from patch' -l json -d 'tell the figures as one JSON object on a line of its own, for programs'
+complete -c cuzhaveli -n '__fish_seen_subcommand_from patch' -l at -x -a '' -d 'the first byte that is replaced'
+complete -c cuzhaveli -n '__fish_seen_subcommand_from patch' -F
+complete -c cuzhaveli -n '__fish_seen_subcommand_from patch' -a ''
+complete -c cuzhaveli -n '__fish_seen_subcommand_from patch' -a ''
+complete -c cuzhaveli -n '__fish_seen_subcommand_from patch' -F
+complete -c cuzhaveli -n '__fish_seen_subcommand_from board' -l json -d 'tell the figures as one JSON object on a line of its own, for programs'
+complete -c cuzhaveli -n '__fish_seen_subcommand_from board' -l list -r -F -d 'a file with a store a line; lines that begin with # are passed over'
+complete -c cuzhaveli -n '__fish_seen_subcommand_from board' -F
 complete -c cuzhaveli -n '__fish_seen_subcommand_from encode' -s p -x -a '' -d 'the rows of a stripe: 3, 5, 7, 11, 13, 17, 19, 23, 29 or 31'
 complete -c cuzhaveli -n '__fish_seen_subcommand_from encode' -s k -x -a '' -d 'the data disks, 2 to WIDTH; WIDTH if it is not given'
 complete -c cuzhaveli -n '__fish_seen_subcommand_from encode' -s s -x -a '' -d 'the bytes of a cell, 1 to 4096; 4096 if it is not given'
@@ -32,7 +75,7 @@ complete -c cuzhaveli -n '__fish_seen_subcommand_from info' -F
 complete -c cuzhaveli -n '__fish_seen_subcommand_from check' -s q -d 'no progress'
 complete -c cuzhaveli -n '__fish_seen_subcommand_from check' -l json -d 'tell the figures as one JSON object on a line of its own, for programs'
 complete -c cuzhaveli -n '__fish_seen_subcommand_from check' -l rate -x -a '' -d 'read no more than BYTES a second, so that screens can play meanwhile'
-complete -c cuzhaveli -n '__fish_seen_subcommand_from check' -l from -x -a '' -d 'begin at this stripe'
+complete -c cuzhaveli -n '__fish_seen_subcommand_from check' -l from -x -a '' -d 'begin at this stripe; of a set only'
 complete -c cuzhaveli -n '__fish_seen_subcommand_from check' -F
 complete -c cuzhaveli -n '__fish_seen_subcommand_from rebuild' -s q -d 'no progress'
 complete -c cuzhaveli -n '__fish_seen_subcommand_from rebuild' -l json -d 'tell the figures as one JSON object on a line of its own, for programs'
@@ -43,6 +86,8 @@ complete -c cuzhaveli -n '__fish_seen_subcommand_from rebuild' -l test -d 'read 
 complete -c cuzhaveli -n '__fish_seen_subcommand_from rebuild' -l rate -x -a '' -d 'read no more than BYTES a second, so that screens can play meanwhile'
 complete -c cuzhaveli -n '__fish_seen_subcommand_from rebuild' -l rates -x -a '' -d 'cents a GiB, three numbers up to 1000: for the first 64 GiB, up to 1,024 GiB, and for the rest'
 complete -c cuzhaveli -n '__fish_seen_subcommand_from rebuild' -l disk -x -a 'P Q' -d 'this disk counts as lost: its number, P or Q'
+complete -c cuzhaveli -n '__fish_seen_subcommand_from rebuild' -l new -x -a 'P Q' -d 'of a store: this disk is a new, empty one'
+complete -c cuzhaveli -n '__fish_seen_subcommand_from rebuild' -l from -r -F -d 'of a store: the old drive of a disk, which is read first'
 complete -c cuzhaveli -n '__fish_seen_subcommand_from rebuild' -l overwrite -r -F -d 'this drive may be written, whatever is on it'
 complete -c cuzhaveli -n '__fish_seen_subcommand_from rebuild' -F
 complete -c cuzhaveli -n '__fish_seen_subcommand_from repair' -s q -d 'no progress'
@@ -78,4 +123,4 @@ complete -c cuzhaveli -n '__fish_seen_subcommand_from bill' -l bytes -x -a '' -d
 complete -c cuzhaveli -n '__fish_seen_subcommand_from bill' -l json -d 'tell the figures as one JSON object on a line of its own, for programs'
 complete -c cuzhaveli -n '__fish_seen_subcommand_from help' -l man -d 'the manual page'
 complete -c cuzhaveli -n '__fish_seen_subcommand_from help' -l completion -x -a 'bash zsh fish' -d 'a script that completes command lines in bash, zsh or fish'
-complete -c cuzhaveli -n '__fish_seen_subcommand_from help' -a 'encode decode info check rebuild repair plan judge space bill help'
+complete -c cuzhaveli -n '__fish_seen_subcommand_from help' -a 'create put list get remove patch board encode decode info check rebuild repair plan judge space bill help'

@@ -104,10 +104,8 @@ impl Given {
             return Err(usage(format!("{} is missing: {}", option.shown(), option.about)));
         }
         let count = self.operands.len();
-        if let Some((operand, _)) = self.command.operands().nth(count) {
-            if count < self.command.needed_operands() {
-                return Err(usage(format!("{} is missing: {}", operand.name, operand.about)));
-            }
+        if let Some(operand) = self.command.needed_operands().nth(count) {
+            return Err(usage(format!("{} is missing: {}", operand.name, operand.about)));
         }
         let many = self.command.operands().any(|(_, many)| many);
         match self.operands.get(self.command.operands().count()) {
@@ -146,6 +144,14 @@ impl Given {
     /// The drives that may be overwritten.
     pub fn overwrite(&self) -> Result<Overwrite, Fault> {
         Overwrite::of(self.values("--overwrite"))
+    }
+
+    /// Refuses options that have a meaning for something else only.
+    pub fn only_for(&self, what: &str, names: &[&str]) -> Result<(), Fault> {
+        match names.iter().find(|name| self.flag(name)) {
+            Some(name) => Err(usage(format!("{name} is for {what} only; leave it out"))),
+            None => Ok(()),
+        }
     }
 
     /// The most bytes that are read a second.

@@ -52,6 +52,21 @@ pub fn encode<R: Read>(
     set: SetName,
     geometry: Geometry,
     outputs: &[Output],
+    done: impl FnMut(u64),
+) -> Result<Label, Fault> {
+    let write = |geometry, cells: &Cells, blocks: &Blocks| {
+        let mut all = outputs.iter().enumerate();
+        all.try_for_each(|(disk, output)| write_batch(output, disk, geometry, cells, blocks))
+    };
+    encode_to(source, set, geometry, write, done)
+}
+
+/// The same, with each batch handed on to be written.
+pub fn encode_to<R: Read>(
+    source: &mut Source<R>,
+    set: SetName,
+    geometry: Geometry,
+    mut write: impl FnMut(Geometry, &Cells, &Blocks) -> Result<(), Fault>,
     mut done: impl FnMut(u64),
 ) -> Result<Label, Fault> {
     let mut geometry = geometry;
@@ -76,9 +91,7 @@ pub fn encode<R: Read>(
         }
         blocks.clear(cells.batch);
         blocks.seal(&cells);
-        for (disk, output) in outputs.iter().enumerate() {
-            write_batch(output, disk, geometry, &cells, &blocks)?;
-        }
+        write(geometry, &cells, &blocks)?;
         unit = cells.batch.end_unit();
         done(filled);
     }

@@ -20,6 +20,8 @@ pub enum Fault {
     Images(String),
     /// Film that cannot be made right.
     Beyond(String),
+    /// A change that may stand or not.
+    Unsure(String),
 }
 
 impl Fault {
@@ -31,6 +33,7 @@ impl Fault {
             Fault::Failed(_) => 4,
             Fault::Images(_) => 5,
             Fault::Beyond(_) => 6,
+            Fault::Unsure(_) => 7,
         }
     }
 
@@ -60,7 +63,7 @@ impl fmt::Display for Fault {
                 write!(f, "{place}{text} (refusal {})", refusal.number())
             }
             Fault::No(text) | Fault::Usage(text) | Fault::Failed(text) => f.write_str(text),
-            Fault::Images(text) | Fault::Beyond(text) => f.write_str(text),
+            Fault::Images(text) | Fault::Beyond(text) | Fault::Unsure(text) => f.write_str(text),
         }
     }
 }

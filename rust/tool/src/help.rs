@@ -14,7 +14,8 @@ const NOTES: &str = "
 Numbers are decimal, with K, M, G, T for powers of 1,024; disks are numbers, P or Q. A value stands after its option or
 in it (-p 7, -p7, -p=7, --disk=P), flags may stand together (-qn), `--` ends the options.
 Exit status: 0 done, or yes; 1 the answer is no; 2 usage; 3 refused by the library; 4 reading or writing failed;
-5 more than two disks lost, or something that is not of this set; 6 film that cannot be made right
+5 more than two disks lost, or something that is not of this set; 6 film that cannot be made right;
+7 a change of a store that may stand or not: run it again
 ";
 
 /// The usage of every command.

@@ -48,7 +48,8 @@ pub fn hex(set: &SetName) -> String {
     set.iter().map(|byte| format!("{byte:02x}")).collect()
 }
 
-fn name_of(hex: &str) -> Option<SetName> {
+/// The name that hex digits write.
+pub fn name_of(hex: &str) -> Option<SetName> {
     let digit = |place: usize| u8::from_str_radix(hex.get(2 * place..2 * place + 2)?, 16).ok();
     let mut name = [0; 16];
     for (place, byte) in name.iter_mut().enumerate() {

@@ -25,6 +25,7 @@ pub mod repair;
 mod rows;
 pub mod set;
 pub mod stop;
+pub mod store;
 pub mod sums;
 pub mod sys;
 pub mod wanted;

@@ -88,6 +88,15 @@ impl Output {
         Ok(Output { target: target.into(), path, file, drive: None, replaces: false })
     }
 
+    /// A new file that has its name at once, in a folder that gets its own last.
+    pub fn create_named(target: &Path) -> Result<Output, Fault> {
+        let mut options = OpenOptions::new();
+        options.read(true).write(true).create_new(true).custom_flags(sys::NO_FOLLOW);
+        let file = options.open(target).map_err(|error| Fault::path(target, error))?;
+        let (target, path) = (target.to_path_buf(), target.to_path_buf());
+        Ok(Output { target, path, file, drive: None, replaces: true })
+    }
+
     /// A drive that no one else has and that may be overwritten: it is named, or begins with one of
     /// these blocks.
     pub fn drive(path: &Path, named: &Overwrite, ours: &[Block]) -> Result<Output, Fault> {
@@ -162,6 +171,11 @@ impl Output {
         &self.path
     }
 
+    /// Where it is to stand.
+    pub fn target(&self) -> &Path {
+        &self.target
+    }
+
     /// The first block, filled up with zeros if the file is shorter.
     pub fn first_block(&self) -> Result<Block, Fault> {
         let mut block = [0; LABEL_BYTES];
@@ -193,6 +207,11 @@ impl Output {
             return Err(Fault::Failed(format!("{path} has {has} bytes, and {len} are needed")));
         }
         Ok(())
+    }
+
+    /// Takes room for so many bytes of a file, whose length it then is.
+    pub fn reserve(&self, len: u64) -> io::Result<()> {
+        sys::reserve(&self.file, len)
     }
 
     pub fn write(&self, bytes: &[u8], offset: u64) -> Result<(), Fault> {

@@ -1,5 +1,6 @@
 //! The rebuild of lost images, one or two. There is no record of it: what verifies stays.
 
+use std::collections::BTreeSet;
 use std::ops::Range;
 use std::path::Path;
 
@@ -7,7 +8,8 @@ use crate::blocks::Blocks;
 use crate::encode::{write_batch, write_blocks};
 use crate::fault::Fault;
 use crate::geometry::{Batch, Geometry, MOST_BYTES};
-use crate::output::{sync_folder, Output};
+use crate::label::Label;
+use crate::output::{folder_of, sync_folder, Output};
 use crate::pace::Pace;
 use crate::reader::{Beyond, Reader};
 use crate::set::Set;
@@ -36,6 +38,16 @@ pub struct Account {
 }
 
 impl Spare {
+    /// A file that is gone on with or begun, and takes the place of an image that counts as lost.
+    pub fn file(path: &Path, label: &Label, disk: usize) -> Result<Spare, Fault> {
+        let (output, begun) = match Output::begun(path, &[label.mark(disk), label.block(disk)])? {
+            Some(output) => (output, true),
+            None => (Output::create_part(path)?, false),
+        };
+        let stands = path.symlink_metadata().is_ok();
+        Ok(Spare { disk, output: if stands { output.replacing() } else { output }, begun })
+    }
+
     /// Whether a unit of the image is there and verifies.
     fn keeps(&self, geometry: Geometry, batch: Batch, blocks: &Blocks, unit: usize) -> bool {
         let size = geometry.shape.cell_size();
@@ -156,6 +168,7 @@ fn finish(set: &Set, spares: &[Spare]) -> Result<(), Fault> {
     for spare in spares {
         spare.output.name()?;
     }
-    let folder: &Path = set.folder();
-    sync_folder(folder)
+    let folders: BTreeSet<&Path> =
+        spares.iter().map(|spare| folder_of(spare.output.target())).collect();
+    folders.into_iter().try_for_each(sync_folder)
 }

@@ -75,6 +75,11 @@ pub fn warn(text: &str) {
     let _ = writeln!(io::stderr(), "{name} {text}");
 }
 
+/// Tells the user several things on the way.
+pub fn warn_all(texts: &[String]) {
+    texts.iter().for_each(|text| warn(text));
+}
+
 /// Tells of images that are there and are not believed.
 pub fn notes(set: &Set) {
     set.notes().iter().for_each(|note| warn(note));

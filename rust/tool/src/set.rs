@@ -32,7 +32,10 @@ pub enum Place {
 
 /// The images of one set, opened for reading.
 pub struct Set {
+    /// The folder, or what messages call the set.
     folder: PathBuf,
+    /// Where the images stand.
+    paths: Vec<PathBuf>,
     pub label: Label,
     places: Vec<Place>,
     /// The labels of the images that are there which are not as they should be: disk, and where.
@@ -91,13 +94,8 @@ impl Set {
         };
         let seen: Vec<Seen> = (0..MOST_DISKS).map(look).collect();
         let label = common_label(folder, &seen)?;
-        let mut set = Set {
-            folder: folder.into(),
-            label,
-            places: Vec::new(),
-            bad_labels: Vec::new(),
-            direct: false,
-        };
+        let paths = (0..label.geometry.disks()).map(|disk| image_path(folder, disk)).collect();
+        let mut set = Set::of(folder.into(), paths, label);
         for disk in named {
             let plan = label.geometry.shape.plan(*disk); // refused for a disk that the array lacks
             plan.map_err(|refusal| Fault::Refused(refusal, format!("--disk {disk}: ")))?;
@@ -109,11 +107,32 @@ impl Set {
             };
             set.places.push(place);
         }
-        let lost = set.lost();
-        if lost.len() > 2 {
-            return Err(too_many(folder, &label, &lost, &set.notes()));
+        set.enough()
+    }
+
+    /// Opens the images of a set whose label is known, disk by disk at these paths.
+    pub fn known(name: PathBuf, label: Label, paths: Vec<PathBuf>) -> Result<Set, Fault> {
+        let seen: Vec<Seen> = paths.iter().map(|path| see(path)).collect();
+        let mut set = Set::of(name, paths, label);
+        for (disk, seen) in seen.into_iter().enumerate().take(label.geometry.disks()) {
+            let place = set.place(disk, seen);
+            set.places.push(place);
         }
-        Ok(set)
+        set.enough()
+    }
+
+    fn of(folder: PathBuf, paths: Vec<PathBuf>, label: Label) -> Set {
+        Set { folder, paths, label, places: Vec::new(), bad_labels: Vec::new(), direct: false }
+    }
+
+    /// Refuses a set of which too much is lost.
+    fn enough(self) -> Result<Set, Fault> {
+        match self.lost() {
+            lost if lost.len() > 2 => {
+                Err(too_many(&self.folder, &self.label, &lost, &self.notes()))
+            }
+            _ => Ok(self),
+        }
     }
 
     /// Takes what stands in a place for the disk's image, or says why not.
@@ -170,7 +189,7 @@ impl Set {
     }
 
     pub fn path(&self, disk: usize) -> PathBuf {
-        image_path(&self.folder, disk)
+        self.paths.get(disk).cloned().unwrap_or_else(|| image_path(&self.folder, disk))
     }
 
     pub fn image(&self, disk: usize) -> Option<&Image> {

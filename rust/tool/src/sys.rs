@@ -1,5 +1,5 @@
-//! What std lacks: flags of open, advice to the kernel, a rename that replaces nothing, drives by
-//! number. Linux on x86-64; the only unsafe code of the command.
+//! What std lacks: flags of open, advice to the kernel, a rename that replaces nothing, room on
+//! file systems, drives by number. Linux on x86-64; the only unsafe code of the command.
 
 use std::ffi::CString;
 use std::fs::{self, File, Metadata};
@@ -39,6 +39,8 @@ extern "C" {
     fn signal(number: i32, handler: usize) -> usize;
     fn raise(number: i32) -> i32;
     fn write(fd: i32, bytes: *const u8, len: usize) -> isize;
+    fn fallocate(fd: i32, mode: i32, offset: i64, len: i64) -> i32;
+    fn statvfs(path: *const i8, answer: *mut [u64; 16]) -> i32;
 }
 
 fn advise(file: &File, offset: u64, len: u64, advice: i32) {
@@ -77,6 +79,42 @@ pub fn rename_new(old: &Path, new: &Path) -> io::Result<()> {
     // A file system without that flag: a link replaces nothing either.
     fs::hard_link(old, new)?;
     fs::remove_file(old)
+}
+
+/// Takes room for so many bytes of a file, whose length it then is. Nothing is reserved where the
+/// file system cannot.
+pub fn reserve(file: &File, len: u64) -> io::Result<()> {
+    // Sound for any numbers: the call only looks at the open file.
+    if unsafe { fallocate(file.as_raw_fd(), 0, 0, len as i64) } == 0 {
+        return Ok(());
+    }
+    match io::Error::last_os_error() {
+        error if error.kind() == io::ErrorKind::Unsupported => file.set_len(len),
+        error => Err(error),
+    }
+}
+
+/// Whether an error says that a disk is full.
+pub fn is_full(error: &io::Error) -> bool {
+    matches!(error.kind(), io::ErrorKind::StorageFull | io::ErrorKind::QuotaExceeded)
+}
+
+/// What a file system has free for this user; files are not counted where it has no limit of them.
+#[derive(Clone, Copy, Debug)]
+pub struct Room {
+    pub bytes: u64,
+    pub files: Option<u64>,
+}
+
+pub fn room(path: &Path) -> io::Result<Room> {
+    let name = CString::new(path.as_os_str().as_bytes())?;
+    let mut answer = [0; 16];
+    // Sound: a C string that outlives the call, and more room than the 112 bytes of the answer.
+    if unsafe { statvfs(name.as_ptr(), &mut answer) } != 0 {
+        return Err(io::Error::last_os_error());
+    }
+    let [_, block, _, _, blocks, all, _, files, ..] = answer;
+    Ok(Room { bytes: block.saturating_mul(blocks), files: (all > 0).then_some(files) })
 }
 
 /// The number of a drive; none for what is no drive.

@@ -144,8 +144,11 @@ impl Command {
     }
 
     /// The operands that it cannot do without.
-    pub fn needed_operands(&self) -> usize {
-        self.words.iter().filter(|word| matches!(word, Use::Operand(_) | Use::Operands(_))).count()
+    pub fn needed_operands(&self) -> impl Iterator<Item = &'static Operand> {
+        self.words.iter().filter_map(|word| match word {
+            Use::Operand(operand) | Use::Operands(operand) => Some(*operand),
+            _ => None,
+        })
     }
 }
 
@@ -207,4 +210,27 @@ pub mod words {
         kind: Kind::Folder,
         about: "the folder of the images",
     });
+    pub const PLACE: Use = Use::Operand(&Operand {
+        name: "DIR",
+        kind: Kind::Folder,
+        about: "the folder of the images, or a store",
+    });
+
+    const THE_STORE: Operand =
+        Operand { name: "STORE", kind: Kind::Folder, about: "the folder of the store's disks" };
+    pub const STORE: Use = Use::Operand(&THE_STORE);
+    pub const STORES: Use = Use::Any(&STORE);
+    pub const PACKAGE: Use = Use::Operand(&Operand {
+        name: "PACKAGE",
+        kind: Kind::Text,
+        about: "the name of the package",
+    });
+    pub const FILE: Use = Use::Operand(&Operand {
+        name: "FILE",
+        kind: Kind::Text,
+        about: "the name of a file of the package",
+    });
+    /// A field that every change of a store tells.
+    pub const LACKS: (&str, &str) =
+        ("lacks", "the disks that lack the change, which rebuild brings up to date");
 }

@@ -1,10 +1,12 @@
 //! `decode`: the film back from its images.
 
+use std::ffi::OsStr;
 use std::fs::{self, File, OpenOptions};
 use std::io::{self, Write};
 use std::os::fd::AsFd;
+use std::path::Path;
 
-use cuzhaveli_tool::drives::{apart, drive_at};
+use cuzhaveli_tool::drives::{apart, drive_at, Overwrite};
 use cuzhaveli_tool::film::{read_all, Account, Sink};
 use cuzhaveli_tool::names::{bytes, count};
 use cuzhaveli_tool::output::{folder_of, sync_folder, taken, Output};
@@ -50,7 +52,7 @@ pub const COMMAND: Command = Command {
 };
 
 /// Where the film goes.
-enum Target {
+pub enum Target {
     /// A pipe, a terminal, a device that is no drive.
     Stream(File, String),
     Output(Output),
@@ -73,28 +75,9 @@ fn run(given: &Given) -> Result<(), Fault> {
     let set = Set::open(given.path(0), &[])?;
     say::notes(&set);
     let length = set.label.geometry.length;
-    let target = Target::open(given, &set)?;
-    if let Target::Output(output) = &target {
-        let part = output.path().display();
-        stop::says(&format!("the film is not whole: remove {part}, and decode again"));
-    }
-    let progress = Progress::new("decode".into(), Some(length), given.flag("-q"));
-    let mut way = Way { set: &set, target, progress, gaps: 0 };
-    let done = read_all(&set, &mut way);
-    drop(way.progress);
-    let account = match done {
-        Ok(account) => account,
-        Err(fault) => {
-            way.target.discard();
-            return Err(fault);
-        }
-    };
-    if let Err(fault) = way.target.finish(length, way.gaps) {
-        if !matches!(fault, Fault::Beyond(_)) {
-            way.target.discard();
-        }
-        return Err(fault);
-    }
+    let target = Target::open(&given.operands[1], &given.overwrite()?, length, &set.drives())?;
+    target.says_stopped("decode");
+    let account = deliver(&set, target, "decode".into(), given.flag("-q"))?;
     if given.operands[1] == "-" {
         return Ok(());
     }
@@ -113,6 +96,29 @@ fn tell(given: &Given, length: u64, Account { read, mended }: &Account) -> Resul
         _ => format!(", {} mended", count(*mended, "unit")),
     };
     say::told(given, object, format!("Decoded {film} to {path}: {read} read{mended}"))
+}
+
+/// Reads a film to its target.
+pub fn deliver(set: &Set, target: Target, what: String, quiet: bool) -> Result<Account, Fault> {
+    let length = set.label.geometry.length;
+    let progress = Progress::new(what, Some(length), quiet);
+    let mut way = Way { set, target, progress, gaps: 0 };
+    let done = read_all(set, &mut way);
+    drop(way.progress);
+    let account = match done {
+        Ok(account) => account,
+        Err(fault) => {
+            way.target.discard();
+            return Err(fault);
+        }
+    };
+    if let Err(fault) = way.target.finish(length, way.gaps) {
+        if !matches!(fault, Fault::Beyond(_)) {
+            way.target.discard();
+        }
+        return Err(fault);
+    }
+    Ok(account)
 }
 
 impl Sink for Way<'_> {
@@ -142,9 +148,14 @@ impl Sink for Way<'_> {
 }
 
 impl Target {
-    fn open(given: &Given, set: &Set) -> Result<Target, Fault> {
-        let (name, path) = (&given.operands[1], given.path(1));
-        let named = given.overwrite()?;
+    /// Opens it for a film of that length, which is not on these drives.
+    pub fn open(
+        name: &OsStr,
+        named: &Overwrite,
+        length: u64,
+        drives: &[(&Path, u64)],
+    ) -> Result<Target, Fault> {
+        let path = Path::new(name);
         if name == "-" {
             say::is_open()?;
             let output = io::stdout().as_fd().try_clone_to_owned().map(File::from);
@@ -153,9 +164,9 @@ impl Target {
             return Ok(Target::Stream(file, "standard output".into()));
         }
         if let Some(drive) = drive_at(path) {
-            apart(path, drive, &set.drives())?;
-            let mut output = Output::drive(path, &named, &[])?;
-            output.set_len(set.label.geometry.length)?;
+            apart(path, drive, drives)?;
+            let mut output = Output::drive(path, named, &[])?;
+            output.set_len(length)?;
             return Ok(Target::Output(output));
         }
         match fs::metadata(path) {
@@ -169,8 +180,16 @@ impl Target {
         }
     }
 
+    /// Says to somebody who stops the command what is to be done.
+    pub fn says_stopped(&self, command: &str) {
+        if let Target::Output(output) = self {
+            let part = output.path().display();
+            stop::says(&format!("the film is not whole: remove {part}, and {command} again"));
+        }
+    }
+
     /// Makes the film last; one with gaps keeps the name of a part.
-    fn finish(&mut self, length: u64, gaps: u64) -> Result<(), Fault> {
+    pub fn finish(&mut self, length: u64, gaps: u64) -> Result<(), Fault> {
         let Target::Output(output) = self else { return Ok(()) };
         output.set_len(length)?;
         output.sync()?;

@@ -154,7 +154,7 @@ fn open_film(name: &OsStr) -> Result<Source<File>, Fault> {
     Ok(Source { film, length, name: path.display().to_string() })
 }
 
-fn make_folder(folder: &Path) -> Result<(), Fault> {
+pub fn make_folder(folder: &Path) -> Result<(), Fault> {
     match fs::create_dir(folder) {
         Ok(()) => sync_folder(folder_of(folder)),
         Err(error) if error.kind() == ErrorKind::AlreadyExists => Ok(()),

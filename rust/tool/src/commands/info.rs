@@ -3,12 +3,14 @@
 use cuzhaveli_tool::label::hex;
 use cuzhaveli_tool::names::{bytes, disk_names};
 use cuzhaveli_tool::set::Set;
+use cuzhaveli_tool::store::place::is_store;
 
 use crate::args::Given;
+use crate::commands::store_info;
 use crate::fault::Fault;
 use crate::json::Object;
 use crate::say;
-use crate::table::words::{DIR, JSON};
+use crate::table::words::{JSON, PLACE};
 use crate::table::{Command, Use};
 
 pub const COMMAND: Command = Command {
@@ -17,24 +19,34 @@ pub const COMMAND: Command = Command {
     about: &[
         "Tells what the labels say, and the lost disks. Standard error says of images that are there and count as lost \
          why.",
+        "Of a store it tells its numbers, and of each disk what it has, what it lacks, and its bytes used and free.",
     ],
-    words: &[Use::May(&Use::Opt(&JSON)), DIR],
+    words: &[Use::May(&Use::Opt(&JSON)), PLACE],
     tells: &[
-        ("set", "the random name of the set"),
+        ("set", "of a set: its random name"),
+        ("store", "of a store: its random name"),
+        ("generation", "of a store: the number of its last change"),
         ("width", "the rows of a stripe"),
         ("disks", "the data disks"),
         ("cell", "the bytes of a cell"),
         ("unit", "the stripes of a unit"),
         ("group", "the stripes of a group"),
-        ("stripes", "the stripes of the film"),
-        ("length", "the bytes of the film"),
-        ("bytes", "the bytes of an image"),
-        ("lost", "the lost disks"),
+        ("stripes", "of a set: the stripes of the film"),
+        ("separate", "of a store: whether each disk must be on a device of its own"),
+        ("packages", "of a store: the packages"),
+        ("files", "of a store: their files"),
+        ("length", "the bytes of the film, or of all files"),
+        ("bytes", "of a set: the bytes of an image"),
+        ("lost", "the lost disks; of a store also those that are stale or lack images"),
+        ("each", "of a store: its disks, each with disk, state (whole, stale, lacking, lost), lacks, the images that it lacks, used and free bytes"),
     ],
     run,
 };
 
 fn run(given: &Given) -> Result<(), Fault> {
+    if is_store(given.path(0)) {
+        return store_info::run(given);
+    }
     let set = Set::open(given.path(0), &[])?;
     say::notes(&set);
     say::told(given, object(&set), text(&set))?;

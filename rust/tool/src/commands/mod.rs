@@ -1,16 +1,29 @@
 //! The commands: each is one entry of the table, in its own module.
 
 mod bill;
+mod board;
 mod check;
+mod create;
 mod decode;
 mod encode;
+mod get;
 mod help;
 mod info;
 mod judge;
+mod list;
+mod patch;
 mod plan;
+mod put;
 mod rebuild;
+mod remove;
 mod repair;
+mod report;
 mod space;
+mod store_check;
+mod store_info;
+mod store_rebuild;
+mod store_repair;
+mod stores;
 
 use std::ffi::OsString;
 
@@ -21,6 +34,13 @@ use crate::{help as text, near, say};
 
 /// In the order of help. A new command is a module with its entry, a line here, and `make manual`.
 pub const COMMANDS: &[&Command] = &[
+    &create::COMMAND,
+    &put::COMMAND,
+    &list::COMMAND,
+    &get::COMMAND,
+    &remove::COMMAND,
+    &patch::COMMAND,
+    &board::COMMAND,
     &encode::COMMAND,
     &decode::COMMAND,
     &info::COMMAND,

@@ -10,17 +10,19 @@ use cuzhaveli_tool::output::{lock, Output};
 use cuzhaveli_tool::rebuild::{rebuild, Account, Spare};
 use cuzhaveli_tool::set::{Absence, Set};
 use cuzhaveli_tool::stop;
+use cuzhaveli_tool::store::place::is_store;
 use cuzhaveli_tool::wanted::{Choice, Wanted, Way};
 
 use crate::args::{usage, Disk, Given};
 use crate::commands::bill::{bill, rates, RATES};
+use crate::commands::store_rebuild;
 use crate::fault::Fault;
 use crate::json::{self, Object};
 use crate::near::meant;
 use crate::plan_text::{read_text, steps};
 use crate::progress::Progress;
 use crate::say;
-use crate::table::words::{DIR, JSON, OVERWRITE, QUIET, RATE};
+use crate::table::words::{JSON, OVERWRITE, PLACE, QUIET, RATE};
 use crate::table::{Command, Kind, Opt, Use};
 
 /// The plans that have a name.
@@ -33,6 +35,8 @@ pub const COMMAND: Command = Command {
         "Rebuilds the lost images, one or two, or goes on with a rebuild that has not ended. A disk is lost if its image \
          is missing, empty, too short or too long, unfinished, or if --disk names it. Something else in its place, such as \
          an image of another set, is replaced only if --disk names that disk.",
+        "Of a store it writes every image that a disk lacks, and the catalogue on all; --plan, --relieve, --test, --disk \
+         and --overwrite are for sets only.",
     ],
     words: &[
         Use::May(&Use::Opt(&QUIET)),
@@ -70,27 +74,43 @@ pub const COMMAND: Command = Command {
             value: Some(("D", Kind::Disk)),
             about: "this disk counts as lost: its number, P or Q",
         })),
+        Use::Any(&Use::Opt(&Opt {
+            name: "--new",
+            value: Some(("D", Kind::Disk)),
+            about: "of a store: this disk is a new, empty one",
+        })),
+        Use::May(&Use::Opt(&Opt {
+            name: "--from",
+            value: Some(("FOLDER", Kind::Folder)),
+            about: "of a store: the old drive of a disk, which is read first",
+        })),
         Use::Any(&Use::Opt(&OVERWRITE)),
-        DIR,
+        PLACE,
     ],
     tells: &[
-        ("lost", "the lost disks"),
-        ("plan", "how they come back: balanced, own, relief, file, rows, tested; two where two are lost, none where none is"),
+        ("lost", "of a set: the lost disks"),
+        ("images", "of a store: the images that were rebuilt, or would be"),
+        ("plan", "of a set: how they come back: balanced, own, relief, file, rows, tested; two where two are lost, none where none is"),
         ("done", "whether the images are there now; false with -n"),
         ("stripes", "the stripes that this call rebuilt, or would"),
         ("kept", "those that an earlier one had"),
         ("read", "the bytes that were read of the survivors, cells and checksums; with -n of cells, if nothing is there yet"),
-        ("rows", "the bytes that all rows of the rebuilt stripes have"),
-        ("busiest", "the bytes of the survivor of which the most were read"),
+        ("rows", "of a set: the bytes that all rows of the rebuilt stripes have"),
+        ("busiest", "of a set: the bytes of the survivor of which the most were read"),
         ("mended", "the units in which a survivor was bad"),
         ("cents", "the bill of what was read, by --rates; 0 without"),
-        ("beyond", "stripes that cannot be rebuilt: stripe, count, and the disks that are lost or bad there"),
+        ("beyond", "stripes that cannot be rebuilt: stripe, count, and the disks that are lost or bad there; of a store the file too, and alone if too much of it is lost"),
+        ("lacks", "of a store: the disks that still lack something; none with -n"),
     ],
     run,
 };
 
 fn run(given: &Given) -> Result<(), Fault> {
     let folder = given.path(0);
+    if is_store(folder) {
+        return store_rebuild::run(given);
+    }
+    given.only_for("a store", &["--new", "--from"])?;
     given.at_most_one(&["--plan", "--relieve", "--test"])?;
     let (pace, named, rates) = (given.pace()?, given.overwrite()?, rates(given)?);
     if let Some(rates) = rates {
@@ -205,12 +225,7 @@ fn spare(set: &Set, disk: usize, named: &Overwrite) -> Result<Spare, Fault> {
         let begun = ours.contains(&output.first_block()?);
         return Ok(Spare { disk, output, begun });
     }
-    let (output, begun) = match Output::begun(&path, &ours)? {
-        Some(output) => (output, true),
-        None => (Output::create_part(&path)?, false),
-    };
-    let stands = path.symlink_metadata().is_ok(); // and counts as lost
-    Ok(Spare { disk, output: if stands { output.replacing() } else { output }, begun })
+    Spare::file(&path, label, disk)
 }
 
 /// What stands in a lost disk's place is not overwritten unless that disk is named; drives have

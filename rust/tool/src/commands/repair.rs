@@ -1,17 +1,19 @@
 //! `repair`: what is bad in the images that are there.
 
-use cuzhaveli_tool::names::{bytes, count, disk_names};
+use cuzhaveli_tool::names::{bytes, disk_names};
 use cuzhaveli_tool::output::{lock, Output};
 use cuzhaveli_tool::repair::{repair, Account};
 use cuzhaveli_tool::set::Set;
 use cuzhaveli_tool::stop;
+use cuzhaveli_tool::store::place::is_store;
 
 use crate::args::Given;
+use crate::commands::store_repair;
 use crate::fault::Fault;
 use crate::json::{self, Object};
 use crate::progress::Progress;
 use crate::say;
-use crate::table::words::{DIR, JSON, OVERWRITE, QUIET, RATE};
+use crate::table::words::{JSON, OVERWRITE, PLACE, QUIET, RATE};
 use crate::table::{Command, Use};
 
 pub const COMMAND: Command = Command {
@@ -20,27 +22,32 @@ pub const COMMAND: Command = Command {
     about: &[
         "Rewrites what is bad of the images that are there: pieces, checksums and labels; one disk after the other, each \
          synced before the next. Nothing that is good is written.",
+        "Of a store every file is repaired, and catalogues that differ from the one that counts are replaced.",
     ],
     words: &[
         Use::May(&Use::Opt(&QUIET)),
         Use::May(&Use::Opt(&JSON)),
         Use::May(&Use::Opt(&RATE)),
         Use::Any(&Use::Opt(&OVERWRITE)),
-        DIR,
+        PLACE,
     ],
     tells: &[
         ("pieces", "the pieces that were rewritten"),
         ("blocks", "the checksum blocks that were"),
         ("labels", "the labels that were"),
         ("read", "the bytes that were read"),
-        ("lost", "the lost disks, which rebuild brings back"),
-        ("beyond", "stripes that cannot be made right: stripe, count, and the disks that are lost or bad there"),
+        ("lost", "the lost disks, which rebuild brings back; of a store also those that lack images"),
+        ("beyond", "stripes that cannot be made right: stripe, count, and the disks that are lost or bad there; of a store the file too, and alone if too much of it is lost"),
+        ("catalogues", "of a store: the catalogues that were replaced"),
     ],
     run,
 };
 
 fn run(given: &Given) -> Result<(), Fault> {
     let folder = given.path(0);
+    if is_store(folder) {
+        return store_repair::run(given);
+    }
     let (pace, named) = (given.pace()?, given.overwrite()?);
     let _lock = lock(folder)?;
     let set = Set::open(folder, &[])?;
@@ -71,16 +78,11 @@ fn tell(given: &Given, set: &Set, account: &Account) -> Result<(), Fault> {
         ("lost", (&*set.lost()).into()),
         ("beyond", beyond.iter().map(json::beyond).collect()),
     ]);
-    let parts = [(*pieces, "piece"), (*blocks, "checksum block"), (*labels, "label")];
-    let parts: Vec<String> = parts
-        .iter()
-        .filter(|(number, _)| *number > 0)
-        .map(|(number, what)| count(*number, what))
-        .collect();
-    let done = match parts.is_empty() {
-        true => "Nothing was rewritten".into(),
-        false => format!("Repaired {}", parts.join(", ")),
-    };
+    let done = store_repair::rewritten(&[
+        (*pieces, "piece"),
+        (*blocks, "checksum block"),
+        (*labels, "label"),
+    ]);
     say::told(given, object, format!("{done}; {} read", bytes(*read)))?;
     let lost = set.lost();
     if !beyond.is_empty() {
