@@ -15,12 +15,13 @@ build_programs() {
 # The level that a shared library takes for all its calls, on the processor that the words before
 # the program emulate.
 chosen_level() { # LIBRARY [WORD..]
-    local library=$1 calls
+    local library=$1 calls places
     shift
+    places=$(mktemp "$work/chosen.XXXXXX") || fail "no file in $work" # several are asked at a time
     calls=$(nm -D --defined-only "$library" | sed -n 's/.* i \([^@]*\).*/\1/p')
     [ -n "$calls" ] || { echo "no call of $library is chosen at load"; return; }
     # shellcheck disable=SC2086 # the calls are words
-    "$@" "$work/chosen" "$library" $calls >"$work/chosen.txt" || { echo "the loader fails on $library"; return; }
+    "$@" "$work/chosen" "$library" $calls >"$places" || { echo "the loader fails on $library"; return; }
     nm "$library" | awk '
         NR == FNR { place[$1] = $2; next }
         { sub(/^0+/, "", $1) }
@@ -31,5 +32,5 @@ chosen_level() { # LIBRARY [WORD..]
             for (one in level) levels = levels " " one
             gsub(/_/, "-", levels); sub(/x86-64/, "x86-64", levels)
             print found == length(place) ? substr(levels, 2) : found + 0 " of " length(place) " calls led to a compilation"
-        }' "$work/chosen.txt" -
+        }' "$places" -
 }
