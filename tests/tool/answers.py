@@ -23,9 +23,12 @@ def checks(setting):
     images.write(good)
     for disk, stripe in ((1, 0), (2, 7), (3, 9)):
         images.flip(disk, images.offset(stripe, 1))
-    for start, stripes, bad in ((0, 10, 3), (1, 10, 3), (2, 8, 2), (7, 4, 2), (8, 2, 1), (10, 0, 0), (1 << 60, 0, 0)):
+    for start, stripes, bad in ((0, 10, 3), (1, 10, 3), (2, 8, 2), (7, 4, 2), (8, 2, 1)):
         done = setting.told("check", "--from", start, images.folder, status=1 if bad else 0)
         expect(done.sums() == (stripes, bad, 0, 0), done.told())
+    for start in (10, 1 << 60):
+        done = setting.told("check", "--from", start, images.folder, status=2)
+        expect(b"the set has 10 stripes" in done.err and not done.out, done.told())
     return "11 checks"
 
 

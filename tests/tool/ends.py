@@ -153,6 +153,12 @@ def full_devices(setting):
         expect(b"standard output" in done.err, done.told())
         done = setting.call(*words, status=4, stdout=None, preexec_fn=lambda: os.close(1))
         expect(b"standard output: closed" in done.err, done.told())
+    # a closed input is no empty film, nor a text
+    folder = setting.new()
+    for words in (["encode", "-p", 3, "-", folder], ["judge", "-p", 5, "-d", 1, "-"]):
+        done = setting.call(*words, status=4, stdin=None, preexec_fn=lambda: os.close(0))
+        expect(b"standard input: closed" in done.err, done.told())
+    expect(not folder.exists(), "an encode without an input left a folder")
     # a set whose line cannot be printed stands all the same
     folder = setting.new()
     setting.call("encode", "-p", 3, "-", folder, input=b"film", status=4, stdout=full)
@@ -180,7 +186,7 @@ def full_devices(setting):
     expect(done.returncode == 4 and not Set(folder).path(1).exists(), f"rebuild on a full disk: {done}")
     setting.call("rebuild", folder, status=0)
     expect(Set(folder).images() == good, "gone on after a full disk: other bytes")
-    return "24 calls"
+    return "26 calls"
 
 
 def closed_pipes(setting):

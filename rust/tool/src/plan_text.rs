@@ -6,6 +6,7 @@ use std::io::{self, Read};
 use std::path::Path;
 
 use cuzhaveli::{Refusal, Shape};
+use cuzhaveli_tool::sys;
 
 use crate::fault::Fault;
 
@@ -15,6 +16,9 @@ const MOST_TEXT: u64 = 4096;
 /// The text of a file, or of standard input for `-`.
 pub fn read_text(name: &OsStr) -> Result<Vec<u8>, Fault> {
     let (mut text, path) = (Vec::new(), Path::new(name));
+    if name == "-" && sys::input_was_closed() {
+        return Err(Fault::Failed("standard input: closed; give it a plan, or a file".into()));
+    }
     let read = match name == "-" {
         true => io::stdin().take(MOST_TEXT).read_to_end(&mut text),
         false => File::open(path).and_then(|file| file.take(MOST_TEXT).read_to_end(&mut text)),

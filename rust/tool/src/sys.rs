@@ -139,21 +139,30 @@ pub fn whole_drive(drive: u64) -> u64 {
     })
 }
 
-static CLOSED: AtomicBool = AtomicBool::new(false);
+/// Whether standard input and standard output were closed.
+static CLOSED: [AtomicBool; 2] = [AtomicBool::new(false), AtomicBool::new(false)];
 
-/// Runs before std, which opens /dev/null where standard output is closed: film would go nowhere.
+/// Runs before std, which opens /dev/null where one of them is closed: film would go nowhere, or be
+/// taken for an empty one.
 #[used]
 #[link_section = ".init_array"]
 static BEFORE_MAIN: extern "C" fn() = look;
 
 extern "C" fn look() {
-    // Sound: the call only looks at the number.
-    CLOSED.store(unsafe { fcntl(1, GET_FD) } == -1, Ordering::Relaxed);
+    for (number, closed) in (0..).zip(&CLOSED) {
+        // Sound: the call only looks at the number.
+        closed.store(unsafe { fcntl(number, GET_FD) } == -1, Ordering::Relaxed);
+    }
+}
+
+/// Whether the program was started without a standard input.
+pub fn input_was_closed() -> bool {
+    CLOSED[0].load(Ordering::Relaxed)
 }
 
 /// Whether the program was started without a standard output.
 pub fn output_was_closed() -> bool {
-    CLOSED.load(Ordering::Relaxed)
+    CLOSED[1].load(Ordering::Relaxed)
 }
 
 /// Lets a function run when the program is to stop, unless it was started so that it does not.

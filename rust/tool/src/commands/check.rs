@@ -6,7 +6,7 @@ use cuzhaveli_tool::set::Set;
 use cuzhaveli_tool::stop;
 use cuzhaveli_tool::store::place::is_store;
 
-use crate::args::Given;
+use crate::args::{usage, Given};
 use crate::commands::report::Report;
 use crate::commands::store_check;
 use crate::fault::Fault;
@@ -68,7 +68,11 @@ fn run(given: &Given) -> Result<(), Fault> {
     let mut report = Report::new(set.label.geometry.shape, given.flag("--json"));
     report.lost(&set)?;
     let geometry = set.label.geometry;
-    let first = (from / geometry.unit).min(geometry.units());
+    if from > 0 && from >= geometry.stripes {
+        let stripes = geometry.stripes;
+        return Err(usage(format!("--from {from}: the set has {stripes} stripes, counted from 0")));
+    }
+    let first = from / geometry.unit;
     let folder = set.folder().display().to_string();
     stop::at(first * geometry.unit);
     stop::says_where(&format!("to go on: cuzhaveli check --from # {folder}"));

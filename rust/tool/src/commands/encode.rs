@@ -13,7 +13,7 @@ use cuzhaveli_tool::label::{hex, new_name, Label};
 use cuzhaveli_tool::names::{bytes, count};
 use cuzhaveli_tool::output::{folder_of, lock, sync_folder, taken, Output};
 use cuzhaveli_tool::set::{image_path, MOST_DISKS};
-use cuzhaveli_tool::stop;
+use cuzhaveli_tool::{stop, sys};
 
 use crate::args::{usage, Given};
 use crate::fault::Fault;
@@ -137,6 +137,9 @@ pub fn geometry(
 /// Opens the film, or standard input for `-`.
 fn open_film(name: &OsStr) -> Result<Source<File>, Fault> {
     if name == "-" {
+        if sys::input_was_closed() {
+            return Err(Fault::Failed("standard input: closed; give it a film, or a file".into()));
+        }
         let input = io::stdin().as_fd().try_clone_to_owned().map(File::from);
         let film = input.map_err(|error| Fault::Failed(format!("standard input: {error}")))?;
         return Ok(Source { film, length: None, name: "standard input".into() });
