@@ -156,7 +156,7 @@ def full_devices(setting):
     # a closed input is no empty film, nor a text
     folder = setting.new()
     for words in (["encode", "-p", 3, "-", folder], ["judge", "-p", 5, "-d", 1, "-"]):
-        done = setting.call(*words, status=4, stdin=None, preexec_fn=lambda: os.close(0))
+        done = setting.call(*words, status=4, stdin=None, preexec_fn=lambda: os.closerange(0, 1))
         expect(b"standard input: closed" in done.err, done.told())
     expect(not folder.exists(), "an encode without an input left a folder")
     # a set whose line cannot be printed stands all the same
