@@ -154,6 +154,8 @@ def encoded_drives(setting, loops):
     for path, drive in zip(paths, drives):
         path.unlink()
         path.symlink_to(drive)
+    done = setting.call(*words, *named, drives[3], folder, status=5)
+    expect(content(drives[3], LABEL + 8).endswith(b"precious"), f"a film was overwritten by its own image: {done.told()}")
     setting.call(*words, *named, film, folder, status=0)
     images = Set(folder)
     expect(setting.film(images) == FILM, "another film")

@@ -70,7 +70,9 @@ fn run(given: &Given) -> Result<(), Fault> {
     let mut outputs = Vec::new();
     let mut progress = Progress::new("encode".into(), source.length, given.flag("-q"));
     let (label, known) = (Label { set: name, geometry }, source.length.is_some());
-    let done = create_all(folder, &label, known, &named, &mut outputs)
+    let drive = source.film.metadata().ok().and_then(|data| sys::drive(&data));
+    let film = drive.map(|drive| (Path::new(&given.operands[0]), drive));
+    let done = create_all(folder, &label, known, &named, film, &mut outputs)
         .and_then(|()| encode(&mut source, name, geometry, &outputs, |film| progress.add(film)))
         .and_then(|label| label_all(&label, &mut outputs).map(|()| label));
     drop(progress);
@@ -166,12 +168,13 @@ pub fn make_folder(folder: &Path) -> Result<(), Fault> {
 }
 
 /// Creates the images, in a folder that has none of any number; drives are marked as being written,
-/// if the film's length is known and they are long enough.
+/// if the film's length is known and they are long enough. A film that is a drive is none of them.
 fn create_all(
     folder: &Path,
     label: &Label,
     known: bool,
     named: &Overwrite,
+    film: Option<(&Path, u64)>,
     outputs: &mut Vec<Output>,
 ) -> Result<(), Fault> {
     let disks = label.geometry.disks();
@@ -191,7 +194,7 @@ fn create_all(
     for (disk, output) in outputs.iter().enumerate() {
         let before = outputs[..disk].iter().filter_map(|other| Some((other.path(), other.drive?)));
         if let Some(drive) = output.drive {
-            apart(output.path(), drive, &before.collect::<Vec<_>>())?;
+            apart(output.path(), drive, &before.chain(film).collect::<Vec<_>>())?;
         }
     }
     for (disk, output) in outputs.iter_mut().enumerate().filter(|(_, one)| one.drive.is_some()) {

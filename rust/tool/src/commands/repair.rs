@@ -50,8 +50,9 @@ fn run(given: &Given) -> Result<(), Fault> {
     }
     let (pace, named) = (given.pace()?, given.overwrite()?);
     let _lock = lock(folder)?;
-    let set = Set::open(folder, &[])?;
+    let mut set = Set::open(folder, &[])?;
     say::notes(&set);
+    set.go_direct(); // what check finds bad on the medium may be good in the page cache
     let geometry = set.label.geometry;
     let each = geometry.shape.stripe_len() as u64;
     let mut progress =
