@@ -88,7 +88,7 @@ impl Image {
     pub fn block(&self, offset: u64) -> io::Result<Block> {
         let mut block = [0; LABEL_BYTES];
         let len = self.len.saturating_sub(offset).min(LABEL_BYTES as u64) as usize;
-        self.file.read_exact_at(&mut block[..len], offset)?;
+        self.read(&mut block[..len], offset, &mut Bounce::default())?;
         Ok(block)
     }
 

@@ -244,7 +244,18 @@ impl Set {
                 }
             }
         }
+        self.bad_labels = self.labels_now();
         cached
+    }
+
+    /// The labels of the images that are there which are not as they should be, read once more.
+    fn labels_now(&self) -> Vec<(usize, u64)> {
+        let places = self.present().flat_map(|disk| [(disk, 0), (disk, self.label.geometry.end())]);
+        let bad = |(disk, at): &(usize, u64)| {
+            let block = self.image(*disk).map(|image| image.block(*at));
+            !matches!(block, Some(Ok(block)) if block == self.label.block(*disk))
+        };
+        places.filter(bad).collect()
     }
 
     /// What is to be told of images that are there and count as lost.

@@ -89,8 +89,8 @@ pub fn examine_set(
     report: &mut Report,
 ) -> Result<(), Fault> {
     let pace = given.pace()?;
-    report.labels(set)?;
     report.cached(&set.go_direct());
+    report.labels(set)?;
     let geometry = set.label.geometry;
     let each = geometry.shape.stripe_len() as u64;
     let begun = geometry.stripes - (first * geometry.unit).min(geometry.stripes);
