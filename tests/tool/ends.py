@@ -153,6 +153,9 @@ def full_devices(setting):
         expect(b"standard output" in done.err, done.told())
         done = setting.call(*words, status=4, stdout=None, preexec_fn=lambda: os.close(1))
         expect(b"standard output: closed" in done.err, done.told())
+    # a film that goes to standard output by another name has no result behind it
+    done = setting.call("decode", images.folder, "/dev/stdout", status=0)
+    expect(done.out == noise(4000), "decode to /dev/stdout gave other bytes than the film")
     # a closed input is no empty film, nor a text
     folder = setting.new()
     for words in (["encode", "-p", 3, "-", folder], ["judge", "-p", 5, "-d", 1, "-"]):

@@ -1,9 +1,10 @@
 //! `decode`: the film back from its images.
 
 use std::ffi::OsStr;
-use std::fs::{self, File, OpenOptions};
+use std::fs::{self, File, Metadata, OpenOptions};
 use std::io::{self, Write};
 use std::os::fd::AsFd;
+use std::os::unix::fs::MetadataExt;
 use std::path::Path;
 
 use cuzhaveli_tool::drives::{apart, drive_at, Overwrite};
@@ -66,8 +67,18 @@ struct Way<'a> {
     gaps: u64,
 }
 
+/// Whether a name is that of standard output, which then has the film and no results.
+fn is_output(name: &OsStr) -> bool {
+    let output = io::stdout().as_fd().try_clone_to_owned().map(File::from);
+    let id = |data: Metadata| (data.dev(), data.ino());
+    let named = || fs::metadata(name).map(id).ok();
+    name == "-"
+        || output.and_then(|file| file.metadata()).is_ok_and(|data| named() == Some(id(data)))
+}
+
 fn run(given: &Given) -> Result<(), Fault> {
-    if given.flag("--json") && given.operands[1] == "-" {
+    let to_output = is_output(&given.operands[1]);
+    if given.flag("--json") && to_output {
         return Err(usage(
             "--json: standard output has the film; leave it out, or name a file".into(),
         ));
@@ -75,10 +86,11 @@ fn run(given: &Given) -> Result<(), Fault> {
     let set = Set::open(given.path(0), &[])?;
     say::notes(&set);
     let length = set.label.geometry.length;
-    let target = Target::open(&given.operands[1], &given.overwrite()?, length, &set.drives())?;
+    let name = if to_output { OsStr::new("-") } else { &given.operands[1] };
+    let target = Target::open(name, &given.overwrite()?, length, &set.drives())?;
     target.says_stopped("decode");
     let account = deliver(&set, target, "decode".into(), given.flag("-q"))?;
-    if given.operands[1] == "-" {
+    if to_output {
         return Ok(());
     }
     tell(given, length, &account)
