@@ -48,13 +48,13 @@ def left_out(setting):
     make_library(setting, folder)
     groups = folder / SECOND / "src/groups/mod.rs"
     text = groups.read_text()
-    expect(text.count("    servers,\n") == 1, f"{groups} does not name the group servers once.")
-    groups.write_text(text.replace("    servers,\n", ""))
+    expect(text.count("    parity_server,\n") == 1, f"{groups} does not name the group parity_server once.")
+    groups.write_text(text.replace("    parity_server,\n", ""))
     environment = {**os.environ, "CUZHAVELI_LIB_DIR": str(folder), "CARGO_TARGET_DIR": str(setting.work / "left-out-target")}
     run(["cargo", "build", "-q", "--offline", "--bin", "second"], cwd=folder / SECOND, env=environment)
     program = setting.work / "left-out-target/debug/second"
-    absent = subprocess.run([program, "none", "servers"], capture_output=True, text=True)
-    expect(absent.returncode == 2 and "no group servers; there are plan" in absent.stderr, absent.stderr)
+    absent = subprocess.run([program, "none", "parity_server"], capture_output=True, text=True)
+    expect(absent.returncode == 2 and "no group parity_server; there are planner" in absent.stderr, absent.stderr)
     done = subprocess.run([program, "none", "vectors"], capture_output=True, text=True)
     told = "encode_stripe with vectors/encode.txt, line"
     expect(done.returncode == 1 and told in done.stdout and ": disk 15, row 5, byte 0 of its cell" in done.stdout, done.stdout)

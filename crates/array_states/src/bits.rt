@@ -3,6 +3,7 @@
 ghost use mathlib.Core.Path.{_≡_};
 ghost use Prim.Native.Nat.{_^_, _≤_, _<_};
 ghost use Rattle.array_states.specs.Lost.{hasBit, lostAfter, lostRefusal};
+use refusals::numbers::NO_SUCH_DISK;
 
 // The word with a disk's bit alone.
 fn bit_of(disk: usize) -> u64
@@ -39,5 +40,5 @@ pub fn lost_refusal(disks: usize, lost: u64) -> u8
     ensures { λ r. ⌜ r ≡ lostRefusal disks lost ⌝ }
 {
     let past = bit_of(disks + 2);
-    if past <= lost { 3 } else { 0 }
+    if past <= lost { NO_SUCH_DISK } else { 0 }
 }

@@ -7,6 +7,7 @@ use super::totals;
 use super::totals::Scan;
 use super::totals::Totals;
 use refusals::Answer;
+use refusals::numbers::NO_SUCH_ARRAY;
 
 // What a report on an array of a list answers.
 #[repr(C)]
@@ -21,7 +22,7 @@ fn scan_refusal(s: Scan, n: usize, which: usize) -> u8
     ensures { λ r. ⌜ r ≡ scanRefusal s n which ⌝ }
 {
     if n <= which {
-        return 20;
+        return NO_SUCH_ARRAY;
     }
     scan::first_refusal(s.refusal, s.own)
 }

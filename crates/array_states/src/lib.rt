@@ -17,6 +17,7 @@ ghost use mathlib.Core.Path.{_≡_};
 ghost use Prim.Native.Nat.{_<_};
 ghost use Rattle.array_states.specs.States.{stateRefusal, againRefusal, stateReportRefusal, StateSays};
 use refusals::Answer;
+use refusals::numbers::DISK_UNCHANGED;
 
 // An array of a list: its width p, its data disks k, and a word with bit d set for each lost disk
 // d.
@@ -34,7 +35,7 @@ pub struct StateAnswer {
 }
 
 // The refusal of a record by 1, 13 or 3, 0 for none.
-pub fn state_refusal(state: ArrayState) -> u8
+fn state_refusal(state: ArrayState) -> u8
     ensures { λ r. ⌜ r ≡ stateRefusal state ⌝ }
 {
     let refusal = refusals::array_refusal(state.width, state.disks);
@@ -51,9 +52,9 @@ fn again_refusal(lost: u64, disk: usize, back: bool) -> u8
 {
     let now = bits::is_lost(lost, disk);
     if back {
-        return if now { 0 } else { 21 };
+        return if now { 0 } else { DISK_UNCHANGED };
     }
-    if now { 21 } else { 0 }
+    if now { DISK_UNCHANGED } else { 0 }
 }
 
 // The refusal of a report on one array by 1, 13, 3 or 21, 0 for none.

@@ -6,6 +6,9 @@ ghost use lib.Count.{ones};
 ghost use Rattle.array_states.specs.Scanning.{noTotals, FewCounted, countedOn, scanLength, scanStart};
 use super::ArrayState;
 
+// The most arrays of a list.
+const MAX_ARRAYS: usize = 64;
+
 // How many arrays of a list can bear two more losses, one more, none, and how many are past saving.
 #[repr(C)]
 pub struct Totals {
@@ -60,7 +63,7 @@ pub fn count_state(totals: Totals, lost: u64) -> Totals
 pub fn scan_length(n: usize) -> usize
     ensures { λ r. ⌜ r ≡ scanLength n ⌝ }
 {
-    if 64 < n { 0 } else { n }
+    if MAX_ARRAYS < n { 0 } else { n }
 }
 
 // The scan of no record.

@@ -3,8 +3,15 @@
 mod numbers;
 
 ghost use Rattle.billing.specs.Bills.{BillRefused, BillSays, RunBillSays};
+use numbers::GIB;
 use rebuild_runs::Run;
 use refusals::Answer;
+
+// The bytes up to which the rate of the first band holds.
+const FIRST_BAND_END: u64 = 64 * GIB;
+
+// The bytes up to which the rate of the second band holds, 1 TiB.
+const SECOND_BAND_END: u64 = 1024 * GIB;
 
 // The answer, the bytes in each of the three bands, and the cents.
 #[repr(C)]
@@ -37,8 +44,8 @@ pub fn bill_bytes(bytes: u64, first: u64, second: u64, third: u64) -> Bill
     if refusal != 0 {
         return refused_bill(refusal);
     }
-    let low = numbers::least_of(bytes, 68719476736);
-    let most = numbers::least_of(bytes, 1099511627776);
+    let low = numbers::least_of(bytes, FIRST_BAND_END);
+    let most = numbers::least_of(bytes, SECOND_BAND_END);
     let middle = most - low;
     let rest = bytes - most;
     let charge = low * first + middle * second + rest * third;

@@ -8,6 +8,9 @@ use rebuild_runs::Run;
 use refusals::Shape;
 use space::Space;
 
+// The version 0.1.0: 10,000 for each major number, 100 for each minor one, 1 for each patch.
+const VERSION: u32 = 100;
+
 // The space that a package of files takes.
 #[no_mangle]
 pub extern "C" fn cuzhaveli_package_space(shape: Shape, lengths: &[u64], free: u64) -> Space
@@ -38,5 +41,5 @@ pub extern "C" fn cuzhaveli_bill_run(run: Run, first: u64, second: u64, third: u
 pub extern "C" fn cuzhaveli_version() -> u32
     ensures { λ r. ⌜ r ≡ 100 ⌝ }
 {
-    100
+    VERSION
 }

@@ -6,6 +6,15 @@ ghost use Rattle.liberation.specs.stripes.Stripes.{encoded};
 ghost use Rattle.liberation.specs.stripes.StripeLimits.{Sized};
 use super::sums;
 
+// The most data disks of the last group.
+const LAST_GROUP: usize = 8;
+
+// The data disks of the first group.
+const FIRST_GROUP: usize = 7;
+
+// The data disks of each group after it but the last.
+const NEXT_GROUP: usize = 6;
+
 // Where the group from disk lo on ends: after all disks that are left if these are few; else after
 // seven in the first group, and after six in the others, which have the parity cell as a source
 // too.
@@ -13,13 +22,13 @@ fn group_end(lo: usize, disks: usize) -> usize
     requires { ⌜ lo < disks ⌝ }
     ensures { λ r. ⌜ (lo < r) × (r ≤ disks) ⌝ }
 {
-    if disks - lo <= 8 {
+    if disks - lo <= LAST_GROUP {
         return disks;
     }
     if lo == 0 {
-        return 7;
+        return FIRST_GROUP;
     }
-    lo + 6
+    lo + NEXT_GROUP
 }
 
 // Writes P and Q of a stripe, group by group.

@@ -6,23 +6,25 @@ mod sets;
 mod sums;
 
 ghost use mathlib.Core.Path.{_≡_};
-ghost use mathlib.Core.Bool.{_&&_};
-ghost use lib.Dec.{leb};
 ghost use Rattle.liberation.specs.stripes.Stripes.{encoded};
 ghost use Rattle.liberation.specs.stripes.StripeLimits.{Sized};
 ghost use Rattle.encode.specs.Says.{EncodeSays};
 use refusals::Answer;
 use refusals::Shape;
 
+// From so many data disks on, encoding by groups is faster.
+const GROUPED_DISKS: usize = 11;
+
+// And from so many bytes of a cell on.
+const GROUPED_CELL_SIZE: usize = 512;
+
 // Do groups go faster? With few data disks the data are still in the cache when they are read
 // again, and with small cells the passes cost more than the reads. No answer depends on it.
-fn by_groups(disks: usize, size: usize) -> bool
-    ensures { λ r. ⌜ r ≡ (leb 11 disks && leb 512 size) ⌝ }
-{
-    if disks < 11 {
+fn by_groups(disks: usize, size: usize) -> bool {
+    if disks < GROUPED_DISKS {
         return false;
     }
-    512 <= size
+    GROUPED_CELL_SIZE <= size
 }
 
 // Writes P and Q of a stripe within the limits.

@@ -12,15 +12,15 @@ use Rattle.judge.specs.JudgeSays.{formRefusal}
 use Rattle.host_plans.specs.PlanListSays.{listsRefusal}
 
 -- none of the first refusals
-pub record Passed (p k f : ℕ) (bs o : List ℕ) : Type 0 where
+pub record ListPassed (p k f : ℕ) (bs o : List ℕ) : Type 0 where
   pub array : InArray p k
   pub disk : f ≤ k + 1
   pub plan : length bs ≡ 3 * p
   pub list : length o ≡ p * (k + 2)
   pub form : formRefusal p k f bs ≡ 0
 
-pub passed : (p k f : ℕ) (bs o : List ℕ) → listsRefusal p k f bs o ≡ 0 → Passed p k f bs o
-passed p k f bs o e =
+pub list-passed : (p k f : ℕ) (bs o : List ℕ) → listsRefusal p k f bs o ≡ 0 → ListPassed p k f bs o
+list-passed p k f bs o e =
     let w = first-none (planRefusal p k f) (firstOf (longRefusal (3 * p) bs) (longRefusal (p * (k + 2)) o)) e in
     let v = first-none (longRefusal (3 * p) bs) (longRefusal (p * (k + 2)) o) (w .1) in
     let q = plan-of p k f (w .0) in

@@ -11,6 +11,7 @@ ghost use Rattle.liberation.specs.Plans.{listOf};
 ghost use Rattle.liberation.specs.Judging.{accepted, stepsIn};
 ghost use Rattle.host_plans.specs.PlanListSays.{PlanListSays};
 use super::bytes;
+use judge::STEP_BYTES;
 use refusals::Answer;
 
 // The refusal of a plan and a list of these many bytes before any step is looked at, 0 for none.
@@ -21,7 +22,7 @@ fn lengths_refusal(width: usize, disks: usize, lost: usize, plan: usize, list: u
     if refusal != 0 {
         return refusal;
     }
-    let short = refusals::length_refusal(plan, 3 * width);
+    let short = refusals::length_refusal(plan, STEP_BYTES * width);
     if short != 0 {
         return short;
     }

@@ -12,6 +12,7 @@ ghost use Rattle.liberation.specs.stripes.Stripes.{stripeLong, rebuiltBy};
 ghost use Rattle.liberation.specs.stripes.StripeLimits.{Sized};
 ghost use Rattle.host_plans.specs.RebuildByPlanSays.{ByPlanSays};
 use super::bytes;
+use judge::STEP_BYTES;
 use refusals::Answer;
 use refusals::Shape;
 
@@ -32,7 +33,7 @@ fn call_refusal(
     if refusal != 0 {
         return refusal;
     }
-    let short = refusals::length_refusal(plan, 3 * width);
+    let short = refusals::length_refusal(plan, STEP_BYTES * width);
     if short != 0 {
         return short;
     }

@@ -7,7 +7,9 @@ ghost use lib.ListN.{length};
 ghost use Rattle.liberation.specs.Limits.{InArray};
 ghost use Rattle.liberation.specs.Plans.{marksFrom};
 ghost use Rattle.judge.specs.JudgeStepsSays.{StepsSay};
+use super::STEP_BYTES;
 use super::one_step;
+use parity_sets::MAX_WIDTH;
 use refusals::Answer;
 
 // The answer, and the read count.
@@ -32,13 +34,13 @@ pub fn judge_steps(width: usize, disks: usize, lost: usize, plan: &[u8], marks: 
     requires { ⌜ now marks ≡ marksFrom (width * (disks + 2)) 0 [] ⌝ }
     ensures { λ r. ⌜ StepsSay width disks lost (now (plan .entry)) r ⌝ }
 {
-    let mut done = [0u8; 31];
+    let mut done = [0u8; MAX_WIDTH];
     let mut reads: u32 = 0;
     let mut i = 0;
     while i < width {
-        let row = wide(plan[3 * i]);
-        let kind = wide(plan[3 * i + 1]);
-        let number = wide(plan[3 * i + 2]);
+        let row = wide(plan[STEP_BYTES * i]);
+        let kind = wide(plan[STEP_BYTES * i + 1]);
+        let number = wide(plan[STEP_BYTES * i + 2]);
         let refusal = one_step::step_refusal(width, disks, lost, row, kind, number, done);
         if refusal != 0 {
             let place = i as u32;

@@ -11,6 +11,10 @@ ghost use lib.Dec.{eqb};
 ghost use Rattle.mathematics.specs.Choice.{firstOf, when};
 ghost use Rattle.liberation.specs.Sets.{planRefusal};
 ghost use Rattle.judge.specs.JudgeSays.{JudgeSays};
+use refusals::numbers::BAD_LENGTH;
+
+// The bytes of a step in a plan as bytes: row, kind, number.
+pub const STEP_BYTES: usize = 3;
 
 // The refusal of a plan of `long` bytes before any step is looked at, 0 for none.
 fn form_refusal(width: usize, disks: usize, lost: usize, long: usize) -> u8
@@ -20,8 +24,8 @@ fn form_refusal(width: usize, disks: usize, lost: usize, long: usize) -> u8
     if refusal != 0 {
         return refusal;
     }
-    if long != 3 * width {
-        return 5;
+    if long != STEP_BYTES * width {
+        return BAD_LENGTH;
     }
     0
 }

@@ -8,6 +8,12 @@ ghost use Rattle.liberation.specs.Limits.{InArray};
 ghost use Rattle.liberation.specs.Sets.{setOf, lostIn};
 ghost use Rattle.liberation.specs.Plans.{step, marksFrom};
 ghost use Rattle.liberation.specs.Judging.{othersThere, stepRefusal};
+use parity_sets::DIAGONAL_SET;
+use parity_sets::MAX_WIDTH;
+use refusals::numbers::STEP_EARLY;
+use refusals::numbers::STEP_RANGE;
+use refusals::numbers::STEP_REPEATED;
+use refusals::numbers::STEP_SET;
 
 // Does a set hold the cell of this row on the lost disk?
 fn holds_row(
@@ -43,7 +49,7 @@ fn is_missing(
     lost: usize,
     row: usize,
     cell: usize,
-    done: [u8; 31],
+    done: [u8; MAX_WIDTH],
 ) -> bool
     requires { ⌜ InArray width disks × (lost ≤ disks + 1) ⌝ }
     ensures { λ r. ⌜ ((ds : List ℕ) → done ≡ marksFrom 31 0 ds → not r ≡ othersThere row (lostIn width lost (cell ∷ [])) ds) ⌝ }
@@ -66,7 +72,7 @@ fn others_there(
     row: usize,
     kind: usize,
     number: usize,
-    done: [u8; 31],
+    done: [u8; MAX_WIDTH],
 ) -> bool
     requires { ⌜ InArray width disks × (lost ≤ disks + 1) × (number < width) ⌝ }
     ensures { λ r. ⌜ ((ds : List ℕ) → done ≡ marksFrom 31 0 ds → r ≡ othersThere row (lostIn width lost (setOf width disks kind number)) ds) ⌝ }
@@ -93,29 +99,29 @@ pub fn step_refusal(
     row: usize,
     kind: usize,
     number: usize,
-    done: [u8; 31],
+    done: [u8; MAX_WIDTH],
 ) -> u8
     requires { ⌜ InArray width disks × (lost ≤ disks + 1) ⌝ }
     ensures { λ r. ⌜ ((ds : List ℕ) → done ≡ marksFrom 31 0 ds → r ≡ stepRefusal width disks lost ds (step row kind number)) ⌝ }
 {
     if width <= row {
-        return 6;
+        return STEP_RANGE;
     }
     if width <= number {
-        return 6;
+        return STEP_RANGE;
     }
-    if 1 < kind {
-        return 6;
+    if DIAGONAL_SET < kind {
+        return STEP_RANGE;
     }
     if !holds_row(width, disks, lost, row, kind, number) {
-        return 7;
+        return STEP_SET;
     }
     if done[row] == 1 {
-        return 8;
+        return STEP_REPEATED;
     }
     if others_there(width, disks, lost, row, kind, number, done) {
         0
     } else {
-        9
+        STEP_EARLY
     }
 }

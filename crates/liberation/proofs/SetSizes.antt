@@ -33,8 +33,8 @@ has-absent p k i n h = ap (λ (b : Bool). b && ltb (extraDisk p i) k) (le-leb 1 
 has-one : (p k i : ℕ) → (i ≡ 0 → ⊥) → extraDisk p i < k → hasExtra p k i ≡ true
 has-one p k i n h = and-i _ _ (le-leb 1 i (omega arith)) (lt-ltb (extraDisk p i) k h)
 
-pub size-none : (p k kind i : ℕ) → (kind ≡ 0 → ⊥) → i ≡ 0 → k + 1 ≡ length (setOf p k kind i)
-size-none p k kind i n e = omega (arith, ap length (diagonal-kind p k kind i n), length-without p k i (has-none p k i e))
+pub size-first-diagonal : (p k kind i : ℕ) → (kind ≡ 0 → ⊥) → i ≡ 0 → k + 1 ≡ length (setOf p k kind i)
+size-first-diagonal p k kind i n e = omega (arith, ap length (diagonal-kind p k kind i n), length-without p k i (has-none p k i e))
 
 pub size-absent : (p k kind i : ℕ) → (kind ≡ 0 → ⊥) → (i ≡ 0 → ⊥) → k ≤ extraDisk p i → k + 1 ≡ length (setOf p k kind i)
 size-absent p k kind i n m h = omega (arith, ap length (diagonal-kind p k kind i n), length-without p k i (has-absent p k i m h))

@@ -5,12 +5,16 @@ ghost use lib.Dec.{eqb};
 ghost use lib.ListN.{length};
 ghost use Rattle.mathematics.specs.Choice.{pick};
 ghost use Rattle.liberation.specs.parity_server.Servers.{firstLoss, secondLoss, byteRefusal, pairRefusal, lossesRefusal};
+use refusals::numbers::SAME_DISK;
+
+// The byte for no loss in the pairs of losses.
+pub const NO_LOSS: usize = 255;
 
 // The refusal of a lost disk by 3, 0 for none: 255 is no disk.
 fn byte_refusal(disks: usize, disk: usize) -> u8
     ensures { λ r. ⌜ r ≡ byteRefusal disks disk ⌝ }
 {
-    if disk == 255 {
+    if disk == NO_LOSS {
         return 0;
     }
     refusals::disk_refusal(disks, disk)
@@ -28,10 +32,10 @@ fn pair_refusal(disks: usize, first: usize, second: usize) -> u8
     if other != 0 {
         return other;
     }
-    if first == 255 {
+    if first == NO_LOSS {
         return 0;
     }
-    if first == second { 4 } else { 0 }
+    if first == second { SAME_DISK } else { 0 }
 }
 
 // The refusal of the losses of server i. Those of the lost server are not read.

@@ -6,15 +6,16 @@ ghost use Rattle.liberation.specs.parity_server.Servers.{pairRefusal, mended, m
 ghost use Rattle.liberation.specs.parity_server.ServerClaims.{Given, GivenLosses};
 ghost use Rattle.liberation.specs.stripes.StripeLimits.{Sized};
 ghost use Rattle.parity_server.specs.Turns.{onlyLoss, Turn};
+use super::losses::NO_LOSS;
 
 // The one lost disk of a stripe, 255 if none is lost or two are.
 fn only_loss(first: usize, second: usize) -> usize
     ensures { λ r. ⌜ r ≡ onlyLoss first second ⌝ }
 {
-    if first == 255 {
+    if first == NO_LOSS {
         return second;
     }
-    if second == 255 { first } else { 255 }
+    if second == NO_LOSS { first } else { NO_LOSS }
 }
 
 // Mends a stripe's losses in place: one lost disk by our plan for it, two by the walk; 255 is none.
@@ -31,11 +32,11 @@ fn mend_server(
     ensures { λ _. ⌜ now (stripe .exit) ≡ mended width disks size first second (now (stripe .entry)) ⌝ }
 {
     let disk = only_loss(first, second);
-    if disk != 255 {
+    if disk != NO_LOSS {
         rebuild_one::rebuild_within(width, disks, size, disk, stripe);
         return;
     }
-    if first == 255 {
+    if first == NO_LOSS {
         return;
     }
     rebuild_two::solve_pair(width, disks, size, first, second, stripe);

@@ -9,12 +9,16 @@ ghost use Rattle.mathematics.specs.Choice.{pick};
 ghost use Rattle.liberation.specs.stripes.Stripes.{without, solved};
 ghost use Rattle.liberation.specs.parity_server.Servers.{upTo};
 ghost use Rattle.stripe_cells.specs.Offsets.{scaled, Pushed};
+use super::limits::MAX_SERVERS;
+
+// The most servers, the parity server with them.
+const MOST_SERVERS: usize = MAX_SERVERS + 1;
 
 // A list with room for the stripes of all servers.
-fn no_servers() -> [usize; 17]
+fn no_servers() -> [usize; MOST_SERVERS]
     ensures { λ r. ⌜ length r ≡ 17 ⌝ }
 {
-    [0; 17]
+    [0; MOST_SERVERS]
 }
 
 // The offset of server i's stripe of `long` bytes, after the first `count` numbers of a list, but

@@ -12,6 +12,21 @@ ghost use Rattle.liberation.specs.Sets.{diskAt, extraDisk, setOf};
 ghost use Rattle.liberation.specs.Plans.{diagonalOf, secondRow};
 ghost use Rattle.liberation.specs.Limits.{InArray};
 
+// The kind of a row set.
+pub const ROW_SET: usize = 0;
+
+// The kind of a diagonal set.
+pub const DIAGONAL_SET: usize = 1;
+
+// The largest width, which is also the most data disks.
+pub const MAX_WIDTH: usize = 31;
+
+// The most disks, P and Q with them, which is also the most cells of a set.
+pub const MAX_COLUMNS: usize = MAX_WIDTH + 2;
+
+// The most cells of a stripe.
+pub const MAX_CELLS: usize = MAX_WIDTH * MAX_COLUMNS;
+
 // The disk of the extra cell of diagonal `number`: the width less twice the number, which goes
 // round the width at most once, so no remainder is taken.
 pub fn extra_disk(width: usize, number: usize) -> usize
@@ -87,7 +102,7 @@ pub fn set_size(width: usize, disks: usize, kind: usize, number: usize) -> usize
     requires { ⌜ InArray width disks × (number < width) ⌝ }
     ensures { λ r. ⌜ r ≡ length (setOf width disks kind number) ⌝ }
 {
-    if kind == 0 {
+    if kind == ROW_SET {
         return disks + 1;
     }
     if number == 0 {
@@ -114,7 +129,7 @@ pub fn cell_in_row(
     requires { ⌜ (at < length (setOf width disks kind number)) × (row ≡ (number + at) % width) ⌝ }
     ensures { λ r. ⌜ r ≡ getD (setOf width disks kind number) at 0 ⌝ }
 {
-    if kind == 0 {
+    if kind == ROW_SET {
         return at * width + number;
     }
     if at < disks {

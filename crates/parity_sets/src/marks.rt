@@ -7,12 +7,13 @@ ghost use Rattle.liberation.specs.Sets.{setOf, survivingIn};
 ghost use Rattle.liberation.specs.Plans.{marksFrom};
 ghost use Rattle.liberation.specs.Limits.{InArray};
 ghost use Rattle.parity_sets.specs.Marks.{Marked};
+use super::MAX_CELLS;
 
 // Marks for every cell of the widest array, none marked.
-pub fn no_marks() -> [u8; 1023]
+pub fn no_marks() -> [u8; MAX_CELLS]
     ensures { λ r. ⌜ r ≡ marksFrom 1023 0 [] ⌝ }
 {
-    [0; 1023]
+    [0; MAX_CELLS]
 }
 
 // Marks a cell, unless it is on the lost disk; 1 where it was not marked before, else 0.

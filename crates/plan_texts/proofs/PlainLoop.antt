@@ -19,7 +19,7 @@ use Rattle.text.proofs.FieldLaws.{step-most}
 use Rattle.plan_texts.specs.form.Plain.{plainLine, plainLines, writable}
 
 -- o becomes o′, written from place `at` to place r; i lines stand
-pub record Halfway (p : ℕ) (bs o o′ : List ℕ) (at r i : ℕ) : Type 0 where
+pub record LinesWritten (p : ℕ) (bs o o′ : List ℕ) (at r i : ℕ) : Type 0 where
   pub within : i ≤ p
   pub text : List ℕ
   pub wrote : Wrote o o′ at r text
@@ -27,14 +27,14 @@ pub record Halfway (p : ℕ) (bs o o′ : List ℕ) (at r i : ℕ) : Type 0 wher
   pub rest : text ++ plainLines (stepsFrom p i bs) ≡ plainLines (stepsIn p bs)
   pub left : writable (stepsFrom p i bs) ≡ true
 
-pub halfway-start : (p : ℕ) (bs o : List ℕ) (at : ℕ) → at ≤ length o → writable (stepsIn p bs) ≡ true → Halfway p bs o o at at 0
-halfway-start p bs o at h w =
+pub written-start : (p : ℕ) (bs o : List ℕ) (at : ℕ) → at ≤ length o → writable (stepsIn p bs) ≡ true → LinesWritten p bs o o at at 0
+written-start p bs o at h w =
     let z : p - 0 ≡ p = omega arith in
     let e : stepsFrom p 0 bs ≡ stepsIn p bs = ap (λ (n : ℕ). stepsIn n bs) z in
     record { within = omega arith; text = []; wrote = wrote-none o at h; few = omega arith; rest = ap plainLines e; left = ap writable e ∙ w }
 
 -- the step of a turn
-module _ {p : ℕ} {bs o o′ : List ℕ} {at r i : ℕ} (k : Halfway p bs o o′ at r i) (h : i < p) (s : Step) (b : BytesOf bs i s) where
+module _ {p : ℕ} {bs o o′ : List ℕ} {at r i : ℕ} (k : LinesWritten p bs o o′ at r i) (h : i < p) (s : Step) (b : BytesOf bs i s) where
   here : writable (s ∷ stepsFrom p (i + 1) bs) ≡ true
   here = ap writable (sym (steps-next p i s bs h b)) ∙ k .left
 
@@ -44,7 +44,7 @@ module _ {p : ℕ} {bs o o′ : List ℕ} {at r i : ℕ} (k : Halfway p bs o o�
   two-digits =
       (ltb-true (s .row) 100 (and-l (ltb (s .row) 100) _ here), ltb-true (s .number) 100 (and-l (ltb (s .number) 100) _ (and-r (ltb (s .row) 100) _ here)))
 
-  pub halfway-turn : {o″ : List ℕ} {r′ : ℕ} → Wrote o′ o″ r r′ (stepFields (s .row) (s .kind) (s .number) 10) → Halfway p bs o o″ at r′ (i + 1)
+  pub halfway-turn : {o″ : List ℕ} {r′ : ℕ} → Wrote o′ o″ r r′ (stepFields (s .row) (s .kind) (s .number) 10) → LinesWritten p bs o o″ at r′ (i + 1)
   unfolding plainLines writable
   halfway-turn w =
       record {
@@ -56,7 +56,7 @@ module _ {p : ℕ} {bs o o′ : List ℕ} {at r i : ℕ} (k : Halfway p bs o o�
         left = and-r (leb (s .kind) 1) _ (and-r (ltb (s .number) 100) _ (and-r (ltb (s .row) 100) _ here));
       }
 
-pub halfway-end : {p : ℕ} {bs o o′ : List ℕ} {at r i : ℕ} → p ≤ i → Halfway p bs o o′ at r i → Wrote o o′ at r (plainLines (stepsIn p bs))
+pub halfway-end : {p : ℕ} {bs o o′ : List ℕ} {at r i : ℕ} → p ≤ i → LinesWritten p bs o o′ at r i → Wrote o o′ at r (plainLines (stepsIn p bs))
 unfolding plainLines stepsIn
 halfway-end {p} {bs} {o} {o′} {at} {r} {i} h k =
     let z : p - i ≡ 0 = omega arith in

@@ -2,6 +2,8 @@
 ghost use Rattle.plan_texts.specs.JudgeTextSays.{JudgeTextSays};
 use super::reader;
 use judge::Judged;
+use judge::STEP_BYTES;
+use refusals::numbers::BAD_PLAN_TEXT;
 
 // Judges a plan that is a text. Refusals: 1, 13, 3, 22, then 6 to 9 with the step as their place.
 pub fn judge_text(width: usize, disks: usize, lost: usize, text: &[u8]) -> Judged
@@ -17,10 +19,10 @@ pub fn judge_text(width: usize, disks: usize, lost: usize, text: &[u8]) -> Judge
     let read = reader::parse(width, text);
     if !read.ok {
         return Judged {
-            answer: refusals::answered(22),
+            answer: refusals::answered(BAD_PLAN_TEXT),
             reads: 0,
         };
     }
     let plan = read.plan;
-    judge::judge_plan(width, disks, lost, &plan[..3 * width])
+    judge::judge_plan(width, disks, lost, &plan[..STEP_BYTES * width])
 }

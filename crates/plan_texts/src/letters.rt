@@ -13,13 +13,13 @@ pub fn end_at(text: &[u8], at: usize) -> usize
     ensures { λ r. ⌜ r ≡ endIn (drop at (now (text .entry))) ⌝ }
 {
     let first = text::byte_at(text, at);
-    if first == 10 {
+    if first == b'\n' {
         return 1;
     }
-    if first != 13 {
+    if first != b'\r' {
         return 0;
     }
-    if text::byte_at(text, at + 1) == 10 {
+    if text::byte_at(text, at + 1) == b'\n' {
         2
     } else {
         0
@@ -31,7 +31,7 @@ fn is_letter(byte: u8) -> bool
     ensures { λ r. ⌜ r ≡ isLetter byte ⌝ }
 {
     match byte {
-        68 | 82 | 100 | 114 => true,
+        b'D' | b'R' | b'd' | b'r' => true,
         _ => false,
     }
 }
@@ -41,7 +41,7 @@ pub fn kind_of(letter: u8) -> usize
     ensures { λ r. ⌜ r ≡ kindOf letter ⌝ }
 {
     match letter {
-        82 | 114 => 0,
+        b'R' | b'r' => 0,
         _ => 1,
     }
 }
@@ -51,11 +51,11 @@ pub fn is_set(text: &[u8], at: usize) -> bool
     requires { ⌜ at ≤ 400 ⌝ }
     ensures { λ r. ⌜ r ≡ isSet (drop at (now (text .entry))) ⌝ }
 {
-    if text::byte_at(text, at) != 44 {
+    if text::byte_at(text, at) != b',' {
         return false;
     }
     if !is_letter(text::byte_at(text, at + 1)) {
         return false;
     }
-    text::byte_at(text, at + 2) == 44
+    text::byte_at(text, at + 2) == b','
 }

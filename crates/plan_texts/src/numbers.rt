@@ -6,6 +6,9 @@ ghost use Prim.Native.Nat.{_≤_};
 ghost use Rattle.plan_texts.specs.form.Reading.{isDigit};
 ghost use Rattle.plan_texts.specs.NumberSays.{MadeNumber, NumberAt};
 
+// The largest number of a field.
+const MAX_NUMBER: usize = 255;
+
 // A number in a text: whether there is one, its value, and the place after its digits.
 pub struct Number {
     pub ok: bool,
@@ -17,10 +20,10 @@ pub struct Number {
 fn is_digit(byte: u8) -> bool
     ensures { λ r. ⌜ r ≡ isDigit byte ⌝ }
 {
-    if byte < 48 {
+    if byte < b'0' {
         return false;
     }
-    byte <= 57
+    byte <= b'9'
 }
 
 // A number of some digits, which has to be at most 255.
@@ -28,7 +31,7 @@ fn number_of(value: usize, next: usize) -> Number
     ensures { λ r. ⌜ MadeNumber value next r ⌝ }
 {
     Number {
-        ok: value <= 255,
+        ok: value <= MAX_NUMBER,
         value: value,
         next: next,
     }

@@ -10,7 +10,12 @@ ghost use Rattle.liberation.specs.Judging.{stepsIn};
 ghost use Rattle.plan_texts.specs.PlainTextSays.{Refuses, Writes, WriteSays, PlainSays};
 use super::reader;
 use super::writer;
+use judge::STEP_BYTES;
 use refusals::Answer;
+use refusals::numbers::BAD_PLAN_TEXT;
+
+// The bytes of the room for a plan that is written as text.
+const TEXT_BYTES: usize = 263;
 
 // The answer, and the length of the text that was written.
 #[repr(C)]
@@ -58,7 +63,7 @@ fn room_refusal(width: usize, disks: usize, lost: usize, room: usize) -> u8
     if refusal != 0 {
         return refusal;
     }
-    refusals::length_refusal(room, 263)
+    refusals::length_refusal(room, TEXT_BYTES)
 }
 
 // Writes an accepted plan of three bytes a step in its plain form into a lent slice of 263 bytes.
@@ -70,7 +75,7 @@ pub fn write_plan(width: usize, disks: usize, lost: usize, plan: &[u8], out: &mu
     if refusal != 0 {
         return unwritten(refusal);
     }
-    let length = refusals::length_refusal(plan.len(), 3 * width);
+    let length = refusals::length_refusal(plan.len(), STEP_BYTES * width);
     if length != 0 {
         return unwritten(length);
     }
@@ -88,8 +93,8 @@ pub fn plain_text(width: usize, disks: usize, lost: usize, text: &[u8], out: &mu
     }
     let read = reader::parse(width, text);
     if !read.ok {
-        return unwritten(22);
+        return unwritten(BAD_PLAN_TEXT);
     }
     let plan = read.plan;
-    write_steps(width, disks, lost, &plan[..3 * width], out)
+    write_steps(width, disks, lost, &plan[..STEP_BYTES * width], out)
 }

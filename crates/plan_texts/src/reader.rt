@@ -9,6 +9,13 @@ ghost use Rattle.plan_texts.specs.form.Reading.{names};
 ghost use Rattle.plan_texts.specs.ReaderSays.{LineAt, LinesSay, ParseSays};
 use super::letters;
 use super::numbers;
+use judge::STEP_BYTES;
+
+// The bytes of the largest plan: three for each of 31 steps.
+const PLAN_BYTES: usize = 31 * STEP_BYTES;
+
+// The bytes of the head line without its end.
+const HEAD_BYTES: usize = 14;
 
 // A line in a text: whether there is one, the step that it names, and the place after it.
 pub struct Line {
@@ -23,7 +30,7 @@ pub struct Line {
 // after them.
 pub struct Parsed {
     pub ok: bool,
-    pub plan: [u8; 93],
+    pub plan: [u8; PLAN_BYTES],
 }
 
 // Are all four parts of a line there?
@@ -69,7 +76,7 @@ fn unread() -> Parsed
 {
     Parsed {
         ok: false,
-        plan: [0; 93],
+        plan: [0; PLAN_BYTES],
     }
 }
 
@@ -78,7 +85,7 @@ fn lines_at(width: usize, text: &[u8], at: usize) -> Parsed
     requires { ⌜ (width ≤ 31) × (at ≤ 16) ⌝ }
     ensures { λ r. ⌜ LinesSay width (now (text .entry)) at r ⌝ }
 {
-    let mut plan = [0u8; 93];
+    let mut plan = [0u8; PLAN_BYTES];
     let mut next = at;
     let mut i = 0;
     while i < width {
@@ -86,9 +93,9 @@ fn lines_at(width: usize, text: &[u8], at: usize) -> Parsed
         if !line.ok {
             return unread();
         }
-        plan[3 * i] = line.row as u8;
-        plan[3 * i + 1] = line.kind as u8;
-        plan[3 * i + 2] = line.number as u8;
+        plan[STEP_BYTES * i] = line.row as u8;
+        plan[STEP_BYTES * i + 1] = line.kind as u8;
+        plan[STEP_BYTES * i + 2] = line.number as u8;
         next = line.next;
         i += 1;
     }
@@ -105,10 +112,10 @@ fn lines_at(width: usize, text: &[u8], at: usize) -> Parsed
 fn has_names(text: &[u8]) -> bool
     ensures { λ r. ⌜ r ≡ same (take 14 (now (text .entry))) names ⌝ }
 {
-    if text.len() < 14 {
+    if text.len() < HEAD_BYTES {
         return false;
     }
-    check::same(&text[..14], b"row,set,number")
+    check::same(&text[..HEAD_BYTES], b"row,set,number")
 }
 
 // Reads a whole text as a plan of `width` steps.
@@ -119,9 +126,9 @@ pub fn parse(width: usize, text: &[u8]) -> Parsed
     if !has_names(text) {
         return unread();
     }
-    let end = letters::end_at(text, 14);
+    let end = letters::end_at(text, HEAD_BYTES);
     if end == 0 {
         return unread();
     }
-    lines_at(width, text, 14 + end)
+    lines_at(width, text, HEAD_BYTES + end)
 }

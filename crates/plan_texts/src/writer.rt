@@ -7,6 +7,7 @@ ghost use lib.ListN.{length};
 ghost use Rattle.liberation.specs.Judging.{stepsIn};
 ghost use Rattle.plan_texts.specs.form.Plain.{plainLines, plain, writable};
 ghost use Rattle.text.specs.Writing.{Wrote};
+use judge::STEP_BYTES;
 
 // Puts the lines of a plan's steps, three bytes a step, and says where they end.
 fn put_lines(out: &mut [u8], at: usize, width: usize, plan: &[u8]) -> usize
@@ -16,10 +17,10 @@ fn put_lines(out: &mut [u8], at: usize, width: usize, plan: &[u8]) -> usize
     let mut next = at;
     let mut i = 0;
     while i < width {
-        let row = judge::wide(plan[3 * i]);
-        let kind = judge::wide(plan[3 * i + 1]);
-        let number = judge::wide(plan[3 * i + 2]);
-        next = text::put_step(out, next, row, kind, number, 10);
+        let row = judge::wide(plan[STEP_BYTES * i]);
+        let kind = judge::wide(plan[STEP_BYTES * i + 1]);
+        let number = judge::wide(plan[STEP_BYTES * i + 2]);
+        next = text::put_step(out, next, row, kind, number, b'\n');
         i += 1;
     }
     next

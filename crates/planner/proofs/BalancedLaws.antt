@@ -26,8 +26,8 @@ use Rattle.planner.specs.BalancedStepsSays.{balancedWord, BalancedPlanne
 pub data-held : (p k f w : ℕ) (R : List ℕ) (s : Steps) → f < k → RoutesAre p (balancedRoutes p f) R w → Holds (rowSteps 0 (take p R) ++ diagonalSteps p f 0 (take p R)) s → Holds (balancedPlan p k f) s
 data-held p k f w R s l a h = held-as _ (balancedPlan p k f) s (ap (λ (rs : List ℕ). rowSteps 0 rs ++ diagonalSteps p f 0 rs) (a .routes) ∙ sym (balanced-data p k f l)) h
 
-pub data-word : (p k f w : ℕ) (R : List ℕ) → f < k → RoutesAre p (balancedRoutes p f) R w → w ≡ balancedWord p k f
-data-word p k f w R l a = a .word ∙ sym (ap (λ (b : Bool). pick b (wordFrom 0 (balancedRoutes p f)) (routeWord p k f)) (lt-ltb f k l))
+pub balanced-word : (p k f w : ℕ) (R : List ℕ) → f < k → RoutesAre p (balancedRoutes p f) R w → w ≡ balancedWord p k f
+balanced-word p k f w R l a = a .word ∙ sym (ap (λ (b : Bool). pick b (wordFrom 0 (balancedRoutes p f)) (routeWord p k f)) (lt-ltb f k l))
 
 -- P and Q are ours
 pub parity-planned : (p k f : ℕ) (r : Planned) → k ≤ f → OurPlan p k f r → BalancedPlanned p k f r

@@ -23,7 +23,7 @@ use Rattle.planner.specs.declared.records.Steps.{Steps}
 use Rattle.planner.specs.StepRecords.{Holds, held}
 use Rattle.planner.proofs.HeldLaws.{held-is}
 use Rattle.planner.specs.declared.steps.Planned.{Planned}
-use Rattle.planner.specs.PlanStepsSays.{OurPlan, plannedSteps, PlannedSays, StepsRefused}
+use Rattle.planner.specs.PlanStepsSays.{OurPlan, plannedSteps}
 
 -- held steps, under another name
 pub held-as : (ss ts : List Step) (s : Steps) → ss ≡ ts → Holds ss s → Holds ts s
@@ -68,21 +68,3 @@ our-plan-is p k f w s r h e a = record { answer = a .0; steps = subst (λ (x : S
 
 pub planned-is : (p k f : ℕ) → planRefusal p k f ≡ 0 → plannedSteps p k f ≡ planOf p k f
 planned-is p k f z = sym (pick-done (planRefusal p k f) (planOf p k f) [] z)
-
--- an accepted call
-pub planned-says : (p k f : ℕ) (r : Planned) → planRefusal p k f ≡ 0 → OurPlan p k f r → PlannedSays p k f r
-planned-says p k f r z o =
-    record {
-      answer = answers-as 0 (planRefusal p k f) (r .answer) (sym z) (o .answer);
-      steps = held-as (planOf p k f) (plannedSteps p k f) (r .steps) (sym (planned-is p k f z)) (o .steps);
-      routes = o .routes ∙ pick-done (planRefusal p k f) (routeWord p k f) 0 z;
-    }
-
--- a refused call
-pub refusal-says : (p k f n : ℕ) (r : Planned) → n ≡ planRefusal p k f → (n ≡ 0 → ⊥) → StepsRefused n r → PlannedSays p k f r
-refusal-says p k f n r e z d =
-    record {
-      answer = answers-as n (planRefusal p k f) (r .answer) e (d .answer);
-      steps = held-as [] (plannedSteps p k f) (r .steps) (pick-refused n (planRefusal p k f) (planOf p k f) [] e z) (d .steps);
-      routes = d .routes ∙ pick-refused n (planRefusal p k f) (routeWord p k f) 0 e z;
-    }

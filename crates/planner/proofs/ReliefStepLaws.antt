@@ -10,7 +10,7 @@ use Rattle.planner.specs.RouteRecords.{RoutesAre}
 use Rattle.planner.specs.StepRecords.{Holds}
 use Rattle.planner.specs.declared.records.Steps.{Steps}
 
-pub plan-held : (p k f c w : ℕ) (R : List ℕ) (s : Steps) → f < k → RoutesAre p (reliefRoutes p f c) R w → Holds (rowSteps 0 (take p R) ++ diagonalSteps p f 0 (take p R)) s → Holds (reliefPlan p k f c) s
-plan-held p k f c w R s l a h =
+pub relief-steps-held : (p k f c w : ℕ) (R : List ℕ) (s : Steps) → f < k → RoutesAre p (reliefRoutes p f c) R w → Holds (rowSteps 0 (take p R) ++ diagonalSteps p f 0 (take p R)) s → Holds (reliefPlan p k f c) s
+relief-steps-held p k f c w R s l a h =
     let e : rowSteps 0 (take p R) ++ diagonalSteps p f 0 (take p R) ≡ reliefPlan p k f c = ap (λ (rs : List ℕ). rowSteps 0 rs ++ diagonalSteps p f 0 rs) (a .routes) ∙ sym (progression-data p k f (reliefStep p f c) l) in
     rw e at h

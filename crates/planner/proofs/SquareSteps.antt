@@ -1,5 +1,5 @@
 -- The rows with a diagonal after n squares, in an array of 31 places, and their word: one square
--- more sets one place and one bit. After (p - 1)/2 squares they are the routes of the balanced
+-- more sets one place and one bit. AfterSquares (p - 1)/2 squares they are the routes of the balanced
 -- plan.
 use mathlib.Core.Path.{_≡_, refl, sym, ap, ap₂, _∙_}
 use mathlib.Core.Bool.{Bool, true, false, _||_}
@@ -86,13 +86,13 @@ routes-set (suc m) n p a j (suc i) l w e =
     ap₂ (λ (b : Bool) (rs : List ℕ). pick (b || squareTo n p ((j + p - a) % p)) 2 1 ∷ rs) (sym (ne-eqb ((j + p - a) % p) (suc n * suc n % p) (λ q. omega (arith, row-there p a j (suc n * suc n) l (omega arith) q)))) (routes-set m n p a (suc j) i l (omega arith) (omega arith))
 
 -- after n squares the row is that of the last, and these are the routes and their word
-pub record After (p a n row : ℕ) (R : List ℕ) (w : ℕ) : Type 0 where
+pub record AfterSquares (p a n row : ℕ) (R : List ℕ) (w : ℕ) : Type 0 where
   pub few : n ≤ (p - 1) / 2
   pub at : row ≡ (a + n * n) % p
   pub are : RoutesAre p (squareRoutes p n p a 0) R w
 
-pub after-none : (p a : ℕ) → p ≤ 31 → a < p → After p a 0 a (replicate 31 1) 0
-after-none p a h l =
+pub squares-none : (p a : ℕ) → p ≤ 31 → a < p → AfterSquares p a 0 a (replicate 31 1) 0
+squares-none p a h l =
     let still : a + 0 * 0 ≡ a = omega arith in
     record {
       few = omega arith;
@@ -100,11 +100,11 @@ after-none p a h l =
       are = record { long = length-replicate {A = ℕ} 31 1; routes = take-replicate p 31 1 h ∙ routes-none p p a 0; word = sym (word-none p 0 p a 0) };
     }
 
-pub after-below : (p a n row w : ℕ) (R : List ℕ) → a < p → After p a n row R w → row < p
-after-below p a n row w R l u = omega (arith, u .at, mod-lt (a + n * n) {m = p} (omega arith))
+pub squares-below : (p a n row w : ℕ) (R : List ℕ) → a < p → AfterSquares p a n row R w → row < p
+squares-below p a n row w R l u = omega (arith, u .at, mod-lt (a + n * n) {m = p} (omega arith))
 
-pub after-next : (p a n row next w v : ℕ) (R : List ℕ) → a < p → n < (p - 1) / 2 → After p a n row R w → next ≡ (row + (2 * n + 1)) % p → v ≡ bitOr w (2 ^ next) → After p a (n + 1) next (set R next 2) v
-after-next p a n row next w v R l few u e q =
+pub squares-next : (p a n row next w v : ℕ) (R : List ℕ) → a < p → n < (p - 1) / 2 → AfterSquares p a n row R w → next ≡ (row + (2 * n + 1)) % p → v ≡ bitOr w (2 ^ next) → AfterSquares p a (n + 1) next (set R next 2) v
+squares-next p a n row next w v R l few u e q =
     record {
       few = omega arith;
       at = at;
@@ -124,8 +124,8 @@ after-next p a n row next w v R l few u e q =
     one-more : set (squareRoutes p n p a 0) next 2 ≡ squareRoutes p (n + 1) p a 0
     one-more = routes-set p n p a 0 next l (omega arith) (omega (arith, at, ap (λ (x : ℕ). (a + x * x) % p) (add-one n))) ∙ ap (λ (x : ℕ). squareRoutes p x p a 0) (sym (add-one n))
 
-pub after-all : (p a n row w : ℕ) (R : List ℕ) → (p - 1) / 2 ≤ n → After p a n row R w → RoutesAre p (squareRoutes p ((p - 1) / 2) p a 0) R w
-after-all p a n row w R h u =
+pub squares-all : (p a n row w : ℕ) (R : List ℕ) → (p - 1) / 2 ≤ n → AfterSquares p a n row R w → RoutesAre p (squareRoutes p ((p - 1) / 2) p a 0) R w
+squares-all p a n row w R h u =
     let e : n ≡ (p - 1) / 2 = omega (arith, u .few) in
     let all : squareRoutes p n p a 0 ≡ squareRoutes p ((p - 1) / 2) p a 0 = ap (λ (x : ℕ). squareRoutes p x p a 0) e in
     record { long = u .are .long; routes = u .are .routes ∙ all; word = u .are .word ∙ ap (wordFrom 0) all }

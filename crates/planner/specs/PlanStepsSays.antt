@@ -1,5 +1,5 @@
--- Our plan in a record, and the promise of the call that gives it without its read count, for
--- accepted and refused calls alike. p is the width, k the number of data disks, f the lost disk.
+-- Our plan in a record without its read count, and the steps and routes of a call that may be
+-- refused. p is the width, k the number of data disks, f the lost disk.
 use mathlib.Core.Path.{_≡_}
 use mathlib.Core.List.{List, []}
 use Prim.Native.Nat.{ℕ}
@@ -23,15 +23,3 @@ plannedSteps p k f = pick (eqb (planRefusal p k f) 0) (planOf p k f) []
 
 abbrev pub plannedRoutes : ℕ → ℕ → ℕ → ℕ
 plannedRoutes p k f = pick (eqb (planRefusal p k f) 0) (routeWord p k f) 0
-
--- our plan, its reads not counted
-pub record PlannedSays (p k f : ℕ) (r : Planned) : Type 0 where
-  pub answer : Answers (planRefusal p k f) (r .answer)
-  pub steps : Holds (plannedSteps p k f) (r .steps)
-  pub routes : r .routes ≡ plannedRoutes p k f
-
--- a refusal by number n
-pub record StepsRefused (n : ℕ) (r : Planned) : Type 0 where
-  pub answer : Answers n (r .answer)
-  pub steps : Holds [] (r .steps)
-  pub routes : r .routes ≡ 0

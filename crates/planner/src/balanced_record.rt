@@ -14,7 +14,7 @@ pub fn balanced_steps(width: usize, disks: usize, lost: usize) -> Planned
     ensures { λ r. ⌜ BalancedPlanned width disks lost r ⌝ }
 {
     if disks <= lost {
-        return steps::our_plan(width, disks, lost);
+        return steps::plan_steps(width, disks, lost);
     }
     let r = balanced_routes::balanced_routes(width, lost);
     let routes = r.routes;

@@ -59,7 +59,7 @@ pub fn mark_steps(width: usize, disks: usize, lost: usize, s: Steps, marks: &mut
 }
 
 // The plan record of an accepted plan: its reads are counted.
-pub fn finished(width: usize, disks: usize, lost: usize, p: Planned) -> Plan
+fn finished(width: usize, disks: usize, lost: usize, p: Planned) -> Plan
     requires { ⌜ InArray width disks × (lost ≤ disks + 1) × (accepted width disks lost (held width (p .steps)) ≡ true) ⌝ }
     ensures { λ r. ⌜ Finished width disks lost p r ⌝ }
 {
@@ -77,7 +77,7 @@ pub fn finished(width: usize, disks: usize, lost: usize, p: Planned) -> Plan
 }
 
 // A refusal of a planner: every other field is zero.
-pub fn refused_plan(refusal: u8) -> Plan
+fn refused_plan(refusal: u8) -> Plan
     ensures { λ r. ⌜ NoPlan refusal r ⌝ }
 {
     let steps = records::no_steps();
@@ -97,6 +97,6 @@ pub fn plan_disk(width: usize, disks: usize, lost: usize) -> Plan
     if refusal != 0 {
         return refused_plan(refusal);
     }
-    let p = steps::our_plan(width, disks, lost);
+    let p = steps::plan_steps(width, disks, lost);
     finished(width, disks, lost, p)
 }

@@ -4,6 +4,7 @@ ghost use lib.ListN.{length, replicate};
 ghost use Rattle.planner.specs.ReadListSays.{ListSays};
 use super::steps;
 use refusals::Answer;
+use refusals::numbers::BAD_LENGTH;
 
 // Every byte becomes 0.
 pub fn clear(list: &mut [u8])
@@ -25,10 +26,10 @@ pub fn read_list(width: usize, disks: usize, lost: usize, list: &mut [u8]) -> An
         return refusals::answered(refusal);
     }
     if list.len() != width * (disks + 2) {
-        return refusals::answered(5);
+        return refusals::answered(BAD_LENGTH);
     }
     clear(list);
-    let p = steps::our_plan(width, disks, lost);
+    let p = steps::plan_steps(width, disks, lost);
     let s = p.steps;
     super::mark_steps(width, disks, lost, s, list);
     refusals::answered(0)

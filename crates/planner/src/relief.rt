@@ -8,6 +8,8 @@ use super::Plan;
 use super::relief_record;
 use super::steps;
 use super::steps::Planned;
+use refusals::numbers::NO_SUCH_DISK;
+use refusals::numbers::SAME_DISK;
 
 // The refusal of the numbers of the call by 1, 13, 3 or 4, 0 for none.
 fn relief_refusal(width: usize, disks: usize, lost: usize, relieved: usize) -> u8
@@ -18,10 +20,10 @@ fn relief_refusal(width: usize, disks: usize, lost: usize, relieved: usize) -> u
         return refusal;
     }
     if disks <= relieved {
-        return 3;
+        return NO_SUCH_DISK;
     }
     if relieved == lost {
-        return 4;
+        return SAME_DISK;
     }
     0
 }
@@ -32,9 +34,9 @@ fn relief_steps(width: usize, disks: usize, lost: usize, relieved: usize) -> Pla
     ensures { λ r. ⌜ ReliefGiven width disks lost relieved r ⌝ }
 {
     if disks <= lost {
-        return steps::our_plan(width, disks, lost);
+        return steps::plan_steps(width, disks, lost);
     }
-    relief_record::relief_plan(width, disks, lost, relieved)
+    relief_record::relief_data_steps(width, disks, lost, relieved)
 }
 
 // The plan for a lost disk that asks as little of the relieved data disk as any plan can; for P and

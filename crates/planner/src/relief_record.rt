@@ -9,7 +9,7 @@ use super::steps::Planned;
 
 // The plan for a lost data disk of an array that is within its limits, relief another of its data
 // disks.
-pub fn relief_plan(width: usize, disks: usize, lost: usize, relieved: usize) -> Planned
+pub fn relief_data_steps(width: usize, disks: usize, lost: usize, relieved: usize) -> Planned
     requires { ⌜ InArray width disks × (lost < disks) × (relieved < disks) ⌝ }
     ensures { λ r. ⌜ ReliefPlanned width disks lost relieved r ⌝ }
 {

@@ -2,19 +2,13 @@
 // survivor. Row follows row by an addition, with the width subtracted where it is reached.
 ghost use mathlib.Core.Path.{_≡_};
 ghost use Prim.Native.Nat.{_+_, _≤_, _<_, _%_};
-ghost use Rattle.liberation.specs.Plans.{secondRow};
 ghost use Rattle.liberation.specs.relief_plan.Relief.{startRow, progressionRoutes, reliefStep, reliefRoutes};
 ghost use Rattle.planner.specs.RouteRecords.{RoutesAre};
 use super::routes;
+use super::routes::BY_DIAGONAL;
+use super::routes::BY_ROW;
 use super::routes::Routes;
-
-// The half of a row's number, round the width.
-pub fn half_of(width: usize, row: usize) -> usize
-    requires { ⌜ (width ≤ 31) × (row < width) ⌝ }
-    ensures { λ r. ⌜ r ≡ secondRow width row ⌝ }
-{
-    row * ((width + 1) / 2) % width
-}
+use parity_sets::MAX_WIDTH;
 
 // The row before the first with a diagonal: the half of disk - 1, round the width.
 fn start_row(width: usize, disk: usize) -> usize
@@ -25,32 +19,20 @@ fn start_row(width: usize, disk: usize) -> usize
     parity_sets::half_of(width, before)
 }
 
-// The row one step further, round the width.
-pub fn next_row(width: usize, row: usize, step: usize) -> usize
-    requires { ⌜ (width ≤ 31) × (row < width) × (step < width) ⌝ }
-    ensures { λ r. ⌜ r ≡ (row + step) % width ⌝ }
-{
-    let next = row + step;
-    if next < width {
-        return next;
-    }
-    next - width
-}
-
 // The routes of the progression plan with this step: half of the other rows take a diagonal, each a
 // step from the one before.
-pub fn progression_routes(width: usize, disk: usize, step: usize) -> Routes
+fn progression_routes(width: usize, disk: usize, step: usize) -> Routes
     requires { ⌜ (width ≤ 31) × (width % 2 ≡ 1) × (disk < width) × (step < width) ⌝ }
     ensures { λ r. ⌜ RoutesAre width (progressionRoutes width disk step) (r .routes) (r .word) ⌝ }
 {
     let half = (width - 1) >> 1;
-    let mut routes = [1u8; 31];
+    let mut routes = [BY_ROW; MAX_WIDTH];
     let mut word = 0u32;
     let mut row = start_row(width, disk);
     let mut taken = 0;
     while taken < half {
         row = parity_sets::row_on(width, row, step);
-        routes[row] = 2;
+        routes[row] = BY_DIAGONAL;
         word = routes::with_bit(word, row);
         taken += 1;
     }

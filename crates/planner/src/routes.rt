@@ -7,11 +7,20 @@ ghost use lib.ListN.{length, getD, take};
 ghost use lib.Bits.{bitOr};
 ghost use Rattle.liberation.specs.Plans.{firstRoutes, decided, turned, routes, wordFrom};
 ghost use Rattle.planner.specs.RouteRecords.{RoutesAre};
+use parity_sets::MAX_WIDTH;
 
-// A route for each row: 0 undecided, 1 its row set, 2 a diagonal; and the rows with a diagonal as a
-// word.
+// The route of a row that is not decided yet.
+pub const UNDECIDED: u8 = 0;
+
+// The route of a row that takes its row set.
+pub const BY_ROW: u8 = 1;
+
+// The route of a row that takes a diagonal.
+pub const BY_DIAGONAL: u8 = 2;
+
+// A route for each row, and the rows with a diagonal as a word.
 pub struct Routes {
-    pub routes: [u8; 31],
+    pub routes: [u8; MAX_WIDTH],
     pub word: u32,
 }
 
@@ -28,8 +37,8 @@ fn first_routes(width: usize, disk: usize) -> Routes
     requires { ⌜ (width ≤ 31) × (width % 2 ≡ 1) × (disk < width) ⌝ }
     ensures { λ r. ⌜ RoutesAre width (firstRoutes width disk) (r .routes) (r .word) ⌝ }
 {
-    let mut routes = [0u8; 31];
-    routes[disk] = 2;
+    let mut routes = [UNDECIDED; MAX_WIDTH];
+    routes[disk] = BY_DIAGONAL;
     let word = with_bit(0, disk);
     if disk == 0 {
         return Routes {
@@ -38,7 +47,7 @@ fn first_routes(width: usize, disk: usize) -> Routes
         };
     }
     let second = parity_sets::half_of(width, disk);
-    routes[second] = 2;
+    routes[second] = BY_DIAGONAL;
     Routes {
         routes: routes,
         word: with_bit(word, second),
@@ -47,30 +56,30 @@ fn first_routes(width: usize, disk: usize) -> Routes
 
 // An undecided row takes its row set if its partner is itself or has a diagonal, else a diagonal,
 // and its partner the row set. The new word is returned.
-fn decide(width: usize, disk: usize, row: usize, routes: &mut [u8; 31], word: u32) -> u32
+fn decide(width: usize, disk: usize, row: usize, routes: &mut [u8; MAX_WIDTH], word: u32) -> u32
     requires { ⌜ (width ≤ 31) × (disk < width) × (row < width) × (length (now routes) ≡ 31) × (word ≡ wordFrom 0 (take width (now routes))) × (getD (now routes) row 0 ≡ 0) ⌝ }
     ensures { λ r. ⌜ RoutesAre width (decided width disk row (take width (now (routes .entry)))) (now (routes .exit)) r ⌝ }
 {
     let partner = width - 1 - parity_sets::diagonal_of(width, disk, row);
     if partner == row {
-        routes[row] = 1;
+        routes[row] = BY_ROW;
         return word;
     }
-    if routes[partner] == 2 {
-        routes[row] = 1;
+    if routes[partner] == BY_DIAGONAL {
+        routes[row] = BY_ROW;
         return word;
     }
-    routes[row] = 2;
-    routes[partner] = 1;
+    routes[row] = BY_DIAGONAL;
+    routes[partner] = BY_ROW;
     with_bit(word, row)
 }
 
 // One turn of the planner: a decided row is skipped.
-fn turn(width: usize, disk: usize, row: usize, routes: &mut [u8; 31], word: u32) -> u32
+fn turn(width: usize, disk: usize, row: usize, routes: &mut [u8; MAX_WIDTH], word: u32) -> u32
     requires { ⌜ (width ≤ 31) × (disk < width) × (row < width) × (length (now routes) ≡ 31) × (word ≡ wordFrom 0 (take width (now routes))) ⌝ }
     ensures { λ r. ⌜ RoutesAre width (turned width disk row (take width (now (routes .entry)))) (now (routes .exit)) r ⌝ }
 {
-    if routes[row] == 0 {
+    if routes[row] == UNDECIDED {
         return decide(width, disk, row, routes, word);
     }
     word

@@ -4,8 +4,10 @@ ghost use mathlib.Core.Path.{_≡_};
 ghost use Prim.Native.Nat.{_+_, _-_, _^_, _≤_, _<_};
 ghost use Rattle.liberation.specs.Limits.{InArray};
 ghost use Rattle.refusals.specs.Answers.{Answers};
-ghost use Rattle.planner.specs.PlanStepsSays.{OurPlan, PlannedSays, StepsRefused};
+ghost use Rattle.planner.specs.PlanStepsSays.{OurPlan};
 use super::records;
+use super::records::DIAGONAL_KIND;
+use super::records::ROW_KIND;
 use super::records::Steps;
 use super::routes;
 use refusals::Answer;
@@ -37,8 +39,8 @@ fn all_bits(width: usize) -> u32
     (1u32 << width) - 1
 }
 
-// Our plan for a disk of an array that is within its limits.
-pub fn our_plan(width: usize, disks: usize, lost: usize) -> Planned
+// Our plan for a disk of an array that is within its limits, as its callers have tested.
+pub fn plan_steps(width: usize, disks: usize, lost: usize) -> Planned
     requires { ⌜ InArray width disks × (lost ≤ disks + 1) ⌝ }
     ensures { λ r. ⌜ OurPlan width disks lost r ⌝ }
 {
@@ -48,30 +50,7 @@ pub fn our_plan(width: usize, disks: usize, lost: usize) -> Planned
         return accepted_plan(records::data_steps(width, lost, routes), r.word);
     }
     if lost == disks {
-        return accepted_plan(records::all_steps(width, 0), 0);
+        return accepted_plan(records::all_steps(width, ROW_KIND), 0);
     }
-    accepted_plan(records::all_steps(width, 1), all_bits(width))
-}
-
-// A refusal of the planner: every other field is zero.
-fn refused_plan(refusal: u8) -> Planned
-    ensures { λ r. ⌜ StepsRefused refusal r ⌝ }
-{
-    let steps = records::no_steps();
-    Planned {
-        answer: refusals::answered(refusal),
-        steps: steps,
-        routes: 0,
-    }
-}
-
-// Our plan for a lost disk, its reads not counted. Refusals: 1, 13, 3.
-pub fn plan_steps(width: usize, disks: usize, lost: usize) -> Planned
-    ensures { λ r. ⌜ PlannedSays width disks lost r ⌝ }
-{
-    let refusal = refusals::plan_refusal(width, disks, lost);
-    if refusal != 0 {
-        return refused_plan(refusal);
-    }
-    our_plan(width, disks, lost)
+    accepted_plan(records::all_steps(width, DIAGONAL_KIND), all_bits(width))
 }

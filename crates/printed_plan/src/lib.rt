@@ -12,13 +12,19 @@ ghost use Rattle.text.specs.Writing.{Wrote};
 ghost use Rattle.printed_plan.specs.Text.{lineOf, newFrom, linesFrom, planText, refusedLine};
 ghost use Rattle.printed_plan.specs.Says.{TextIs, TextSays};
 use planner::Steps;
+use refusals::numbers::BAD_TEXT;
+
+// The refusal of an input, as it is printed.
+const BAD_INPUT: usize = BAD_TEXT as usize;
+
+// The bytes that a printed text has room for: a head line of 24 bytes and 31 lines of 14, which are
+// four numbers of two digits, four commas, a letter and LF. The longest text has 433.
+const TEXT_BYTES: usize = 458;
 
 // A printed text: its bytes, zeros after them, and how many they are.
-// There is room for a head line of 24 bytes and 31 lines of 14: four numbers of two digits, four
-// commas, a letter and LF. The longest text has 433.
 #[repr(C)]
 pub struct Text {
-    pub bytes: [u8; 458],
+    pub bytes: [u8; TEXT_BYTES],
     pub length: usize,
 }
 
@@ -35,9 +41,9 @@ fn put_line(
     requires { ⌜ (index < 100) × (row < 100) × (number < 100) × (new < 100) × (at + 14 ≤ length (now out)) ⌝ }
     ensures { λ r. ⌜ Wrote (now (out .entry)) (now (out .exit)) at r (lineOf index (step row kind number) new) ⌝ }
 {
-    let fields = text::put_field(out, at, index, 44);
-    let last = text::put_step(out, fields, row, kind, number, 44);
-    text::put_field(out, last, new, 10)
+    let fields = text::put_field(out, at, index, b',');
+    let last = text::put_step(out, fields, row, kind, number, b',');
+    text::put_field(out, last, new, b'\n')
 }
 
 // Puts the line of a refusal.
@@ -46,7 +52,7 @@ fn put_refusal(out: &mut [u8], at: usize, number: usize) -> usize
     ensures { λ r. ⌜ Wrote (now (out .entry)) (now (out .exit)) at r (refusedLine number) ⌝ }
 {
     let next = text::put(out, at, b"refused,");
-    text::put_field(out, next, number, 10)
+    text::put_field(out, next, number, b'\n')
 }
 
 // Puts the lines of a plan's steps. A cell that a step reads is marked, so that the next steps
@@ -89,10 +95,10 @@ fn put_plan(out: &mut [u8], at: usize, width: usize, disk: usize, steps: Steps) 
 }
 
 // A buffer with no text yet.
-fn no_text() -> [u8; 458]
+fn no_text() -> [u8; TEXT_BYTES]
     ensures { λ r. ⌜ r ≡ replicate 458 0 ⌝ }
 {
-    [0; 458]
+    [0; TEXT_BYTES]
 }
 
 // The text of a refusal.
@@ -128,7 +134,7 @@ pub fn plan_text(input: &[u8]) -> Text
     let width = input::first_value(input);
     let disk = input::second_value(input);
     if !input::is_form(input, width, disk) {
-        return refusal_text(12);
+        return refusal_text(BAD_INPUT);
     }
     let plan = planner::plan_disk(width, width, disk);
     let answer = plan.answer;

@@ -9,7 +9,14 @@ ghost use Rattle.liberation.specs.stripes.StripeLimits.{Sized};
 use planner::Steps;
 
 // The steps of our plan, in order: each solves the lost disk's ordinary cell of its set.
-fn follow(width: usize, disks: usize, size: usize, disk: usize, steps: Steps, stripe: &mut [u8])
+fn follow_within(
+    width: usize,
+    disks: usize,
+    size: usize,
+    disk: usize,
+    steps: Steps,
+    stripe: &mut [u8],
+)
     requires { ⌜ Sized width disks size (now stripe) ⌝ }
     requires { ⌜ (disk ≤ disks + 1) × Holds (planOf width disks disk) steps ⌝ }
     ensures { λ _. ⌜ now (stripe .exit) ≡ followed width disks size disk (planOf width disks disk) (now (stripe .entry)) ⌝ }
@@ -36,5 +43,5 @@ pub fn rebuild_within(width: usize, disks: usize, size: usize, disk: usize, stri
 {
     let plan = planner::plan_steps(width, disks, disk);
     let steps = plan.steps;
-    follow(width, disks, size, disk, steps, stripe);
+    follow_within(width, disks, size, disk, steps, stripe);
 }

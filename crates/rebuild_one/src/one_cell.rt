@@ -13,6 +13,7 @@ ghost use Rattle.liberation.specs.Limits.{InArray};
 ghost use Rattle.liberation.specs.Sets.{place, setOf, lostIn};
 ghost use Rattle.liberation.specs.stripes.Stripes.{withColumn, without, solved};
 ghost use Rattle.liberation.specs.stripes.StripeLimits.{Sized};
+use parity_sets::ROW_SET;
 
 // The row of the set's other cell on the lost disk, the width if there is none. Only a diagonal
 // whose extra cell is on that disk has two cells there, the extra one and an ordinary one: a
@@ -28,7 +29,7 @@ fn other_row(
     requires { ⌜ InArray width disks × (number < width) × (row < width) × (isIn row (lostIn width disk (setOf width disks kind number)) ≡ true) ⌝ }
     ensures { λ r. ⌜ without row (lostIn width disk (setOf width disks kind number)) ≡ pick (ltb r width) (r ∷ []) [] ⌝ }
 {
-    if kind == 0 {
+    if kind == ROW_SET {
         return width;
     }
     if number == 0 {

@@ -19,6 +19,7 @@ ghost use mathlib.Core.Path.{_≡_};
 ghost use Rattle.rebuild_runs.specs.Runs.{readRefusal, nextRefusal, skipRefusal, CanMove, movedBy, SkipSays};
 use refusals::Answer;
 use refusals::Shape;
+use refusals::numbers::NOT_NEXT;
 
 // A run: the shape of the array, the lost disk, how many stripes there are, which of them is next,
 // and how many before it were skipped.
@@ -40,7 +41,7 @@ pub struct RunAnswer {
 
 // The refusal of a record that is read, 0 for none: 1, 13, 2, 3, and 10 for more stripes skipped
 // than are past.
-pub fn read_refusal(run: Run) -> u8
+fn read_refusal(run: Run) -> u8
     ensures { λ r. ⌜ r ≡ readRefusal run ⌝ }
 {
     let s = run.shape;
@@ -48,21 +49,25 @@ pub fn read_refusal(run: Run) -> u8
     if refusal != 0 {
         return refusal;
     }
-    if run.next < run.skipped { 10 } else { 0 }
+    if run.next < run.skipped { NOT_NEXT } else { 0 }
 }
 
 // 10 for a stripe that is not the next one, 0 for that one.
-pub fn next_refusal(run: Run, which: u64) -> u8
+fn next_refusal(run: Run, which: u64) -> u8
     ensures { λ r. ⌜ r ≡ nextRefusal run which ⌝ }
 {
     if run.stripes <= run.next {
-        return 10;
+        return NOT_NEXT;
     }
-    if which != run.next as u64 { 10 } else { 0 }
+    if which != run.next as u64 {
+        NOT_NEXT
+    } else {
+        0
+    }
 }
 
 // The record moved on by one stripe, with `skips` more of them skipped.
-pub fn moved_on(run: Run, skips: u32) -> Run
+fn moved_on(run: Run, skips: u32) -> Run
     requires { ⌜ CanMove run skips ⌝ }
     ensures { λ r. ⌜ r ≡ movedBy run skips ⌝ }
 {

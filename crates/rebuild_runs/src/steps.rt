@@ -4,6 +4,7 @@ ghost use mathlib.Core.Path.{_≡_};
 ghost use Rattle.rebuild_runs.specs.StepSays.{stepLengthsRefusal, StepSays};
 use super::Run;
 use super::RunAnswer;
+use refusals::numbers::NOT_NEXT;
 
 // The refusal of a step for stripe `which` on a stripe and a column of these many bytes, 0 for
 // none.
@@ -16,7 +17,7 @@ fn step_refusal(run: Run, which: u64, stripe: usize, column: usize) -> u8
         return refusal;
     }
     if run.next < run.skipped {
-        return 10;
+        return NOT_NEXT;
     }
     super::next_refusal(run, which)
 }

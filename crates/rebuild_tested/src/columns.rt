@@ -9,6 +9,7 @@ ghost use Rattle.liberation.specs.stripes.Stripes.{followed, columnOf, rebuilt}
 ghost use Rattle.liberation.specs.stripes.StripeLimits.{Sized};
 ghost use Rattle.liberation.specs.scrub.Survivors.{fits};
 ghost use Rattle.rebuild_one.specs.RebuildOneSays.{oneRefusal};
+use parity_sets::ROW_SET;
 
 // A data disk or P by the row sets, as one run of bytes: the column becomes the XOR of the other
 // columns but Q's.
@@ -24,7 +25,7 @@ fn column_by_rows(
     ensures { λ _. ⌜ now (column .exit) ≡ columnOf width size disk (followed width disks size disk (allOf width 0 0) (now (stripe .entry))) ⌝ }
 {
     let mut at = stripe_cells::no_offsets();
-    let n = stripe_cells::push(width, size, 0, 0, 0, disk, &mut at, 0);
+    let n = stripe_cells::push(width, size, ROW_SET, 0, 0, disk, &mut at, 0);
     let m = stripe_cells::push_row(width, size, 0, disk + 1, disks + 1, &mut at, n);
     xor::gather_stretches(column, stripe, &at[..m]);
 }

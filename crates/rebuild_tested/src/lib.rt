@@ -11,6 +11,7 @@ ghost use Rattle.rebuild_one.specs.RebuildOneSays.{lengthsRefusal};
 ghost use Rattle.rebuild_tested.specs.Says.{TestedSays};
 use refusals::Answer;
 use refusals::Shape;
+use refusals::numbers::SURVIVORS_DISAGREE;
 
 // The refusal of a call on a stripe and a column of these many bytes, 0 for none. The survivors are
 // tested last, without a byte of the lost disk.
@@ -31,7 +32,7 @@ fn tested_refusal(
     if scrub::disk_fits(width, disks, size, disk, stripe) {
         return 0;
     }
-    19
+    SURVIVORS_DISAGREE
 }
 
 // Rebuilds one lost disk into the column, if some clean stripe has all surviving cells. Refusals:

@@ -33,21 +33,15 @@ fn goes_forward(width: usize, a: usize, b: usize) -> bool
     comes_to_one(width, b - a)
 }
 
-// Two data disks a < b, walked in the order in which the walk goes through: from sums, or to disk 0
-// from the first cell alone.
+// Two data disks a < b, walked in the order in which the walk goes through.
 pub fn solve_data(width: usize, disks: usize, size: usize, a: usize, b: usize, stripe: &mut [u8])
     requires { ⌜ Sized width disks size (now stripe) ⌝ }
     requires { ⌜ (a < b) × (b < disks) ⌝ }
     ensures { λ _. ⌜ now (stripe .exit) ≡ dataSolved width disks size a b (now (stripe .entry)) ⌝ }
 {
     if goes_forward(width, a, b) {
-        two_disk_walk::walk_sums(width, disks, size, a, b, stripe);
+        two_disk_walk::walk(width, disks, size, a, b, stripe);
         return;
     }
-    if 0 < a {
-        two_disk_walk::walk_sums(width, disks, size, b, a, stripe);
-        return;
-    }
-    two_disk_walk::start(width, disks, size, b, stripe);
-    two_disk_walk::walk_to_zero(width, disks, size, b, stripe);
+    two_disk_walk::walk(width, disks, size, b, a, stripe);
 }

@@ -14,6 +14,7 @@ ghost use Rattle.liberation.specs.stripes.Stripes.{stripeLong};
 ghost use Rattle.rebuild_two.specs.Says.{TwoSays};
 use refusals::Answer;
 use refusals::Shape;
+use refusals::numbers::SAME_DISK;
 
 // The refusal of a call on a stripe of `long` bytes, 0 for none.
 fn two_refusal(
@@ -35,7 +36,7 @@ fn two_refusal(
         return other;
     }
     if first == second {
-        return 4;
+        return SAME_DISK;
     }
     refusals::length_refusal(long, (disks + 2) * (width * size))
 }

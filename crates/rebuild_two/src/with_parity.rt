@@ -5,6 +5,7 @@ ghost use Prim.Native.Nat.{_≤_, _<_};
 ghost use Rattle.liberation.specs.stripes.Stripes.{followed};
 ghost use Rattle.liberation.specs.two_disks.Pairs.{upDiagonals, withRowParity, withDiagonalParity};
 ghost use Rattle.liberation.specs.stripes.StripeLimits.{Sized};
+use parity_sets::DIAGONAL_SET;
 
 // All cells of a data disk, rows upward, each by the diagonal set on which it is ordinary.
 fn up_diagonals(width: usize, disks: usize, size: usize, disk: usize, stripe: &mut [u8])
@@ -15,7 +16,7 @@ fn up_diagonals(width: usize, disks: usize, size: usize, disk: usize, stripe: &m
     let mut i = 0;
     while i < width {
         let number = parity_sets::diagonal_of(width, disk, i);
-        stripe_cells::solve(width, disks, size, 1, number, disk, i, stripe);
+        stripe_cells::solve(width, disks, size, DIAGONAL_SET, number, disk, i, stripe);
         i += 1;
     }
 }

@@ -1,10 +1,11 @@
 // What a call answers when it refuses, the shape of an array, and the tests of the numbers of a
 // call together, in the order of the refusals.
-mod numbers;
+mod limits;
+pub mod numbers;
 mod stripe;
 
-pub use numbers::disk_refusal;
-pub use numbers::length_refusal;
+pub use limits::disk_refusal;
+pub use limits::length_refusal;
 pub use stripe::stripe_refusal;
 ghost use mathlib.Core.Path.{_≡_};
 ghost use Rattle.liberation.specs.Sets.{arrayRefusal, planRefusal, shapeRefusal, numbersRefusal};
@@ -41,11 +42,11 @@ pub fn answered(refusal: u8) -> Answer
 pub fn array_refusal(width: usize, disks: usize) -> u8
     ensures { λ r. ⌜ r ≡ arrayRefusal width disks ⌝ }
 {
-    let first = numbers::width_refusal(width);
+    let first = limits::width_refusal(width);
     if first != 0 {
         return first;
     }
-    numbers::disks_refusal(width, disks)
+    limits::disks_refusal(width, disks)
 }
 
 // The refusal of the numbers of a call on plans by 1, 13 or 3, 0 for none.
@@ -56,7 +57,7 @@ pub fn plan_refusal(width: usize, disks: usize, disk: usize) -> u8
     if refusal != 0 {
         return refusal;
     }
-    numbers::disk_refusal(disks, disk)
+    limits::disk_refusal(disks, disk)
 }
 
 // The refusal of the numbers of a shape by 1, 13 or 2, 0 for none.
@@ -67,7 +68,7 @@ pub fn shape_refusal(width: usize, disks: usize, size: usize) -> u8
     if array != 0 {
         return array;
     }
-    numbers::size_refusal(size)
+    limits::size_refusal(size)
 }
 
 // The refusal of the numbers of a call on a disk's bytes by 1, 13, 2 or 3, 0 for none.
@@ -78,6 +79,6 @@ pub fn numbers_refusal(width: usize, disks: usize, size: usize, disk: usize) -> 
     if shape != 0 {
         return shape;
     }
-    let last = numbers::disk_refusal(disks, disk);
+    let last = limits::disk_refusal(disks, disk);
     last
 }

@@ -1,54 +1,47 @@
-// The tests of single numbers that calls have in common: width, data disks, size of a cell, disk,
-// length of a lent slice.
-ghost use mathlib.Core.Path.{_≡_};
-ghost use mathlib.Core.Bool.{not};
-ghost use lib.Dec.{eqb};
-ghost use Rattle.mathematics.specs.Choice.{when};
-ghost use Rattle.liberation.specs.Sets.{widthRefusal, disksRefusal, sizeRefusal, diskRefusal};
+// The refusal numbers of documents 01 and 02 by the names that the header gives them.
 
-// The refusal of a width: 0 for one of the ten, 1 for any other number.
-pub fn width_refusal(width: usize) -> u8
-    ensures { λ r. ⌜ r ≡ widthRefusal width ⌝ }
-{
-    match width {
-        3 | 5 | 7 | 11 | 13 | 17 | 19 | 23 | 29 | 31 => 0,
-        _ => 1,
-    }
-}
+pub const BAD_WIDTH: u8 = 1;
 
-// The refusal of a number of data disks: 13 for fewer than 2, or more than the width.
-pub fn disks_refusal(width: usize, disks: usize) -> u8
-    ensures { λ r. ⌜ r ≡ disksRefusal width disks ⌝ }
-{
-    if disks < 2 {
-        return 13;
-    }
-    if width < disks { 13 } else { 0 }
-}
+pub const BAD_CELL_SIZE: u8 = 2;
 
-// The refusal of a cell's size: 2 for 0 bytes or more than 4,096.
-pub fn size_refusal(size: usize) -> u8
-    ensures { λ r. ⌜ r ≡ sizeRefusal size ⌝ }
-{
-    if size == 0 {
-        return 2;
-    }
-    if 4096 < size { 2 } else { 0 }
-}
+pub const NO_SUCH_DISK: u8 = 3;
 
-// The refusal of a disk: 3 for a number past Q, which is the second after the data disks.
-pub fn disk_refusal(disks: usize, disk: usize) -> u8
-    ensures { λ r. ⌜ r ≡ diskRefusal disks disk ⌝ }
-{
-    if disk <= disks {
-        return 0;
-    }
-    if disk - disks == 1 { 0 } else { 3 }
-}
+pub const SAME_DISK: u8 = 4;
 
-// The refusal of a lent slice: 5 for another length than required.
-pub fn length_refusal(long: usize, required: usize) -> u8
-    ensures { λ r. ⌜ r ≡ when (not (eqb long required)) 5 ⌝ }
-{
-    if long == required { 0 } else { 5 }
-}
+pub const BAD_LENGTH: u8 = 5;
+
+pub const STEP_RANGE: u8 = 6;
+
+pub const STEP_SET: u8 = 7;
+
+pub const STEP_REPEATED: u8 = 8;
+
+pub const STEP_EARLY: u8 = 9;
+
+pub const NOT_NEXT: u8 = 10;
+
+pub const PACKAGE_TOO_LONG: u8 = 11;
+
+pub const BAD_TEXT: u8 = 12;
+
+pub const BAD_DISKS: u8 = 13;
+
+pub const TOO_MANY_FILES: u8 = 14;
+
+pub const NO_SUCH_ROW: u8 = 15;
+
+pub const BAD_RATE: u8 = 16;
+
+pub const TOO_MANY_BYTES: u8 = 17;
+
+pub const NO_SUCH_SERVER: u8 = 18;
+
+pub const SURVIVORS_DISAGREE: u8 = 19;
+
+pub const NO_SUCH_ARRAY: u8 = 20;
+
+pub const DISK_UNCHANGED: u8 = 21;
+
+pub const BAD_PLAN_TEXT: u8 = 22;
+
+pub const UNDETERMINED: u8 = 23;

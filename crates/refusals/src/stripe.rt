@@ -5,7 +5,7 @@ ghost use lib.Dec.{eqb};
 ghost use Rattle.mathematics.specs.Choice.{firstOf, when};
 ghost use Rattle.liberation.specs.Sets.{shapeRefusal};
 ghost use Rattle.liberation.specs.stripes.Stripes.{stripeLong};
-use super::numbers;
+use super::limits;
 
 // The refusal of a call on a stripe of `long` bytes, 0 for none.
 pub fn stripe_refusal(width: usize, disks: usize, size: usize, long: usize) -> u8
@@ -15,5 +15,5 @@ pub fn stripe_refusal(width: usize, disks: usize, size: usize, long: usize) -> u
     if refusal != 0 {
         return refusal;
     }
-    numbers::length_refusal(long, (disks + 2) * (width * size))
+    limits::length_refusal(long, (disks + 2) * (width * size))
 }

@@ -6,6 +6,7 @@ ghost use Rattle.mathematics.specs.Sums.{allTo};
 ghost use Rattle.liberation.specs.stripes.Stripes.{setClean, clean};
 ghost use Rattle.liberation.specs.stripes.StripeLimits.{Sized};
 ghost use Rattle.scrub.specs.CheckSays.{CheckSays};
+use parity_sets::DIAGONAL_SET;
 use refusals::Answer;
 use refusals::Shape;
 
@@ -40,7 +41,7 @@ fn diagonal_is_clean(
     ensures { λ r. ⌜ r ≡ setClean width disks size (now (stripe .entry)) 1 number ⌝ }
 {
     let none = disks + 2;
-    let n = stripe_cells::surviving(width, disks, size, 1, number, none, none, at);
+    let n = stripe_cells::surviving(width, disks, size, DIAGONAL_SET, number, none, none, at);
     xor_is_zero::is_zero(stripe, size, &at[..n])
 }
 

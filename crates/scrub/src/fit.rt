@@ -11,15 +11,20 @@ ghost use Rattle.xor.specs.Reach.{Reached};
 ghost use Rattle.liberation.specs.scrub.Survivors.{equationHolds, fits};
 ghost use Rattle.liberation.specs.stripes.StripeLimits.{Sized};
 use super::equations;
+use xor_is_zero::STRETCH;
+
+// From so many survivors on, stretches are faster.
+const MANY_SURVIVORS: usize = 12;
 
 // Is the XOR of the parts of n bytes zero? What is shorter than a stretch goes block by block at
 // once, and so do the few parts of an equation of a narrow array: a second pass over a stretch
-// takes longer.
+// takes longer. It repeats `xor_is_zero::is_zero` with its own number: a second caller keeps the
+// test by stretches a function, without which a check of short cells takes up to twice as long.
 fn is_zero(stripe: &[u8], n: usize, at: &[usize]) -> bool
     requires { ⌜ (n ≤ length (now stripe)) × Reached n (length (now stripe)) (now at) ⌝ }
     ensures { λ r. ⌜ r ≡ same (xorOffsets n (now (stripe .entry)) (now (at .entry))) (replicate n 0) ⌝ }
 {
-    if n < 2048 || at.len() < 12 {
+    if n < STRETCH || at.len() < MANY_SURVIVORS {
         return xor_is_zero::blocks_are_zero(stripe, n, at);
     }
     xor_is_zero::long_is_zero(stripe, n, at)

@@ -14,8 +14,16 @@ ghost use Rattle.scrub.specs.ScrubSays.{ScrubSays};
 use refusals::Answer;
 use refusals::Shape;
 
-// The answer, the verdict, 0 for a clean stripe, 1 for one inconsistent disk and 2 for more than
-// one, and that disk's number where the verdict is 1, else 0.
+// The verdict on a clean stripe.
+const CLEAN: u8 = 0;
+
+// The verdict where one disk is inconsistent with the others.
+const ONE_DISK: u8 = 1;
+
+// The verdict where more than one disk is.
+const MORE_THAN_ONE: u8 = 2;
+
+// The answer, the verdict, and the disk's number where one disk is inconsistent, else 0.
 #[repr(C)]
 pub struct Scrubbed {
     pub answer: Answer,
@@ -47,11 +55,11 @@ pub fn scrub_stripe(shape: Shape, stripe: &[u8]) -> Scrubbed
         return found(checked.answer.refusal, 0, 0);
     }
     if checked.clean {
-        return found(0, 0, 0);
+        return found(0, CLEAN, 0);
     }
     let disk = suspects::suspected(width, disks, size, stripe);
     if disk < disks + 2 {
-        return found(0, 1, disk);
+        return found(0, ONE_DISK, disk);
     }
-    found(0, 2, 0)
+    found(0, MORE_THAN_ONE, 0)
 }

@@ -5,6 +5,14 @@ ghost use Prim.Native.Nat.{_^_};
 ghost use lib.Dec.{ltb};
 ghost use Rattle.mathematics.specs.Sums.{total};
 ghost use Rattle.space.specs.Refusals.{spaceRefusal};
+use refusals::numbers::PACKAGE_TOO_LONG;
+use refusals::numbers::TOO_MANY_FILES;
+
+// The most files of a package.
+const MAX_FILES: usize = 4096;
+
+// The most bytes of a package, all files together.
+const MAX_PACKAGE: u64 = 1 << 48;
 
 // Do the lengths add up to more than 2^48? Each is compared with what is left of that, so no sum
 // wraps.
@@ -15,7 +23,7 @@ fn too_long(lengths: &[u64]) -> bool
     let mut i = 0;
     while i < lengths.len() {
         let bytes = lengths[i];
-        if 281474976710656 - seen < bytes {
+        if MAX_PACKAGE - seen < bytes {
             return true;
         }
         seen += bytes;
@@ -33,8 +41,12 @@ pub fn space_refusal(width: usize, disks: usize, size: usize, lengths: &[u64]) -
     if refusal != 0 {
         return refusal;
     }
-    if 4096 < lengths.len() {
-        return 14;
+    if MAX_FILES < lengths.len() {
+        return TOO_MANY_FILES;
     }
-    if too_long(lengths) { 11 } else { 0 }
+    if too_long(lengths) {
+        PACKAGE_TOO_LONG
+    } else {
+        0
+    }
 }

@@ -8,6 +8,7 @@ ghost use Rattle.stripe_cells.specs.Offsets.{scaled, Pushed};
 ghost use Rattle.stripe_cells.specs.OrdinaryCells.{survivors, ordinaryOf, Listing};
 ghost use Rattle.stripe_cells.specs.SetCells.{extraIn};
 use super::ordinary;
+use parity_sets::ROW_SET;
 
 // The offset of a set's extra cell, after the first `count` numbers, unless there is none or it is
 // on disk x or y; the new count.
@@ -25,7 +26,7 @@ fn push_extra(
     requires { ⌜ InArray width disks × (number < width) × (size ≤ 4096) × (count < length (now at)) ⌝ }
     ensures { λ r. ⌜ Pushed (now (at .entry)) (now (at .exit)) count r (scaled size (survivors width x y (extraIn width disks kind number))) ⌝ }
 {
-    if kind == 0 {
+    if kind == ROW_SET {
         return count;
     }
     if number == 0 {

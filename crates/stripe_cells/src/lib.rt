@@ -22,6 +22,8 @@ ghost use Rattle.liberation.specs.Plans.{allOf};
 ghost use Rattle.liberation.specs.stripes.Stripes.{solved, followed};
 ghost use Rattle.liberation.specs.stripes.StripeLimits.{Sized};
 ghost use Rattle.stripe_cells.specs.Cells.{Ordinary};
+use parity_sets::DIAGONAL_SET;
+use parity_sets::ROW_SET;
 
 // A set's ordinary cell, of this disk and row, becomes the XOR of the other cells of the set, by a
 // lent list.
@@ -70,7 +72,7 @@ pub fn solve_rows(width: usize, disks: usize, size: usize, disk: usize, stripe: 
     ensures { λ _. ⌜ now (stripe .exit) ≡ followed width disks size disk (allOf width 0 0) (now (stripe .entry)) ⌝ }
 {
     let mut at = offsets::no_offsets();
-    let n = offsets::push(width, size, 0, 0, 0, disk, &mut at, 0);
+    let n = offsets::push(width, size, ROW_SET, 0, 0, disk, &mut at, 0);
     let m = offsets::push_row(width, size, 0, disk + 1, disks + 1, &mut at, n);
     let column = width * size;
     xor_in_place::gather_lists(stripe, disk * column, column, &mut at[..m]);
@@ -84,7 +86,17 @@ pub fn solve_diagonals(width: usize, disks: usize, size: usize, stripe: &mut [u8
     let mut at = offsets::no_offsets();
     let mut i = 0;
     while i < width {
-        solve_by(width, disks, size, 1, i, disks + 1, i, stripe, &mut at);
+        solve_by(
+            width,
+            disks,
+            size,
+            DIAGONAL_SET,
+            i,
+            disks + 1,
+            i,
+            stripe,
+            &mut at,
+        );
         i += 1;
     }
 }

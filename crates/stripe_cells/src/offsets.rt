@@ -4,12 +4,14 @@ ghost use Prim.Native.Nat.{_-_, _≤_};
 ghost use lib.ListN.{length};
 ghost use Rattle.liberation.specs.Sets.{rowFrom, diagonalFrom};
 ghost use Rattle.stripe_cells.specs.Offsets.{scaled, cellsFrom, Room, Pushed};
+use parity_sets::MAX_COLUMNS;
+use parity_sets::ROW_SET;
 
 // A list with room for the cells of any set.
-pub fn no_offsets() -> [usize; 33]
+pub fn no_offsets() -> [usize; MAX_COLUMNS]
     ensures { λ r. ⌜ length r ≡ 33 ⌝ }
 {
-    [0; 33]
+    [0; MAX_COLUMNS]
 }
 
 // The offsets of the cells of row `number` on disks lo to hi - 1, after the first `count` numbers;
@@ -81,7 +83,7 @@ pub fn push(
     requires { ⌜ Room width size number lo hi count (length (now at)) × (hi ≤ width) ⌝ }
     ensures { λ r. ⌜ Pushed (now (at .entry)) (now (at .exit)) count r (scaled size (cellsFrom kind (hi - lo) width number lo)) ⌝ }
 {
-    if kind == 0 {
+    if kind == ROW_SET {
         return push_row(width, size, number, lo, hi, at, count);
     }
     push_diagonal(width, size, number, lo, hi, at, count)

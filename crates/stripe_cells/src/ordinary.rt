@@ -8,6 +8,7 @@ ghost use Rattle.liberation.specs.Sets.{place};
 ghost use Rattle.stripe_cells.specs.Offsets.{scaled, cellsFrom, Pushed};
 ghost use Rattle.stripe_cells.specs.OrdinaryCells.{survivors, ordinaryOf, parityDisk, Listing};
 use super::offsets;
+use parity_sets::ROW_SET;
 
 // The smaller one of two numbers.
 pub fn least(a: usize, b: usize) -> usize
@@ -21,7 +22,7 @@ fn parity_disk(disks: usize, kind: usize) -> usize
     requires { ⌜ disks ≤ 31 ⌝ }
     ensures { λ r. ⌜ r ≡ parityDisk disks kind ⌝ }
 {
-    if kind == 0 { disks } else { disks + 1 }
+    if kind == ROW_SET { disks } else { disks + 1 }
 }
 
 // The offset of a cell, after the first `count` numbers, unless the cell is on disk x or y; the new

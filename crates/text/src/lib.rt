@@ -13,7 +13,7 @@ ghost use Rattle.text.specs.Writing.{Wrote};
 ghost use Rattle.text.specs.Digits.{digitsOf};
 
 // Puts one byte.
-pub fn put_byte(out: &mut [u8], at: usize, byte: u8) -> usize
+fn put_byte(out: &mut [u8], at: usize, byte: u8) -> usize
     requires { ⌜ at < length (now out) ⌝ }
     ensures { λ r. ⌜ Wrote (now (out .entry)) (now (out .exit)) at r (byte ∷ []) ⌝ }
 {
@@ -35,15 +35,15 @@ pub fn put(out: &mut [u8], at: usize, text: &[u8]) -> usize
 }
 
 // Puts a number below 100 in decimal.
-pub fn put_number(out: &mut [u8], at: usize, n: usize) -> usize
+fn put_number(out: &mut [u8], at: usize, n: usize) -> usize
     requires { ⌜ (n < 100) × (at + 2 ≤ length (now out)) ⌝ }
     ensures { λ r. ⌜ Wrote (now (out .entry)) (now (out .exit)) at r (digitsOf n) ⌝ }
 {
     if n < 10 {
-        return put_byte(out, at, 48 + n as u8);
+        return put_byte(out, at, b'0' + n as u8);
     }
-    let next = put_byte(out, at, 48 + (n / 10) as u8);
-    put_byte(out, next, 48 + (n % 10) as u8)
+    let next = put_byte(out, at, b'0' + (n / 10) as u8);
+    put_byte(out, next, b'0' + (n % 10) as u8)
 }
 
 // The byte at a place, 0 past the end.
@@ -57,5 +57,9 @@ pub fn byte_at(text: &[u8], at: usize) -> u8
 pub fn digit(byte: u8) -> usize
     ensures { λ r. ⌜ r ≡ byte - 48 ⌝ }
 {
-    if byte < 48 { 0 } else { (byte - 48) as usize }
+    if byte < b'0' {
+        0
+    } else {
+        (byte - b'0') as usize
+    }
 }

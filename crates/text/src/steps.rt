@@ -40,7 +40,7 @@ pub fn put_step(
     requires { ⌜ (row < 100) × (number < 100) × (at + 8 ≤ length (now out)) ⌝ }
     ensures { λ r. ⌜ Wrote (now (out .entry)) (now (out .exit)) at r (stepFields row kind number stop) ⌝ }
 {
-    let second = put_field(out, at, row, 44);
+    let second = put_field(out, at, row, b',');
     let third = put_kind(out, second, kind);
     put_field(out, third, number, stop)
 }

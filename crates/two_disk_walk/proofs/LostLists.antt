@@ -14,7 +14,7 @@ use Rattle.liberation.proofs.SetLaws.{place-below}
 use Rattle.liberation.proofs.LostLaws.{extraOn, lost-row, lost-diagonal}
 use Rattle.liberation.specs.stripes.Steps.{cellStep}
 use Rattle.liberation.specs.two_disks_by_sums.Sums.{placed, lostCells, sumAdded}
-use Rattle.liberation.proofs.two_disks_by_sums.Adding.{lost-below}
+use Rattle.liberation.proofs.two_disks_by_sums.Adding.{placed-below}
 use Rattle.xor.specs.Parts.{withPart, xorOffsets}
 use Rattle.xor_in_place.specs.Beside.{Beside}
 use Rattle.stripe_cells.specs.Offsets.{scaled, cellsFrom, Pushed}
@@ -91,7 +91,7 @@ module _ (p k s x y : ℕ) (t old at : List ℕ) (q : Lost p k s x y t old) (roo
   add-beside =
       let set = setOf p k kind i in
       cells-beside s n (p * (k + 2)) old at (lostCells p x y set) t room pushed
-      (below-append (p * (k + 2)) (placed p x (lostIn p x set)) (placed p y (lostIn p y set)) (lost-below (k + 2) p x set (omega arith) (omega (arith, q .one))) (lost-below (k + 2) p y set (omega arith) (omega (arith, q .other))))
+      (below-append (p * (k + 2)) (placed p x (lostIn p x set)) (placed p y (lostIn p y set)) (placed-below (k + 2) p x set (omega arith) (omega (arith, q .one))) (placed-below (k + 2) p y set (omega arith) (omega (arith, q .other))))
       (q .sized .long ∙ omega arith) (place p r f) (place-below p (k + 2) r f row (omega arith))
 
   pub add-done : (u : List ℕ) → u ≡ withPart s (place p r f * s) (xorOffsets s t (take n at)) t → u ≡ sumAdded p k s x y (cellStep (place p r f) kind i) t

@@ -11,7 +11,9 @@ ghost use Rattle.stripe_cells.specs.Toggled.{toggledAll};
 ghost use Rattle.stripe_cells.specs.OrdinaryCells.{survivors};
 ghost use Rattle.liberation.specs.stripes.StripeLimits.{Sized};
 ghost use Rattle.two_disk_walk.specs.WalkDisks.{Walked};
-use super::numbers;
+use super::steps;
+use parity_sets::DIAGONAL_SET;
+use parity_sets::ROW_SET;
 
 // The marks of a set's cells on neither disk x nor disk 0 are toggled. Cells of one byte have their
 // places as offsets.
@@ -41,9 +43,9 @@ fn toggle_sets(width: usize, disks: usize, x: usize, row: usize, marks: &mut [u8
     let mut left = width;
     let mut on = row;
     while 0 < left {
-        toggle_set(width, disks, x, 0, on, marks, at);
+        toggle_set(width, disks, x, ROW_SET, on, marks, at);
         on = parity_sets::diagonal_of(width, x, on);
-        toggle_set(width, disks, x, 1, on, marks, at);
+        toggle_set(width, disks, x, DIAGONAL_SET, on, marks, at);
         left -= 1;
     }
 }
@@ -55,7 +57,7 @@ pub fn start(width: usize, disks: usize, size: usize, x: usize, stripe: &mut [u8
     requires { ⌜ Walked width disks x 0 ⌝ }
     ensures { λ _. ⌜ now (stripe .exit) ≡ started width disks size x 0 (now (stripe .entry)) ⌝ }
 {
-    let row = numbers::extra_row(width, x);
+    let row = steps::extra_row(width, x);
     let cells = width * (disks + 2);
     let mut marks = parity_sets::no_marks();
     let mut at = stripe_cells::no_offsets();

@@ -8,8 +8,8 @@ ghost use Rattle.liberation.specs.two_disks_by_sums.Sums.{startSteps, cellsOf, 
 ghost use Rattle.two_disk_walk.specs.WalkDisks.{Walked};
 ghost use Rattle.stripe_cells.specs.Offsets.{scaled, Pushed};
 ghost use Rattle.two_disk_walk.specs.SumDisks.{Lost};
-use super::numbers;
 use super::set_sums;
+use super::steps;
 
 // The offsets of the cells that the sets of `count` rows give, from this row on; their count.
 fn push_sums(
@@ -53,8 +53,8 @@ pub fn start_sums(
     ensures { λ _. ⌜ now (stripe .exit) ≡ sumStarted width disks size x y (now (stripe .entry)) ⌝ }
 {
     let count = (width - 1) >> 1;
-    let from = numbers::extra_row(width, y);
-    let row = numbers::extra_row(width, x);
+    let from = steps::extra_row(width, y);
+    let row = steps::extra_row(width, x);
     set_sums::sum_sets(count, width, disks, size, x, y, from, stripe, at);
     let n = push_sums(count, width, size, x, y, from, at);
     let to = (y * width + row) * size;

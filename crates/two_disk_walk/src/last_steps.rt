@@ -9,6 +9,8 @@ ghost use Rattle.liberation.specs.two_disks.PairSteps.{walkSteps};
 ghost use Rattle.liberation.specs.two_disks_by_sums.Sums.{addedAll};
 ghost use Rattle.two_disk_walk.specs.SumDisks.{Lost};
 use super::lost_cells;
+use parity_sets::DIAGONAL_SET;
+use parity_sets::ROW_SET;
 
 // The diagonal set and the row set of each of `count` rows after this row, added into the cells
 // that they give.
@@ -31,8 +33,20 @@ fn add_sets(
     while 0 < left {
         let number = parity_sets::diagonal_of(width, x, on);
         on = parity_sets::row_on(width, number, y);
-        lost_cells::add_set(width, disks, size, x, y, 1, number, y, on, stripe, at);
-        lost_cells::add_set(width, disks, size, x, y, 0, on, x, on, stripe, at);
+        lost_cells::add_set(
+            width,
+            disks,
+            size,
+            x,
+            y,
+            DIAGONAL_SET,
+            number,
+            y,
+            on,
+            stripe,
+            at,
+        );
+        lost_cells::add_set(width, disks, size, x, y, ROW_SET, on, x, on, stripe, at);
         left -= 1;
     }
 }
@@ -52,6 +66,6 @@ pub fn add_last(
     requires { ⌜ Lost width disks size x y (now stripe) (now at) × (row < width) ⌝ }
     ensures { λ _. ⌜ now (stripe .exit) ≡ addedAll width disks size x y (cellStep (place width row x) 0 row ∷ walkSteps count width x y row) (now (stripe .entry)) ⌝ }
 {
-    lost_cells::add_set(width, disks, size, x, y, 0, row, x, row, stripe, at);
+    lost_cells::add_set(width, disks, size, x, y, ROW_SET, row, x, row, stripe, at);
     add_sets(count, width, disks, size, x, y, row, stripe, at);
 }

@@ -4,11 +4,8 @@ mod first_cell;
 mod first_cell_by_sums;
 mod last_steps;
 mod lost_cells;
-mod numbers;
 mod set_sums;
 mod steps;
-mod walk;
+mod walks;
 
-pub use first_cell::start;
-pub use walk::walk_sums;
-pub use walk::walk_to_zero;
+pub use walks::walk;

@@ -7,6 +7,7 @@ ghost use Rattle.liberation.specs.stripes.Steps.{cellStep};
 ghost use Rattle.liberation.specs.two_disks_by_sums.Sums.{placed, sumAdded};
 ghost use Rattle.stripe_cells.specs.Offsets.{scaled, Pushed};
 ghost use Rattle.two_disk_walk.specs.SumDisks.{Lost};
+use parity_sets::ROW_SET;
 
 // The offsets of a set's cells on a lost disk, after the first `count` numbers; the new count.
 fn push_lost(
@@ -23,7 +24,7 @@ fn push_lost(
     ensures { λ r. ⌜ Pushed (now (at .entry)) (now (at .exit)) count r (scaled size (placed width disk (lostIn width disk (setOf width disks kind number)))) ⌝ }
 {
     let n = stripe_cells::push(width, size, kind, number, disk, disk + 1, at, count);
-    if kind == 0 {
+    if kind == ROW_SET {
         return n;
     }
     if number == 0 {

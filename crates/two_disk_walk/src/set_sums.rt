@@ -7,6 +7,8 @@ ghost use Rattle.liberation.specs.Sets.{place};
 ghost use Rattle.liberation.specs.stripes.Steps.{cellStep};
 ghost use Rattle.liberation.specs.two_disks_by_sums.Sums.{summed, summedAll, startSteps};
 ghost use Rattle.two_disk_walk.specs.SumDisks.{Lost};
+use parity_sets::DIAGONAL_SET;
+use parity_sets::ROW_SET;
 
 // A lost cell becomes the XOR of the surviving cells of a set.
 fn sum_set(
@@ -50,10 +52,22 @@ pub fn sum_sets(
     let mut left = count;
     let mut on = row;
     while 0 < left {
-        sum_set(width, disks, size, x, y, 0, on, x, on, stripe, at);
+        sum_set(width, disks, size, x, y, ROW_SET, on, x, on, stripe, at);
         let number = parity_sets::diagonal_of(width, x, on);
         let next = parity_sets::row_on(width, number, y);
-        sum_set(width, disks, size, x, y, 1, number, y, next, stripe, at);
+        sum_set(
+            width,
+            disks,
+            size,
+            x,
+            y,
+            DIAGONAL_SET,
+            number,
+            y,
+            next,
+            stripe,
+            at,
+        );
         on = next;
         left -= 1;
     }

@@ -9,6 +9,8 @@ ghost use Rattle.update.specs.Cells.{DataCell};
 ghost use Rattle.update.specs.Says.{updateLengthsRefusal, UpdateSays};
 use refusals::Answer;
 use refusals::Shape;
+use refusals::numbers::NO_SUCH_DISK;
+use refusals::numbers::NO_SUCH_ROW;
 
 // The new bytes of a data cell, with its parity cells: the cell takes the change, hands it on, then
 // takes the new bytes.
@@ -49,7 +51,7 @@ fn update_refusal(
         return shape;
     }
     if disks <= disk {
-        return 3;
+        return NO_SUCH_DISK;
     }
     let first = refusals::length_refusal(stripe, (disks + 2) * (width * size));
     if first != 0 {
@@ -59,7 +61,7 @@ fn update_refusal(
     if second != 0 {
         return second;
     }
-    if row < width { 0 } else { 15 }
+    if row < width { 0 } else { NO_SUCH_ROW }
 }
 
 // Puts new bytes into a data cell and keeps the XOR of every set. Refusals: 1, 13, 2, 3, 5, 15; a

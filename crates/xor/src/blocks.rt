@@ -5,17 +5,19 @@ ghost use Prim.Native.Nat.{_+_, _-_, _≤_};
 ghost use lib.ListN.{length, drop};
 ghost use Rattle.xor.specs.Parts.{withPart, xorOffsets};
 ghost use Rattle.xor.specs.Reach.{Reached};
+use super::BLOCK;
+use super::WIDE_BLOCK;
 use super::slices;
 
-// The 64 bytes of dst from b on = those of the XOR of the parts. The 64 is a literal at the call,
-// so that the compiler keeps the block in registers.
+// The 64 bytes of dst from b on = those of the XOR of the parts. The length is a constant at the
+// call, so that the compiler keeps the block in registers.
 pub fn put_block(dst: &mut [u8], t: &[u8], at: &[usize], b: usize)
     requires { ⌜ (b + 64 ≤ length (now dst)) × (b ≤ length (now t)) × Reached (length (now dst)) (length (now t)) (now at) ⌝ }
     ensures { λ _. ⌜ now (dst .exit) ≡ withPart 64 b (xorOffsets 64 (drop b (now (t .entry))) (now (at .entry))) (now (dst .entry)) ⌝ }
 {
-    let e = b + 64;
+    let e = b + BLOCK;
     let block = super::block_of(&t[b..], at);
-    slices::copy(&mut dst[b..e], &block[..64]);
+    slices::copy(&mut dst[b..e], &block[..BLOCK]);
 }
 
 // The same of 128 bytes.
@@ -23,9 +25,9 @@ pub fn put_wide_block(dst: &mut [u8], t: &[u8], at: &[usize], b: usize)
     requires { ⌜ (b + 128 ≤ length (now dst)) × (b ≤ length (now t)) × Reached (length (now dst)) (length (now t)) (now at) ⌝ }
     ensures { λ _. ⌜ now (dst .exit) ≡ withPart 128 b (xorOffsets 128 (drop b (now (t .entry))) (now (at .entry))) (now (dst .entry)) ⌝ }
 {
-    let e = b + 128;
+    let e = b + WIDE_BLOCK;
     let block = super::wide_block_of(&t[b..], at);
-    slices::copy(&mut dst[b..e], &block[..128]);
+    slices::copy(&mut dst[b..e], &block[..WIDE_BLOCK]);
 }
 
 // The bytes of dst from b on, at most 64, = those of the XOR of the parts.

@@ -5,6 +5,8 @@ ghost use Prim.Native.Nat.{_≤_};
 ghost use lib.ListN.{length};
 ghost use Rattle.xor.specs.Parts.{xorOffsets};
 ghost use Rattle.xor.specs.Reach.{Reached};
+use super::BLOCK;
+use super::WIDE_BLOCK;
 use super::blocks;
 use super::lists;
 
@@ -15,9 +17,9 @@ fn gather_small(dst: &mut [u8], t: &[u8], at: &[usize])
 {
     let n = dst.len();
     let mut b = 0;
-    while 64 <= n - b {
+    while BLOCK <= n - b {
         blocks::put_block(dst, t, at, b);
-        b += 64;
+        b += BLOCK;
     }
     if b < n {
         blocks::put_rest(dst, t, at, b);
@@ -31,9 +33,9 @@ fn gather_blocks(dst: &mut [u8], t: &[u8], at: &[usize])
 {
     let n = dst.len();
     let mut b = 0;
-    while 128 <= n - b {
+    while WIDE_BLOCK <= n - b {
         blocks::put_wide_block(dst, t, at, b);
-        b += 128;
+        b += WIDE_BLOCK;
     }
     gather_small(&mut dst[b..], &t[b..], at);
 }

@@ -19,6 +19,12 @@ ghost use Rattle.mathematics.specs.Xor.{xorL};
 ghost use Rattle.xor.specs.Parts.{part, addFour, xorOffsets};
 ghost use Rattle.xor.specs.Reach.{Reached};
 
+// The bytes of a block.
+pub const BLOCK: usize = 64;
+
+// The bytes of a wide block.
+pub const WIDE_BLOCK: usize = 128;
+
 // dst ^= the bytes of t from a.
 pub fn add_one(dst: &mut [u8], t: &[u8], a: usize)
     requires { ⌜ a + length (now dst) ≤ length (now t) ⌝ }
@@ -46,7 +52,7 @@ fn add_four(dst: &mut [u8], t: &[u8], a: usize, b: usize, c: usize, e: usize)
 }
 
 // dst ^= the parts of t at the offsets, four a pass.
-pub fn add_all(dst: &mut [u8], t: &[u8], at: &[usize])
+fn add_all(dst: &mut [u8], t: &[u8], at: &[usize])
     requires { ⌜ Reached (length (now dst)) (length (now t)) (now at) ⌝ }
     ensures { λ _. ⌜ now (dst .exit) ≡ xorL (now (dst .entry)) (xorOffsets (length (now (dst .entry))) (now (t .entry)) (now (at .entry))) ⌝ }
 {
@@ -63,41 +69,41 @@ pub fn add_all(dst: &mut [u8], t: &[u8], at: &[usize])
 }
 
 // A block of 64 zeros.
-fn no_block() -> [u8; 64]
+fn no_block() -> [u8; BLOCK]
     ensures { λ r. ⌜ r ≡ replicate 64 0 ⌝ }
 {
-    [0; 64]
+    [0; BLOCK]
 }
 
 // The XOR of the parts of 64 bytes of t at the offsets; it stays in registers.
-pub fn block_of(t: &[u8], at: &[usize]) -> [u8; 64]
+pub fn block_of(t: &[u8], at: &[usize]) -> [u8; BLOCK]
     requires { ⌜ Reached 64 (length (now t)) (now at) ⌝ }
     ensures { λ r. ⌜ r ≡ xorOffsets 64 (now (t .entry)) (now (at .entry)) ⌝ }
 {
     let mut block = no_block();
-    add_all(&mut block[..64], t, at);
+    add_all(&mut block[..BLOCK], t, at);
     block
 }
 
 // A block of 128 zeros.
-fn no_wide_block() -> [u8; 128]
+fn no_wide_block() -> [u8; WIDE_BLOCK]
     ensures { λ r. ⌜ r ≡ replicate 128 0 ⌝ }
 {
-    [0; 128]
+    [0; WIDE_BLOCK]
 }
 
 // The XOR of the parts of 128 bytes of t at the offsets; it stays in registers, too.
-pub fn wide_block_of(t: &[u8], at: &[usize]) -> [u8; 128]
+pub fn wide_block_of(t: &[u8], at: &[usize]) -> [u8; WIDE_BLOCK]
     requires { ⌜ Reached 128 (length (now t)) (now at) ⌝ }
     ensures { λ r. ⌜ r ≡ xorOffsets 128 (now (t .entry)) (now (at .entry)) ⌝ }
 {
     let mut block = no_wide_block();
-    add_all(&mut block[..128], t, at);
+    add_all(&mut block[..WIDE_BLOCK], t, at);
     block
 }
 
 // The XOR of the parts of m bytes, at most 64, in the first m of the block.
-pub fn rest_of(t: &[u8], at: &[usize], m: usize) -> [u8; 64]
+pub fn rest_of(t: &[u8], at: &[usize], m: usize) -> [u8; BLOCK]
     requires { ⌜ (m ≤ 64) × Reached m (length (now t)) (now at) ⌝ }
     ensures { λ r. ⌜ take m r ≡ xorOffsets m (now (t .entry)) (now (at .entry)) ⌝ }
 {

@@ -5,6 +5,8 @@ ghost use Prim.Native.Nat.{_+_, _≤_};
 ghost use lib.ListN.{length, drop};
 ghost use Rattle.xor.specs.Parts.{withPart, xorOffsets};
 ghost use Rattle.xor.specs.Reach.{Reached};
+use xor::BLOCK;
+use xor::WIDE_BLOCK;
 
 // The 64 bytes from d + b on = the XOR of those at b in the parts.
 pub fn put_block(t: &mut [u8], d: usize, at: &[usize], b: usize)
@@ -12,9 +14,9 @@ pub fn put_block(t: &mut [u8], d: usize, at: &[usize], b: usize)
     ensures { λ _. ⌜ now (t .exit) ≡ withPart 64 (d + b) (xorOffsets 64 (drop b (now (t .entry))) (now (at .entry))) (now (t .entry)) ⌝ }
 {
     let lo = d + b;
-    let hi = lo + 64;
+    let hi = lo + BLOCK;
     let block = xor::block_of(&t[b..], at);
-    xor::copy(&mut t[lo..hi], &block[..64]);
+    xor::copy(&mut t[lo..hi], &block[..BLOCK]);
 }
 
 // The same of 128 bytes.
@@ -23,9 +25,9 @@ pub fn put_wide_block(t: &mut [u8], d: usize, at: &[usize], b: usize)
     ensures { λ _. ⌜ now (t .exit) ≡ withPart 128 (d + b) (xorOffsets 128 (drop b (now (t .entry))) (now (at .entry))) (now (t .entry)) ⌝ }
 {
     let lo = d + b;
-    let hi = lo + 128;
+    let hi = lo + WIDE_BLOCK;
     let block = xor::wide_block_of(&t[b..], at);
-    xor::copy(&mut t[lo..hi], &block[..128]);
+    xor::copy(&mut t[lo..hi], &block[..WIDE_BLOCK]);
 }
 
 // The m bytes from d + b on, at most 64, = the XOR of those at b in the parts.

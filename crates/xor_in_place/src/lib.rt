@@ -8,6 +8,8 @@ ghost use mathlib.Core.Path.{_≡_};
 ghost use lib.ListN.{length};
 ghost use Rattle.xor.specs.Parts.{withPart, xorOffsets};
 ghost use Rattle.xor_in_place.specs.Beside.{Beside};
+use xor::BLOCK;
+use xor::WIDE_BLOCK;
 
 // The n bytes from d on = the XOR of the parts of n bytes at the offsets, in blocks of 64 bytes.
 fn gather_small(t: &mut [u8], d: usize, n: usize, at: &[usize])
@@ -15,9 +17,9 @@ fn gather_small(t: &mut [u8], d: usize, n: usize, at: &[usize])
     ensures { λ _. ⌜ now (t .exit) ≡ withPart n d (xorOffsets n (now (t .entry)) (now (at .entry))) (now (t .entry)) ⌝ }
 {
     let mut b = 0;
-    while 64 <= n - b {
+    while BLOCK <= n - b {
         blocks::put_block(t, d, at, b);
-        b += 64;
+        b += BLOCK;
     }
     if b < n {
         blocks::put_rest(t, d, at, b, n - b);
@@ -30,9 +32,9 @@ pub fn gather_within(t: &mut [u8], d: usize, n: usize, at: &[usize])
     ensures { λ _. ⌜ now (t .exit) ≡ withPart n d (xorOffsets n (now (t .entry)) (now (at .entry))) (now (t .entry)) ⌝ }
 {
     let mut b = 0;
-    while 128 <= n - b {
+    while WIDE_BLOCK <= n - b {
         blocks::put_wide_block(t, d, at, b);
-        b += 128;
+        b += WIDE_BLOCK;
     }
     gather_small(&mut t[b..], d, n - b, at);
 }

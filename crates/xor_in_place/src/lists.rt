@@ -7,6 +7,9 @@ ghost use Rattle.mathematics.specs.Xor.{xorL};
 ghost use Rattle.xor.specs.Parts.{part, withPart, xorOffsets};
 ghost use Rattle.xor_in_place.specs.Beside.{Apart};
 
+// How many offsets go into a list beside the destination: the cache keeps the lines of eight parts.
+const MORE: usize = 7;
+
 // The n bytes from d on ^= the parts at the offsets from index i on, in lists of at most eight: the
 // destination is a source of each, in place of an offset before i, or of one that is done.
 fn add_lists(t: &mut [u8], d: usize, n: usize, at: &mut [usize], from: usize)
@@ -17,7 +20,7 @@ fn add_lists(t: &mut [u8], d: usize, n: usize, at: &mut [usize], from: usize)
     let mut i = from;
     while i < count {
         let b = i - 1;
-        let e = xor::list_end(i, 7, count);
+        let e = xor::list_end(i, MORE, count);
         at[b] = d;
         super::gather_within(t, d, n, &at[b..e]);
         i = e;

@@ -5,6 +5,8 @@ ghost use lib.ListN.{length, replicate};
 ghost use Rattle.mathematics.specs.Lists.{same};
 ghost use Rattle.xor.specs.Parts.{xorOffsets};
 ghost use Rattle.xor.specs.Reach.{Reached};
+use xor::BLOCK;
+use xor::WIDE_BLOCK;
 
 // Is the XOR of the parts of 64 bytes zero?
 fn block_is_zero(t: &[u8], at: &[usize]) -> bool
@@ -12,7 +14,7 @@ fn block_is_zero(t: &[u8], at: &[usize]) -> bool
     ensures { λ r. ⌜ r ≡ same (xorOffsets 64 (now (t .entry)) (now (at .entry))) (replicate 64 0) ⌝ }
 {
     let block = xor::block_of(t, at);
-    xor::all_zero(&block[..64])
+    xor::all_zero(&block[..BLOCK])
 }
 
 // Is the XOR of the parts of 128 bytes zero?
@@ -21,7 +23,7 @@ fn wide_block_is_zero(t: &[u8], at: &[usize]) -> bool
     ensures { λ r. ⌜ r ≡ same (xorOffsets 128 (now (t .entry)) (now (at .entry))) (replicate 128 0) ⌝ }
 {
     let block = xor::wide_block_of(t, at);
-    xor::all_zero(&block[..128])
+    xor::all_zero(&block[..WIDE_BLOCK])
 }
 
 // Is the XOR of the parts of m bytes, at most 64, zero?
@@ -39,11 +41,11 @@ fn small_is_zero(t: &[u8], n: usize, at: &[usize]) -> bool
     ensures { λ r. ⌜ r ≡ same (xorOffsets n (now (t .entry)) (now (at .entry))) (replicate n 0) ⌝ }
 {
     let mut b = 0;
-    while 64 <= n - b {
+    while BLOCK <= n - b {
         if !block_is_zero(&t[b..], at) {
             return false;
         }
-        b += 64;
+        b += BLOCK;
     }
     if n == b {
         return true;
@@ -57,11 +59,11 @@ pub fn blocks_are_zero(t: &[u8], n: usize, at: &[usize]) -> bool
     ensures { λ r. ⌜ r ≡ same (xorOffsets n (now (t .entry)) (now (at .entry))) (replicate n 0) ⌝ }
 {
     let mut b = 0;
-    while 128 <= n - b {
+    while WIDE_BLOCK <= n - b {
         if !wide_block_is_zero(&t[b..], at) {
             return false;
         }
-        b += 128;
+        b += WIDE_BLOCK;
     }
     small_is_zero(&t[b..], n - b, at)
 }

@@ -11,11 +11,20 @@ ghost use Rattle.mathematics.specs.Lists.{same};
 ghost use Rattle.xor.specs.Parts.{xorOffsets};
 ghost use Rattle.xor.specs.Reach.{Reached};
 
+// The bytes of a stretch.
+pub const STRETCH: usize = 2048;
+
+// The bits of a number of bytes below a stretch.
+const BELOW_STRETCH: usize = STRETCH - 1;
+
+// From so many parts on, stretches are faster.
+const MANY_PARTS: usize = 10;
+
 // A stretch of zeros.
-fn no_stretch() -> [u8; 2048]
+fn no_stretch() -> [u8; STRETCH]
     ensures { λ r. ⌜ r ≡ replicate 2048 0 ⌝ }
 {
-    [0; 2048]
+    [0; STRETCH]
 }
 
 // Is the XOR of the parts of n bytes zero, n a number of stretches? One buffer serves for all of
@@ -27,10 +36,10 @@ fn stretches_are_zero(t: &[u8], n: usize, at: &[usize]) -> bool
     let mut stretch = no_stretch();
     let mut b = 0;
     while b < n {
-        if !one_stretch::stretch_is_zero(&mut stretch[..2048], &t[b..], at) {
+        if !one_stretch::stretch_is_zero(&mut stretch[..STRETCH], &t[b..], at) {
             return false;
         }
-        b += 2048;
+        b += STRETCH;
     }
     true
 }
@@ -39,7 +48,7 @@ fn stretches_are_zero(t: &[u8], n: usize, at: &[usize]) -> bool
 fn stretched(n: usize) -> usize
     ensures { λ r. ⌜ (r ≤ n) × (r % 2048 ≡ 0) ⌝ }
 {
-    n - (n & 2047)
+    n - (n & BELOW_STRETCH)
 }
 
 // Is the XOR of the parts of n bytes zero? The stretches, then what is left block by block.
@@ -60,7 +69,7 @@ pub fn is_zero(t: &[u8], n: usize, at: &[usize]) -> bool
     requires { ⌜ (n ≤ length (now t)) × Reached n (length (now t)) (now at) ⌝ }
     ensures { λ r. ⌜ r ≡ same (xorOffsets n (now (t .entry)) (now (at .entry))) (replicate n 0) ⌝ }
 {
-    if n < 2048 || at.len() < 10 {
+    if n < STRETCH || at.len() < MANY_PARTS {
         return blocks::blocks_are_zero(t, n, at);
     }
     long_is_zero(t, n, at)

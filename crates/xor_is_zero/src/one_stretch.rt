@@ -6,6 +6,11 @@ ghost use Rattle.mathematics.specs.Lists.{same};
 ghost use Rattle.mathematics.specs.Xor.{xorL};
 ghost use Rattle.xor.specs.Parts.{part, xorOffsets};
 ghost use Rattle.xor.specs.Reach.{Reached};
+use super::STRETCH;
+use xor::WIDE_BLOCK;
+
+// How many parts the cache keeps the lines of.
+const KEPT: usize = 8;
 
 // Is the XOR of the parts and of the stretch zero in the 128 bytes from b on?
 fn sum_block_is_zero(stretch: &[u8], t: &[u8], at: &[usize], b: usize) -> bool
@@ -13,8 +18,8 @@ fn sum_block_is_zero(stretch: &[u8], t: &[u8], at: &[usize], b: usize) -> bool
     ensures { λ r. ⌜ r ≡ same (xorL (xorOffsets 128 (drop b (now (t .entry))) (now (at .entry))) (part 128 b (now (stretch .entry)))) (replicate 128 0) ⌝ }
 {
     let mut block = xor::wide_block_of(&t[b..], at);
-    xor::add_one(&mut block[..128], stretch, b);
-    xor::all_zero(&block[..128])
+    xor::add_one(&mut block[..WIDE_BLOCK], stretch, b);
+    xor::all_zero(&block[..WIDE_BLOCK])
 }
 
 // Is the XOR of the parts and of the stretch zero?
@@ -23,11 +28,11 @@ fn sum_is_zero(stretch: &[u8], t: &[u8], at: &[usize]) -> bool
     ensures { λ r. ⌜ r ≡ same (xorL (xorOffsets 2048 (now (t .entry)) (now (at .entry))) (now (stretch .entry))) (replicate 2048 0) ⌝ }
 {
     let mut b = 0;
-    while b < 2048 {
+    while b < STRETCH {
         if !sum_block_is_zero(stretch, t, at, b) {
             return false;
         }
-        b += 128;
+        b += WIDE_BLOCK;
     }
     true
 }
@@ -37,7 +42,7 @@ fn sum_is_zero(stretch: &[u8], t: &[u8], at: &[usize]) -> bool
 fn gathered(parts: usize) -> usize
     ensures { λ r. ⌜ r ≤ parts ⌝ }
 {
-    if parts < 8 { 0 } else { parts - 8 }
+    if parts < KEPT { 0 } else { parts - KEPT }
 }
 
 // Is the XOR of the parts of 2,048 bytes zero? The first ones are gathered in the stretch; the

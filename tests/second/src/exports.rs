@@ -10,14 +10,14 @@ use crate::ffi::{
     RunAnswer, Scrubbed, Shape, Space, Text, Written,
 };
 use crate::groups::{
-    balanced_plan, billing, judge, plan, plan_files, plan_list, printed_plan, read_list,
-    rebuild_balanced, rebuild_by_plan, rebuild_cells, rebuild_one, rebuild_tested, rebuild_two,
-    relief_plan, runs, scrub, servers, space, states, stripes, update,
+    array_states, balanced_plan, billing, encode, judge, parity_server, plan_list, plan_texts,
+    planner, printed_plan, read_list, rebuild_balanced, rebuild_by_plan, rebuild_cells,
+    rebuild_one, rebuild_runs, rebuild_tested, rebuild_two, relief_plan, scrub, space, update,
 };
 
 #[no_mangle]
 pub extern "C" fn second_plan_disk(width: usize, disks: usize, lost: usize) -> Plan {
-    plan::model::plan_disk(width, disks, lost)
+    planner::model::plan_disk(width, disks, lost)
 }
 
 #[no_mangle]
@@ -94,7 +94,7 @@ pub unsafe extern "C" fn second_judge_text(
     text: *const u8,
     text_len: usize,
 ) -> Judged {
-    plan_files::model::judge_text((width, disks, lost), from_raw_parts(text, text_len))
+    plan_texts::model::judge_text((width, disks, lost), from_raw_parts(text, text_len))
 }
 
 /// # Safety
@@ -110,7 +110,7 @@ pub unsafe extern "C" fn second_write_plan(
     out_len: usize,
 ) -> Written {
     let (plan, out) = (from_raw_parts(plan, plan_len), from_raw_parts_mut(out, out_len));
-    plan_files::model::write_plan((width, disks, lost), plan, out)
+    plan_texts::model::write_plan((width, disks, lost), plan, out)
 }
 
 /// # Safety
@@ -126,7 +126,7 @@ pub unsafe extern "C" fn second_plain_text(
     out_len: usize,
 ) -> Written {
     let (text, out) = (from_raw_parts(text, text_len), from_raw_parts_mut(out, out_len));
-    plan_files::model::plain_text((width, disks, lost), text, out)
+    plan_texts::model::plain_text((width, disks, lost), text, out)
 }
 
 /// # Safety
@@ -149,7 +149,7 @@ pub unsafe extern "C" fn second_encode_stripe(
     stripe: *mut u8,
     stripe_len: usize,
 ) -> Answer {
-    stripes::model::encode_stripe(shape, from_raw_parts_mut(stripe, stripe_len))
+    encode::model::encode_stripe(shape, from_raw_parts_mut(stripe, stripe_len))
 }
 
 /// # Safety
@@ -160,7 +160,7 @@ pub unsafe extern "C" fn second_check_stripe(
     stripe: *const u8,
     stripe_len: usize,
 ) -> Checked {
-    stripes::model::check_stripe(shape, from_raw_parts(stripe, stripe_len))
+    encode::model::check_stripe(shape, from_raw_parts(stripe, stripe_len))
 }
 
 /// # Safety
@@ -289,7 +289,7 @@ pub unsafe extern "C" fn second_write_server(
     stripes: *mut u8,
     stripes_len: usize,
 ) -> Answer {
-    servers::model::write_server(shape, servers, from_raw_parts_mut(stripes, stripes_len))
+    parity_server::model::write_server(shape, servers, from_raw_parts_mut(stripes, stripes_len))
 }
 
 /// # Safety
@@ -306,12 +306,12 @@ pub unsafe extern "C" fn second_rebuild_server(
 ) -> Answer {
     let stripes = from_raw_parts_mut(stripes, stripes_len);
     let losses = from_raw_parts(losses, losses_len);
-    servers::model::rebuild_server(shape, servers, lost, stripes, losses)
+    parity_server::model::rebuild_server(shape, servers, lost, stripes, losses)
 }
 
 #[no_mangle]
 pub extern "C" fn second_open_run(shape: Shape, lost: usize, stripes: u32) -> RunAnswer {
-    runs::model::open_run(shape, lost, stripes)
+    rebuild_runs::model::open_run(shape, lost, stripes)
 }
 
 /// # Safety
@@ -326,31 +326,31 @@ pub unsafe extern "C" fn second_step_run(
     column_len: usize,
 ) -> Answer {
     let stripe = from_raw_parts(stripe, stripe_len);
-    runs::model::step_run(&mut *run, which, stripe, from_raw_parts_mut(column, column_len))
+    rebuild_runs::model::step_run(&mut *run, which, stripe, from_raw_parts_mut(column, column_len))
 }
 
 /// # Safety
 /// `run` is lent: see above.
 #[no_mangle]
 pub unsafe extern "C" fn second_skip_stripe(run: *mut Run, which: u64) -> Answer {
-    runs::model::skip_stripe(&mut *run, which)
+    rebuild_runs::model::skip_stripe(&mut *run, which)
 }
 
 /// # Safety
 /// `run` is lent: see above.
 #[no_mangle]
 pub unsafe extern "C" fn second_run_progress(run: *const Run) -> Progress {
-    runs::model::run_progress(&*run)
+    rebuild_runs::model::run_progress(&*run)
 }
 
 #[no_mangle]
 pub extern "C" fn second_resume_full_run(old: FullRun) -> Run {
-    runs::model::resume_full_run(old)
+    rebuild_runs::model::resume_full_run(old)
 }
 
 #[no_mangle]
 pub extern "C" fn second_resume_disks_run(old: DisksRun) -> Run {
-    runs::model::resume_disks_run(old)
+    rebuild_runs::model::resume_disks_run(old)
 }
 
 #[no_mangle]
@@ -373,5 +373,5 @@ pub unsafe extern "C" fn second_report_disk(
     disk: usize,
     back: bool,
 ) -> Board {
-    states::model::report_disk(from_raw_parts_mut(list, list_len), which, disk, back)
+    array_states::model::report_disk(from_raw_parts_mut(list, list_len), which, disk, back)
 }

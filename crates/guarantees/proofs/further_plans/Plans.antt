@@ -43,7 +43,7 @@ use Rattle.judge.specs.declared.all_steps.Judged.{Judged}
 use Rattle.judge.specs.JudgeSays.{JudgeSays}
 use Rattle.judge.proofs.AcceptLaws.{zero-accepts, accepts-zero, zero-counts, decided}
 use Rattle.host_plans.specs.PlanListSays.{listsRefusal, PlanListSays}
-use Rattle.host_plans.proofs.PlanListLaws.{passed}
+use Rattle.host_plans.proofs.PlanListLaws.{list-passed}
 use Rattle.guarantees.proofs.Plans.{OwnAccepted}
 use Rattle.guarantees.specs.further_plans.Counts.{onesOn, share}
 use Rattle.guarantees.proofs.further_plans.ListCounts.{ones-on, share-is}
@@ -142,7 +142,7 @@ pub record Written (p k f : ℕ) (bs o′ : List ℕ) : Type 0 where
 pub list-written : (p k f : ℕ) (bs o o′ : List ℕ) (a : Answer) → PlanListSays p k f bs o o′ a → a .refusal ≡ 0 → Written p k f bs o′
 list-written p k f bs o o′ a d z =
     let q = decided p k f (listsRefusal p k f bs o) bs (listOf p k f (stepsIn p bs)) o o′ a d z in
-    let w = passed p k f bs o (q .0) in
+    let w = list-passed p k f bs o (q .0) in
     record { array = w .array; disk = w .disk; long = w .plan; accepts = q .1; list = q .2 }
 
 -- Its ones are as many as the judge counts for the plan.

@@ -103,10 +103,6 @@ pub demand1 : Demand1
 demand1 =
     record {
       plan-disk = λ p k f r d. planned (plan p k f) p k f (planRefusal p k f) (planOf p k f) (routeWord p k f) r (plan-decides p k f) d;
-      plan-steps = λ p k f r d.
-          let n = planRefusal p k f in
-          let e = d .answer .refusal in
-          refuses (r .answer) (plan-decides p k f) (d .answer) (λ z. (no-steps (r .answer .refusal) n Holds (planOf p k f) [] (r .steps) e (d .steps) z, kept _ n _ _ _ e (d .routes) z));
       balanced-plan = λ p k f r d. planned (plan p k f) p k f (planRefusal p k f) (balancedPlan p k f) (balancedWord p k f) r (plan-decides p k f) d;
       relief-plan = λ p k f c r d. planned (reliefPlan p k f c) p k f (reliefRefusal p k f c) (reliefSteps p k f c) (reliefWord p k f c) r (relief-decides p k f c) d;
       plan-list = λ p k f bs o o′ r d. decided (plan p k f then (long (3 * p) bs then long (p * (k + 2)) o)) (listsRefusal p k f bs o) p k f (stepsIn p bs) _ o o′ r (lists-decide p k f bs o) d;

@@ -9,8 +9,6 @@ use mathlib.Core.List.{List, []}
 use Prim.Native.Nat.{ℕ}
 use Rattle.refusals.specs.declared.Answer.{Answer}
 use Rattle.planner.specs.StepRecords.{Holds}
-use Rattle.planner.specs.declared.steps.Planned.{Planned}
-use Rattle.planner.specs.PlanStepsSays.{PlannedSays}
 use Rattle.planner.specs.declared.Plan.{Plan}
 use Rattle.planner.specs.PlanSays.{PlanSays}
 use Rattle.planner.specs.ReadListSays.{ListSays}
@@ -71,7 +69,6 @@ NoBill x = (x .first ≡ 0) × (x .second ≡ 0) × (x .third ≡ 0) × (x .cent
 pub record Demand1 : Type 0 where
   -- plans
   pub plan-disk : (p k f : ℕ) (r : Plan) → PlanSays p k f r → Refuses (plan p k f) (Holds [] (r .steps) × (r .routes ≡ 0) × (r .reads ≡ 0)) (r .answer)
-  pub plan-steps : (p k f : ℕ) (r : Planned) → PlannedSays p k f r → Refuses (plan p k f) (Holds [] (r .steps) × (r .routes ≡ 0)) (r .answer)
   pub balanced-plan : (p k f : ℕ) (r : Plan) → BalancedSays p k f r → Refuses (plan p k f) (Holds [] (r .steps) × (r .routes ≡ 0) × (r .reads ≡ 0)) (r .answer)
   pub relief-plan : (p k f c : ℕ) (r : Plan) → ReliefSays p k f c r → Refuses (reliefPlan p k f c) (Holds [] (r .steps) × (r .routes ≡ 0) × (r .reads ≡ 0)) (r .answer)
   pub plan-list : (p k f : ℕ) (bs o o′ : List ℕ) (r : Answer) → PlanListSays p k f bs o o′ r → Refuses (planList p k f bs o) (o′ ≡ o) r

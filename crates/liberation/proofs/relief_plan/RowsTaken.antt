@@ -24,7 +24,7 @@ use Rattle.liberation.specs.Plans.{Step, diagonalOf}
 use Rattle.liberation.specs.Judging.{accepted}
 use Rattle.liberation.specs.Claims.{uses, diagonalsUsed, byExtra}
 use Rattle.liberation.proofs.SetLaws.{in-lost, in-diagonal-data, extra-cases, extra-once}
-use Rattle.liberation.proofs.AcceptedLaws.{Passes, accepted-passes, used-total, rebuilds, uses-rebuilds, rebuilt, row-once, row-number, diagonal-row, meets}
+use Rattle.liberation.proofs.AcceptedLaws.{Passes, accepted-passes, used-total, rebuilds, uses-rebuilds, rebuilt-passed, row-once, row-number, diagonal-row, meets}
 use Rattle.liberation.proofs.RowSteps.{ordinary-row, ordinary-diagonal}
 use Rattle.liberation.proofs.balanced_plan.Shares.{sum-above}
 use Rattle.liberation.proofs.relief_plan.FlagSums.{sum-full, sum-diagonals}
@@ -109,7 +109,7 @@ module _ (p f : ℕ) (odd : p % 2 ≡ 1) (h : f < p) (ss : List Step) (t : accep
   both-extra : (z : ℕ) → uses 1 z ss ≡ true → R ((z + f) % p) ≡ true → (extraDisk p z ≡ f) × (1 ≤ z) × (z < p) × (rebuilds (p - 1 - z) 1 z ss ≡ true)
   both-extra z u v =
       let w = uses-rebuilds 1 z ss u in
-      let g = rebuilt p p f (w .0) 1 z ok (w .1) .1 in
+      let g = rebuilt-passed p p f (w .0) 1 z ok (w .1) .1 in
       go (w .0) (w .1) (g .number-below)
       (or-cases (eqb (w .0) ((z + f) % p)) (leb 1 z && (eqb (w .0) (extraRow p z) && eqb f (extraDisk p z)))
       (sym (in-diagonal-data p z (w .0) f odd (g .row-below) (g .number-below) h) ∙ sym (in-lost p f (w .0) (diagonalSet p p z) (g .row-below)) ∙ g .lost))

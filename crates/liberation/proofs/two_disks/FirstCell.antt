@@ -35,13 +35,13 @@ use Rattle.liberation.proofs.two_disks.Roles.{Short, Roles, row-low}
 use Rattle.liberation.proofs.two_disks.StartLaws.{Cells, over-nil, from-zero, from-other}
 
 -- the cells of the start's sets are cells of the stripe
-pub start-below : (n p k x y r : ℕ) → r < p → allBelow (p * (k + 2)) (startSets n p k x y r) ≡ true
+pub start-sets-below : (n p k x y r : ℕ) → r < p → allBelow (p * (k + 2)) (startSets n p k x y r) ≡ true
 unfolding startSets
-start-below zero p k x y r h = refl
-start-below (suc n) p k x y r h =
+start-sets-below zero p k x y r h = refl
+start-sets-below (suc n) p k x y r h =
     let z = diagonalOf p x r in
     below-append (p * (k + 2)) (rowSet p k r) (diagonalSet p k z ++ startSets n p k x y (nextRow p x y r)) (set-below p k 0 r h)
-    (below-append (p * (k + 2)) (diagonalSet p k z) (startSets n p k x y (nextRow p x y r)) (set-below p k 1 z (mod-lt (r + p - x) (omega arith))) (start-below n p k x y (nextRow p x y r) (mod-lt (z + y) (omega arith))))
+    (below-append (p * (k + 2)) (diagonalSet p k z) (startSets n p k x y (nextRow p x y r)) (set-below p k 1 z (mod-lt (r + p - x) (omega arith))) (start-sets-below n p k x y (nextRow p x y r) (mod-lt (z + y) (omega arith))))
 
 module _ (p k s : ℕ) (t : List ℕ) (stripe : isStripe p k s t ≡ true) where
   -- a disk's cells
@@ -57,7 +57,7 @@ module _ (p k s : ℕ) (t : List ℕ) (stripe : isStripe p k s t ≡ true) where
   over-next n x y r h =
       let z = diagonalOf p x r in
       let rest = startSets n p k x y (nextRow p x y r) in
-      let b : allBelow (p * (k + 2)) rest ≡ true = start-below n p k x y (nextRow p x y r) (mod-lt (z + y) (omega arith)) in
+      let b : allBelow (p * (k + 2)) rest ≡ true = start-sets-below n p k x y (nextRow p x y r) (mod-lt (z + y) (omega arith)) in
       over-append s (cellAt s t) (rowSet p k r) (diagonalSet p k z ++ rest) (sets-long (diagonalSet p k z ++ rest) (below-append (p * (k + 2)) (diagonalSet p k z) rest (set-below p k 1 z (mod-lt (r + p - x) (omega arith))) b))
       ∙ ap (xorL (xorOver s (cellAt s t) (rowSet p k r))) (over-append s (cellAt s t) (diagonalSet p k z) rest (sets-long rest b))
 
@@ -94,7 +94,7 @@ module _ (p k s : ℕ) (t : List ℕ) (stripe : isStripe p k s t ≡ true) where
       let r2 = nextRow p x y r in
       let r2-lt : r2 < p = mod-lt (z + y) (omega arith) in
       let rest = startSets (suc n) p k x y r2 in
-      let long : length (xorOver s (cellAt s t) rest) ≡ s = over-long s (cellAt s t) rest (sets-long rest (start-below (suc n) p k x y r2 r2-lt)) in
+      let long : length (xorOver s (cellAt s t) rest) ≡ s = over-long s (cellAt s t) rest (sets-long rest (start-sets-below (suc n) p k x y r2 r2-lt)) in
       over-next (suc n) x y r h
       ∙ ap₂ xorL (rows r h)
       (ap (λ (c : List ℕ). xorL c (xorOver s (cellAt s t) rest)) (ap (λ (i : ℕ). xorOver s (cellAt s t) (diagonalSet p k (diagonalOf p x i))) (sym (after-zero p x y r)) ∙ diagonals 0 (omega arith))
@@ -108,7 +108,7 @@ pub start-survives : (p k x y c : ℕ) → extraRowOn p (firstDisk x y) < p → 
 unfolding startCells
 start-survives p k x y c h m = (
   ap₂ _||_ (not-true (eqb (diskAt p c) x) (and-l (not (eqb (diskAt p c) x)) (isIn c (survivingIn p y sets)) first)) (not-true (eqb (diskAt p c) y) (and-l (not (eqb (diskAt p c) y)) (isIn c sets) second)),
-  in-below (p * (k + 2)) c sets (start-below (startCount p y) p k x y (extraRowOn p (firstDisk x y)) h) (and-r (not (eqb (diskAt p c) y)) (isIn c sets) second),
+  in-below (p * (k + 2)) c sets (start-sets-below (startCount p y) p k x y (extraRowOn p (firstDisk x y)) h) (and-r (not (eqb (diskAt p c) y)) (isIn c sets) second),
 )
   where
     sets : List ℕ

@@ -30,7 +30,7 @@ use Rattle.liberation.proofs.LostLaws.{extraOn, extraRows, extra-on, ex
 use Rattle.liberation.specs.stripes.Stripes.{xorOver}
 use Rattle.liberation.proofs.stripes.OverLaws.{Long, over-long, over-bytes, over-append}
 use Rattle.liberation.specs.two_disks.Pairs.{nextRow, startSets}
-use Rattle.liberation.proofs.two_disks.WalkRows.{rowAfter, after-zero, after-next, after-lt, comes-to, comes-once, comes-round, meets, back, met, not-met}
+use Rattle.liberation.proofs.two_disks.WalkRows.{rowAfter, after-zero, after-next, after-lt, comes-to, comes-once, comes-round, extraMeets, back, met, not-met}
 use Rattle.liberation.proofs.two_disks.Roles.{Short, Roles, row-low}
 
 -- cells of s bytes, one for each row
@@ -146,16 +146,16 @@ module _ (s p k x y : ℕ) (h : ℕ → List ℕ) (cells : Cells s p h) (hx : x 
 -- which extra cells the start meets, by the rows that it comes to
 module _ (p x y : ℕ) (ok : Prime p) (odd : p % 2 ≡ 1) (x-high : x < p) (y-high : y < p) (apart : x ≡ y → ⊥) (c : ℕ) (c-low : 1 ≤ c) (c-high : c < p) (n r : ℕ) (r-lt : r < p) where
   -- the diagonal of a row has its extra cell on c exactly if it is the row that meets says
-  at-row : (j : ℕ) → extraOn p (diagonalOf p x (rowAfter j p x y r)) c ≡ true → rowAfter j p x y r ≡ meets p x c
+  at-row : (j : ℕ) → extraOn p (diagonalOf p x (rowAfter j p x y r)) c ≡ true → rowAfter j p x y r ≡ extraMeets p x c
   at-row j t =
       let z = diagonalOf p x (rowAfter j p x y r) in
       let z-lt : z < p = mod-lt (rowAfter j p x y r + p - x) (omega arith) in
       sym (ordinary-row p x (rowAfter j p x y r) x-high (after-lt j p x y r r-lt)) ∙ ap (λ (i : ℕ). (i + x) % p) (eqb-true z (p - secondRow p c) (sym (extra-on p c odd c-low c-high z z-lt) ∙ t))
 
-  unmet : ((j : ℕ) → j < n → rowAfter j p x y r ≡ meets p x c → ⊥) → extrasIn n p x y c r ≡ []
+  unmet : ((j : ℕ) → j < n → rowAfter j p x y r ≡ extraMeets p x c → ⊥) → extrasIn n p x y c r ≡ []
   unmet never = extras-none n p x y c r (λ j l. ⊎-elim (λ t. absurd (never j l (at-row j t))) (λ t. t) (flag (extraOn p (diagonalOf p x (rowAfter j p x y r)) c)))
 
-  met-once : (m : ℕ) → m < n → n ≤ p → rowAfter m p x y r ≡ meets p x c → extrasIn n p x y c r ≡ extraRowOn p c ∷ []
+  met-once : (m : ℕ) → m < n → n ≤ p → rowAfter m p x y r ≡ extraMeets p x c → extrasIn n p x y c r ≡ extraRowOn p c ∷ []
   met-once m l b e =
       extras-one n m p x y c r l here (λ j i q. ⊎-elim (λ t. absurd (q (comes-once p x y ok x-high y-high apart r j m r-lt (omega arith) (omega arith) (at-row j t ∙ sym e)))) (λ t. t) (flag (extraOn p (diagonalOf p x (rowAfter j p x y r)) c)))
       ∙ ap (λ (i : ℕ). i ∷ []) (extra-row p c odd c-low c-high z z-lt here)
@@ -188,7 +188,7 @@ module _ (s p k x y : ℕ) (ok : Prime p) (odd : p % 2 ≡ 1) (g : Roles p x y) 
 
       first : xorOver s cx (lostIn p x (startSets p p k x y ex)) ≡ cx ex
       first =
-          let w = comes-to p x y ok (g .x-high) (g .y-high) (g .apart) ex (meets p x x) ex-lt (mod-lt (p - secondRow p x + x) pos) in
+          let w = comes-to p x y ok (g .x-high) (g .y-high) (g .apart) ex (extraMeets p x x) ex-lt (mod-lt (p - secondRow p x + x) pos) in
           on-x s p k x y cx on-first hx hy (g .x-high) p ex ex-lt
           ∙ ap (xorOver s cx) (met-once p x y ok odd (g .x-high) (g .y-high) (g .apart) x (g .x-low) (g .x-high) p ex ex-lt (w .0) (w .1) (omega arith) (w .2))
           ∙ over-one s cx ex (on-first .long ex ex-lt) (on-first .bytes ex ex-lt)

@@ -97,10 +97,10 @@ second-twice : (p c : ℕ) → p % 2 ≡ 1 → c < p → 2 * secondRow p c % p �
 second-twice p c odd h = ⊎-elim (λ e. ap (λ (n : ℕ). n % p) e) (λ e. ap (λ (n : ℕ). n % p) e ∙ add-mod-right c p) (second-row p c odd h)
 
 -- the row of disk x on the diagonal whose extra cell is on c
-abbrev pub meets : ℕ → ℕ → ℕ → ℕ
-meets p x c = (p - secondRow p c + x) % p
+abbrev pub extraMeets : ℕ → ℕ → ℕ → ℕ
+extraMeets p x c = (p - secondRow p c + x) % p
 
-pub meets-own : (p x : ℕ) → p % 2 ≡ 1 → 1 ≤ x → x < p → meets p x x ≡ secondRow p x
+pub meets-own : (p x : ℕ) → p % 2 ≡ 1 → 1 ≤ x → x < p → extraMeets p x x ≡ secondRow p x
 meets-own p x odd h l =
     let r = second-range p x odd h l in
     ⊎-elim
@@ -176,7 +176,7 @@ module _ (p x y : ℕ) (ok : Prime p) (odd : p % 2 ≡ 1) (x-low : 1 ≤ x) (x-h
   -- m the inverse of d
   module _ (m : ℕ) (m-low : 1 ≤ m) (m-high : 2 * m < p) (inv : diagonalOf p x y * m % p ≡ 1) where
     -- on the way back the diagonal whose extra cell is on y is met after m - 1 turns
-    pub met : rowAfter (m - 1) p x y (extraRowOn p y) ≡ meets p x y
+    pub met : rowAfter (m - 1) p x y (extraRowOn p y) ≡ extraMeets p x y
     unfolding d ey
     met = after-by (m - 1) p x y ey (omega arith) ey-lt ∙ add-cancel p (d + 1 + gy) (ey + d * (m - 1)) (p - gy + x) (omega arith) raised
       where
@@ -197,7 +197,7 @@ module _ (p x y : ℕ) (ok : Prime p) (odd : p % 2 ≡ 1) (x-low : 1 ≤ x) (x-h
             ∙ ap (λ (n : ℕ). n % p) b
 
     -- and the one whose extra cell is on x is not met
-    pub not-met : (j : ℕ) → 2 * j + 1 < p → rowAfter j p x y (extraRowOn p y) ≡ meets p x x → ⊥
+    pub not-met : (j : ℕ) → 2 * j + 1 < p → rowAfter j p x y (extraRowOn p y) ≡ extraMeets p x x → ⊥
     unfolding d ey
     not-met j l e = parity (small-eq p (1 + 2 * j) (2 * m) (omega arith) m-high (cancel p ok d (1 + 2 * j) (2 * m) (g .0) (g .1) equal))
       where

@@ -56,10 +56,10 @@ fresh-lost p x y c done h = go (isLost p x y c) h
     go true e = refl
     go false e = absurd (false≢true (sym e))
 
-pub lost-below : (n p f : ℕ) (xs : List ℕ) → 0 < p → f < n → allBelow (p * n) (placed p f (lostIn p f xs)) ≡ true
+pub placed-below : (n p f : ℕ) (xs : List ℕ) → 0 < p → f < n → allBelow (p * n) (placed p f (lostIn p f xs)) ≡ true
 unfolding lostIn placed
-lost-below n p f [] z h = refl
-lost-below n p f (c ∷ cs) z h = go (eqb (diskAt p c) f) (lost-below n p f cs z h)
+placed-below n p f [] z h = refl
+placed-below n p f (c ∷ cs) z h = go (eqb (diskAt p c) f) (placed-below n p f cs z h)
   where
     go : (b : Bool) → allBelow (p * n) (placed p f (lostIn p f cs)) ≡ true → allBelow (p * n) (placed p f (pick b (rowAt p c ∷ lostIn p f cs) (lostIn p f cs))) ≡ true
     go true e = and-i (ltb (place p (rowAt p c) f) (p * n)) (allBelow (p * n) (placed p f (lostIn p f cs))) (lt-ltb (place p (rowAt p c) f) (p * n) (place-below p n (rowAt p c) f (mod-lt c z) h)) e
@@ -118,7 +118,7 @@ module _ (p k s x y : ℕ) (apart : x ≡ y → ⊥) (hx : x < k + 2) (hy : y < 
         both = xorL on-x on-y
 
         on-long : (f : ℕ) → f < k + 2 → Long s g (placed p f (lostIn p f set))
-        on-long f h = cells-long (p * (k + 2)) s (placed p f (lostIn p f set)) t (stripe-long p k s t stripe) (lost-below (k + 2) p f set (omega arith) h)
+        on-long f h = cells-long (p * (k + 2)) s (placed p f (lostIn p f set)) t (stripe-long p k s t stripe) (placed-below (k + 2) p f set (omega arith) h)
 
         both-long : length both ≡ s
         both-long =

@@ -34,9 +34,9 @@ use Rattle.liberation.proofs.two_disks.ParityPairs.{steps-append}
 use Rattle.liberation.proofs.two_disks.WalkRows.{rowAfter, after-suc, there, back}
 use Rattle.liberation.proofs.two_disks.Roles.{Roles, row-low}
 use Rattle.liberation.proofs.two_disks.WalkLaws.{data-standing}
-use Rattle.liberation.proofs.two_disks.FirstCell.{start-below, started-stripe, started-other}
+use Rattle.liberation.proofs.two_disks.FirstCell.{start-sets-below, started-stripe, started-other}
 use Rattle.liberation.proofs.two_disks.Restoring.{Restores, walked-steps, walked-restores}
-use Rattle.liberation.specs.two_disks_by_sums.Sums.{survivorsOf, summed, summedAll, addedAll, startSteps, lastSteps, cellsOf, sumSteps, firstAdded, sumWalked}
+use Rattle.liberation.specs.two_disks_by_sums.Sums.{survivorsOf, summed, summedAll, addedAll, startSteps, lastSteps, cellsOf, sumSteps, firstAdded, sumStarted, sumWalked, rowsAndOne, solvedSteps, addedSteps}
 use Rattle.liberation.proofs.two_disks_by_sums.Adding.{survivor-off, Prepared, bare, more, prepared-off, prepared-steps, steps-add, standing-tail, standing-head, in-after, sums-stripe, sums-kept, sums-prepared, sum-same, summed-stripe, summed-cell, summed-other}
 
 -- the start's steps are the walk's last ones and the one that gives the first cell
@@ -66,6 +66,11 @@ half-walk (suc n) p k s x y r t =
     let e : 2 * suc n + 1 ≡ suc (suc (2 * n + 1)) = omega arith in
     ap (λ (m : ℕ). diagonalWalk m p k s x y r t) e ∙ half-walk n p k s x y (nextRow p x y r) _
 
+rows-split : (n p x y r : ℕ) → rowsAndOne n p x y r ≡ walkSteps n p x y r ++ (cellStep (place p (rowAfter (suc n) p x y r) y) 1 (diagonalOf p x (rowAfter n p x y r)) ∷ [])
+unfolding rowsAndOne walkSteps rowAfter
+rows-split zero p x y r = refl
+rows-split (suc n) p x y r = ap (λ (l : List CellStep). cellStep (place p (nextRow p x y r) y) 1 (diagonalOf p x r) ∷ (cellStep (place p (nextRow p x y r) x) 0 (nextRow p x y r) ∷ l)) (rows-split n p x y (nextRow p x y r))
+
 -- surviving cells of two lists
 keeps : (p f : ℕ) → Keeps (λ c. eqb (diskAt p c) f) (survivingIn p f)
 unfolding survivingIn
@@ -87,7 +92,7 @@ module _ (p k s x y : ℕ) (apart : x ≡ y → ⊥) (hx : x < k + 2) (hy : y < 
       let r2 = nextRow p x y r in
       let r2-lt : r2 < p = mod-lt (z + y) (omega arith) in
       let tail = startSets n p k x y r2 in
-      let low : allBelow (p * (k + 2)) tail ≡ true = start-below n p k x y r2 r2-lt in
+      let low : allBelow (p * (k + 2)) tail ≡ true = start-sets-below n p k x y r2 r2-lt in
       let both : allBelow (p * (k + 2)) (diagonalSet p k z ++ tail) ≡ true = below-append (p * (k + 2)) (diagonalSet p k z) tail (set-below p k 1 z (mod-lt (r + p - x) (omega arith))) low in
       ap₂ xorL ea (ap₂ xorL eb (start-sum n r2 r2-lt rest))
       ∙ ap (xorL (xorOver s (cellAt s v) (survivorsOf p x y (rowSet p k r)))) (sym (over-append s (cellAt s v) (survivorsOf p x y (diagonalSet p k z)) (survivorsOf p x y tail) (kept-long tail low)) ∙ ap (xorOver s (cellAt s v)) (sym (survivors-append p x y (diagonalSet p k z) tail)))
@@ -146,6 +151,17 @@ module _ (p k s x y : ℕ) (ok : Prime p) (odd : p % 2 ≡ 1) (most : k ≤ p) (
       ∙ walk-append (suc m) (suc m) p x y e
       ∙ ap (λ (r : ℕ). walkSteps (suc m) p x y e ++ (cellStep (place p r y) 1 (diagonalOf p x w) ∷ (cellStep (place p r x) 0 r ∷ walkSteps m p x y r))) next-is
       ∙ sym (append-assoc (walkSteps (suc m) p x y e) (cellStep (place p ey y) 1 (diagonalOf p x w) ∷ []) (lastSteps m p x y)))
+
+  -- they are those that the walk from sums solves
+  solved-are : solvedSteps p x y ≡ frontSteps
+  unfolding frontSteps e ey
+  solved-are =
+      let w = rowAfter (suc m) p x y e in
+      let first = cellStep (place p e x) 0 e in
+      ap (λ (n : ℕ). first ∷ rowsAndOne n p x y e) half
+      ∙ ap (λ (l : List CellStep). first ∷ l) (rows-split (suc m) p x y e)
+      ∙ ap (λ (r : ℕ). first ∷ (walkSteps (suc m) p x y e ++ (cellStep (place p r y) 1 (diagonalOf p x w) ∷ []))) (after-suc (suc m) p x y e ∙ next-is)
+      ∙ ap (λ (d : ℕ). cellStep (place p e d) 0 e ∷ (walkSteps (suc m) p x y e ++ (cellStep (place p ey y) 1 (diagonalOf p x w) ∷ []))) (sym (ap (λ (b : Bool). pick b y x) (ne-eqb y 0 (λ z. omega arith))))
 
   x-low : x < k + 2
   x-low = omega arith
@@ -280,3 +296,18 @@ module _ (p k s x y : ℕ) (ok : Prime p) (odd : p % 2 ≡ 1) (most : k ≤ p) (
 pub sums-walk : (p k s x y : ℕ) → Prime p → p % 2 ≡ 1 → k ≤ p → Roles p x y → x < k → y < k → 1 ≤ y → (t : List ℕ) → isStripe p k s t ≡ true → walked p k s x y t ≡ sumWalked p k s x y t
 unfolding sumsOf
 sums-walk p k s x y ok odd most g hx hy low t ht = walk-sums p k s x y ok odd most g hx hy low ((p - 1) / 2 - 1) (omega (arith, ok .large)) t ht
+
+-- the walk from sums takes the walk's steps in the walk's order
+pub sums-order : (p k s x y : ℕ) → Prime p → p % 2 ≡ 1 → k ≤ p → Roles p x y → x < k → y < k → 1 ≤ y → solvedSteps p x y ++ addedSteps p x y ≡ dataSteps p x y
+sums-order p k s x y ok odd most g hx hy low =
+    let m = (p - 1) / 2 - 1 in
+    let half : (p - 1) / 2 ≡ suc m = omega (arith, ok .large) in
+    ap (λ (l : List CellStep). l ++ addedSteps p x y) (solved-are p k s x y ok odd most g hx hy low m half) ∙ sym (data-split p k s x y ok odd most g hx hy low m half)
+
+-- on the stripe with the sums and the first cell, the first of them solve and the others add
+pub sums-steps : (p k s x y : ℕ) → Prime p → p % 2 ≡ 1 → k ≤ p → Roles p x y → x < k → y < k → 1 ≤ y → (t : List ℕ) → sumWalked p k s x y t ≡ addedAll p k s x y (addedSteps p x y) (stepsDone p k s (solvedSteps p x y) (sumStarted p k s x y t))
+sums-steps p k s x y ok odd most g hx hy low t =
+    let m = (p - 1) / 2 - 1 in
+    let half : (p - 1) / 2 ≡ suc m = omega (arith, ok .large) in
+    let u = sumStarted p k s x y t in
+    ap (addedAll p k s x y (addedSteps p x y)) (sym (ap (λ (l : List CellStep). stepsDone p k s l u) (solved-are p k s x y ok odd most g hx hy low m half) ∙ front-walk p k s x y ok odd most g hx hy low m half u))

@@ -6,8 +6,9 @@ use Rattle.liberation.specs.Sets.{place, rowSet, lostIn, survivingIn, se
 use Rattle.liberation.specs.Plans.{extraRowOn, diagonalOf}
 use Rattle.liberation.specs.stripes.Stripes.{cellAt, withCell, xorOver, solved}
 use Rattle.liberation.specs.stripes.Steps.{CellStep, cellStep}
-use Rattle.liberation.specs.two_disks.Pairs.{nextRow, diagonalWalk}
-use Rattle.liberation.specs.two_disks.PairSteps.{walkSteps}
+use Rattle.liberation.specs.two_disks.Pairs.{nextRow, firstCell, diagonalWalk, forward}
+use Rattle.liberation.specs.two_disks.PairSteps.{PairPlan, walkSteps}
+use Rattle.mathematics.specs.Choice.{pick}
 
 -- the cells of a list on neither disk
 abbrev pub survivorsOf : ℕ → ℕ → ℕ → List ℕ → List ℕ
@@ -72,3 +73,23 @@ abbrev pub sumWalked : ℕ → ℕ → ℕ → ℕ → ℕ → List ℕ → List
 sumWalked p k s x y t =
     addedAll p k s x y (lastSteps ((p - 1) / 2 - 1) p x y)
     (diagonalWalk p p k s x y (extraRowOn p x) (solved s (place p (extraRowOn p x) x) (rowSet p k (extraRowOn p x)) (sumStarted p k s x y t)))
+
+-- the walk's steps of n rows from row r on, and the diagonal step after them
+unfoldable pub rowsAndOne : ℕ → ℕ → ℕ → ℕ → ℕ → List CellStep
+rowsAndOne zero p x y r = cellStep (place p (nextRow p x y r) y) 1 (diagonalOf p x r) ∷ []
+rowsAndOne (suc n) p x y r =
+    cellStep (place p (nextRow p x y r) y) 1 (diagonalOf p x r) ∷ (cellStep (place p (nextRow p x y r) x) 0 (nextRow p x y r) ∷ rowsAndOne n p x y (nextRow p x y r))
+
+-- the steps of the walk from sums after its first cell: those that solve, then those that add
+abbrev pub solvedSteps : ℕ → ℕ → ℕ → List CellStep
+solvedSteps p x y = cellStep (place p (extraRowOn p x) x) 0 (extraRowOn p x) ∷ rowsAndOne ((p - 1) / 2) p x y (extraRowOn p x)
+
+abbrev pub addedSteps : ℕ → ℕ → ℕ → List CellStep
+addedSteps p x y = lastSteps ((p - 1) / 2 - 1) p x y
+
+abbrev pub sumPlan : ℕ → ℕ → ℕ → ℕ → ℕ → PairPlan
+sumPlan p k s x y = record { first = firstCell p x y ∷ []; start = sumStarted p k s x y; steps = solvedSteps p x y ++ addedSteps p x y }
+
+-- two data disks a < b, a not disk 0, in the order in which the walk goes through
+abbrev pub dataSumPlan : ℕ → ℕ → ℕ → ℕ → ℕ → PairPlan
+dataSumPlan p k s a b = pick (forward p a b) (sumPlan p k s a b) (sumPlan p k s b a)

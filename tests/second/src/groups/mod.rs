@@ -5,13 +5,16 @@
 
 use crate::harness::runner::Check;
 
+pub mod array_states;
 pub mod balanced_plan;
 pub mod billing;
-pub mod examples;
+pub mod encode;
 pub mod judge;
-pub mod plan;
-pub mod plan_files;
+pub mod parity_server;
+pub mod parity_sets;
 pub mod plan_list;
+pub mod plan_texts;
+pub mod planner;
 pub mod price;
 pub mod printed_plan;
 pub mod read_list;
@@ -19,16 +22,13 @@ pub mod rebuild_balanced;
 pub mod rebuild_by_plan;
 pub mod rebuild_cells;
 pub mod rebuild_one;
+pub mod rebuild_runs;
 pub mod rebuild_tested;
 pub mod rebuild_two;
 pub mod relief_plan;
-pub mod runs;
 pub mod scrub;
-pub mod servers;
-pub mod sets;
 pub mod space;
-pub mod states;
-pub mod stripes;
+pub mod starred_examples;
 pub mod update;
 pub mod vectors;
 
@@ -41,19 +41,19 @@ macro_rules! groups {
 /// The groups that run, in their order, by their folders. One that is not named here is compiled
 /// and makes no call.
 pub const GROUPS: &[(&str, Check)] = groups! {
-    plan,
+    planner,
     balanced_plan,
     relief_plan,
     read_list,
-    sets,
+    parity_sets,
     judge,
     plan_list,
     price,
-    examples,
+    starred_examples,
     printed_plan,
-    plan_files,
+    plan_texts,
     space,
-    stripes,
+    encode,
     scrub,
     rebuild_one,
     rebuild_balanced,
@@ -62,9 +62,9 @@ pub const GROUPS: &[(&str, Check)] = groups! {
     rebuild_two,
     rebuild_cells,
     update,
-    servers,
-    runs,
+    parity_server,
+    rebuild_runs,
     billing,
-    states,
+    array_states,
     vectors,
 };

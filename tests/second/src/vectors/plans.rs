@@ -1,8 +1,8 @@
 //! Read lists, and plans as texts with the judge's answers.
 
 use super::lines::{escaped, Lines};
-use crate::groups::plan_files::forms::{any_form, damaged as damaged_text};
-use crate::groups::plan_files::model::{judge_text, plain, plain_text, ROOM};
+use crate::groups::plan_texts::forms::{any_form, damaged as damaged_text};
+use crate::groups::plan_texts::model::{judge_text, plain, plain_text, ROOM};
 use crate::harness::model::{balanced_steps, cells_read, our_steps, steps_of, Step};
 use crate::harness::plans::{damaged, Loss};
 use crate::harness::{arrays, Random};

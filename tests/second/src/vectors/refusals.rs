@@ -65,7 +65,7 @@ macro_rules! refusal {
         let mut last = lent.pop().unwrap_or_default();
         let at = |place: usize| -> &[u8] { &lent[place] };
         match $name {
-            "plan_disk" => groups::plan::$who::plan_disk(a[0], a[1], a[2]).refusal(),
+            "plan_disk" => groups::planner::$who::plan_disk(a[0], a[1], a[2]).refusal(),
             "balanced_plan" => {
                 groups::balanced_plan::$who::balanced_plan(a[0], a[1], a[2]).refusal()
             }
@@ -79,8 +79,8 @@ macro_rules! refusal {
             "plan_list" => {
                 groups::plan_list::$who::plan_list((a[0], a[1], a[2]), at(3), &mut last).refusal()
             }
-            "encode_stripe" => groups::stripes::$who::encode_stripe(shape(a), &mut last).refusal(),
-            "check_stripe" => groups::stripes::$who::check_stripe(shape(a), &last).refusal(),
+            "encode_stripe" => groups::encode::$who::encode_stripe(shape(a), &mut last).refusal(),
+            "check_stripe" => groups::encode::$who::check_stripe(shape(a), &last).refusal(),
             "scrub_stripe" => groups::scrub::$who::scrub_stripe(shape(a), &last).refusal(),
             "rebuild_one" => {
                 groups::rebuild_one::$who::rebuild_one(shape(a), a[3], at(4), &mut last).refusal()

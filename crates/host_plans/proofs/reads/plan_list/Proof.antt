@@ -5,7 +5,7 @@ use borrow.Author.Needs.{needs}
 use Rattle.judge.proofs.FormRefusals.{after-refused, after-step, after-done}
 use Rattle.judge.proofs.AcceptLaws.{zero-accepts}
 use Rattle.host_plans.specs.PlanListSays.{listsRefusal}
-use Rattle.host_plans.proofs.PlanListLaws.{Passed, passed}
+use Rattle.host_plans.proofs.PlanListLaws.{ListPassed, list-passed}
 use Rattle.host_plans.proofs.reads.plan_list.Statement.{statement}
 use Rattle.host_plans.proofs.reads.plan_list.Tie as tie
 
@@ -13,8 +13,8 @@ use Rattle.host_plans.proofs.reads.plan_list.Tie as tie
 none : (c : tie.Else1) → let a = c .before .before .before .before .args in listsRefusal (a .width) (a .disks) (a .lost) (a .plan .now) (a .list .now) ≡ 0
 none c = sym (c .before .lengths-refusal .ensures) ∙ c .if1 .left
 
-within : (c : tie.Else1) → let a = c .before .before .before .before .args in Passed (a .width) (a .disks) (a .lost) (a .plan .now) (a .list .now)
-within c = passed _ _ _ _ _ (none c)
+within : (c : tie.Else1) → let a = c .before .before .before .before .args in ListPassed (a .width) (a .disks) (a .lost) (a .plan .now) (a .list .now)
+within c = list-passed _ _ _ _ _ (none c)
 
 returns : tie.Need-returns
 returns c =

@@ -6,12 +6,12 @@ use borrow.Author.Needs.{needs}
 use Rattle.liberation.specs.Plans.{step}
 use Rattle.judge.proofs.JudgingLoop.{BytesOf}
 use Rattle.text.proofs.WriteLaws.{wrote-long}
-use Rattle.plan_texts.proofs.PlainLoop.{Halfway, halfway-start, two-digits, halfway-turn, halfway-end}
+use Rattle.plan_texts.proofs.PlainLoop.{LinesWritten, written-start, two-digits, halfway-turn, halfway-end}
 use Rattle.plan_texts.proofs.writer.put_lines.Statement.{statement}
 use Rattle.plan_texts.proofs.writer.put_lines.Tie as tie
 
 abbrev Inv-loop : tie.InvT-loop
-Inv-loop out₀ at width plan next₀ i₀ out next i = Halfway width plan out₀ out at next i
+Inv-loop out₀ at width plan next₀ i₀ out next i = LinesWritten width plan out₀ out at next i
 
 abbrev μ-loop : tie.MeasureT-loop
 μ-loop out₀ at width plan next₀ i₀ out next i = width - i
@@ -21,7 +21,7 @@ this : (c : tie.After-wide3 Inv-loop μ-loop) → let w = c .before .before in l
 this c = let w = c .before .before in let v = w .before .before in record { row = v .wide .ensures; kind = w .wide2 .ensures; number = c .wide3 .ensures }
 
 loop-holds : tie.Need-loop-holds Inv-loop μ-loop
-loop-holds c = let q = c .before .before in halfway-start (q .args .width) (q .args .plan .now) (q .args .out .now) (q .args .at) (omega (arith, q .pre .2)) (q .pre .1)
+loop-holds c = let q = c .before .before in written-start (q .args .width) (q .args .plan .now) (q .args .out .now) (q .args .at) (omega (arith, q .pre .2)) (q .pre .1)
 
 put-step-requires : tie.Need-put-step-requires Inv-loop μ-loop
 put-step-requires c κs =

@@ -1,12 +1,12 @@
 -- `balanced_steps`: P and Q as ours; a data disk takes the steps of its routes, and their word.
 use native.Mathlib.Omega.{arith}
 use borrow.Author.Needs.{needs}
-use Rattle.planner.proofs.BalancedLaws.{data-held, data-word, parity-planned}
+use Rattle.planner.proofs.BalancedLaws.{data-held, balanced-word, parity-planned}
 use Rattle.planner.proofs.balanced_record.balanced_steps.Statement.{statement}
 use Rattle.planner.proofs.balanced_record.balanced_steps.Tie as tie
 
 returns : tie.Need-returns
-returns c = let t = c .before in let a = t .before .args in parity-planned (a .width) (a .disks) (a .lost) (c .our-plan .result) (t .if1 .taken) (c .our-plan .ensures)
+returns c = let t = c .before in let a = t .before .args in parity-planned (a .width) (a .disks) (a .lost) (c .plan-steps .result) (t .if1 .taken) (c .plan-steps .ensures)
 
 balanced-routes-requires : tie.Need-balanced-routes-requires
 balanced-routes-requires c κs = let q = c .before .pre .0 in (q .width, q .widest, omega (arith, q .disks))
@@ -23,7 +23,7 @@ returns-2 c =
     record {
       answer = c .answered .ensures;
       steps = data-held (a .width) (a .disks) (a .lost) _ _ _ (e .if1 .left) (r .balanced-routes .ensures) (d .data-steps .ensures);
-      routes = data-word (a .width) (a .disks) (a .lost) _ _ (e .if1 .left) (r .balanced-routes .ensures);
+      routes = balanced-word (a .width) (a .disks) (a .lost) _ _ (e .if1 .left) (r .balanced-routes .ensures);
     }
 
 pub balanced-steps-spec : {M : Type 1} → statement M

@@ -42,8 +42,8 @@ returns-2 c =
     let a = t .before .before .before .before .args in
     list-refused (a .width) (a .disks) (a .lost) 5 (a .list .now) (c .answered2 .result) (list-long (a .width) (a .disks) (a .lost) (a .list .now) (none (t .before)) (t .if2 .taken)) (λ e. omega arith) (c .answered2 .ensures)
 
-our-plan-requires : tie.Need-our-plan-requires
-our-plan-requires c κs = wide (c .before .before .before .before .before)
+plan-steps-requires : tie.Need-plan-steps-requires
+plan-steps-requires c κs = wide (c .before .before .before .before .before)
 
 mark-steps-requires : tie.Need-mark-steps-requires
 mark-steps-requires c κs =
@@ -51,7 +51,7 @@ mark-steps-requires c κs =
     let k = o .before .before .before in
     let e = k .before .before in
     let w = wide (e .before) in
-    (w .0, w .1, ours-accepted _ _ _ (o .our-plan .result .steps) (w .0) (w .1) (o .our-plan .ensures .steps), k .clear .ensures ∙ ap (λ (n : ℕ). replicate n 0) (e .if2 .left) ∙ no-cells _ 0)
+    (w .0, w .1, ours-accepted _ _ _ (o .plan-steps .result .steps) (w .0) (w .1) (o .plan-steps .ensures .steps), k .clear .ensures ∙ ap (λ (n : ℕ). replicate n 0) (e .if2 .left) ∙ no-cells _ 0)
 
 returns-3 : tie.Need-returns-3
 returns-3 c =
@@ -60,7 +60,7 @@ returns-3 c =
     let e = o .before .before .before .before .before in
     let a = e .before .before .before .before .args in
     let w = wide (e .before) in
-    list-says (a .width) (a .disks) (a .lost) (a .list .now) _ (c .answered3 .result) (none (e .before)) (e .if2 .left) (m .mark-steps .ensures .1 ∙ ap (listOf (a .width) (a .disks) (a .lost)) (ours-held (a .width) (a .disks) (a .lost) (o .our-plan .result .steps) (w .0) (w .1) (o .our-plan .ensures .steps))) (c .answered3 .ensures)
+    list-says (a .width) (a .disks) (a .lost) (a .list .now) _ (c .answered3 .result) (none (e .before)) (e .if2 .left) (m .mark-steps .ensures .1 ∙ ap (listOf (a .width) (a .disks) (a .lost)) (ours-held (a .width) (a .disks) (a .lost) (o .plan-steps .result .steps) (w .0) (w .1) (o .plan-steps .ensures .steps))) (c .answered3 .ensures)
 
 pub read-list-spec : {M : Type 1} → statement M
 read-list-spec =
@@ -74,7 +74,7 @@ read-list-spec =
     (λ c κs. search needs)
     returns-2
     (λ c κs. search needs)
-    our-plan-requires
+    plan-steps-requires
     mark-steps-requires
     (λ c κs. search needs)
     (λ c. search needs)

@@ -3,8 +3,8 @@
 use super::calls::balanced_plan;
 use super::model;
 use crate::ffi::Plan;
-use crate::groups::plan::checks::{in_full, judged};
 use crate::groups::plan_list::checks::shares;
+use crate::groups::planner::checks::{in_full, judged};
 use crate::harness::answer::ACCEPTED;
 use crate::harness::plans::Loss;
 use crate::harness::{arrays, numbers, Group, Random, Setting};

@@ -1,7 +1,7 @@
 //! The balanced plan in the second implementation.
 
 use crate::ffi::Plan;
-use crate::groups::plan::model::plan_by;
+use crate::groups::planner::model::plan_by;
 use crate::harness::model::{balanced_steps, refuse};
 
 /// The call that gives the balanced plan.

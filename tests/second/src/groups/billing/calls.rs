@@ -2,7 +2,7 @@
 
 use crate::ffi;
 pub use crate::ffi::Bill;
-use crate::groups::runs::calls::Run;
+use crate::groups::rebuild_runs::calls::Run;
 
 /// The bill of so many bytes.
 pub fn bill_bytes(bytes: u64, [first, second, third]: [u64; 3]) -> Bill {

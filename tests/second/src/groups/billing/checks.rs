@@ -3,8 +3,8 @@
 
 use super::calls::{bill_bytes, bill_run, Bill};
 use super::model;
-use crate::groups::runs::calls::{resume_full_run, FullRun, Run};
-use crate::groups::runs::model::resume_full_run as model_resume;
+use crate::groups::rebuild_runs::calls::{resume_full_run, FullRun, Run};
+use crate::groups::rebuild_runs::model::resume_full_run as model_resume;
 use crate::harness::answer::{Answer, ACCEPTED};
 use crate::harness::model::WIDTHS;
 use crate::harness::{arrays, numbers, Group, Random, Setting, Shape};

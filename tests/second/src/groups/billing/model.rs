@@ -1,8 +1,8 @@
 //! Bills in the second implementation.
 
 use super::calls::Bill;
-use crate::groups::runs::calls::Run;
-use crate::groups::runs::model::run_progress;
+use crate::groups::rebuild_runs::calls::Run;
+use crate::groups::rebuild_runs::model::run_progress;
 use crate::harness::answer::{Answer, ACCEPTED};
 use std::cmp::Ordering;
 

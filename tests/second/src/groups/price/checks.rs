@@ -5,7 +5,7 @@
 use super::model::terms;
 use crate::groups::judge::calls::judge_plan;
 use crate::groups::judge::model;
-use crate::groups::plan::calls::plan_disk;
+use crate::groups::planner::calls::plan_disk;
 use crate::harness::answer::ACCEPTED;
 use crate::harness::model::{bytes_of, Step};
 use crate::harness::plans::{accepted_order, ready, Choice, Loss};

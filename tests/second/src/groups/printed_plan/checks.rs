@@ -6,7 +6,7 @@ use std::thread;
 use super::calls::{plan_text, run_program, Shown};
 use super::inputs::{self, well_formed};
 use super::model::{self, printed};
-use crate::groups::plan::calls::plan_disk;
+use crate::groups::planner::calls::plan_disk;
 use crate::harness::model::WIDTHS;
 use crate::harness::{Group, Setting};
 

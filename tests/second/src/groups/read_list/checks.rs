@@ -2,7 +2,7 @@
 
 use super::calls::read_list;
 use super::model;
-use crate::groups::plan::calls::plan_disk;
+use crate::groups::planner::calls::plan_disk;
 use crate::harness::answer::ACCEPTED;
 use crate::harness::model::full_disk;
 use crate::harness::{arrays, numbers, Group, Lent, Random, Setting};

@@ -3,9 +3,9 @@
 
 use super::calls::rebuild_tested;
 use super::{model, refused};
+use crate::groups::encode::model::clean;
 use crate::groups::rebuild_one::calls::rebuild_one;
 use crate::groups::rebuild_one::checks::cells_off_list;
-use crate::groups::stripes::model::clean;
 use crate::harness::answer::{Answer, ACCEPTED};
 use crate::harness::model::{
     cell_place, column_length, disk_place, full_disk, full_shape, our_steps, stripe_length, widened,

@@ -1,7 +1,7 @@
 //! The rebuild with tested survivors in the second implementation: rebuilt into a copy, which is then checked.
 
+use crate::groups::encode::model::clean;
 use crate::groups::rebuild_one;
-use crate::groups::stripes::model::clean;
 use crate::harness::answer::{Answer, ACCEPTED};
 use crate::harness::model::disk_place;
 use crate::harness::Shape;

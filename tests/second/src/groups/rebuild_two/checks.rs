@@ -2,7 +2,7 @@
 
 use super::calls::rebuild_two;
 use super::model;
-use crate::groups::stripes::model::check_stripe;
+use crate::groups::encode::model::check_stripe;
 use crate::harness::answer::{ACCEPTED, YES};
 use crate::harness::model::{disk_place, full_disk, full_shape, stripe_length, widened, WIDTHS};
 use crate::harness::stripes::clean_stripe;

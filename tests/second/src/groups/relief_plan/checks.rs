@@ -4,9 +4,9 @@
 use super::calls::relief_plan;
 use super::model;
 use crate::ffi::Plan;
-use crate::groups::plan::calls::plan_disk;
-use crate::groups::plan::checks::{in_full, judged};
 use crate::groups::plan_list::checks::shares;
+use crate::groups::planner::calls::plan_disk;
+use crate::groups::planner::checks::{in_full, judged};
 use crate::harness::answer::ACCEPTED;
 use crate::harness::model::bytes_of;
 use crate::harness::plans::Loss;

@@ -1,7 +1,7 @@
 //! The plan that relieves a disk in the second implementation.
 
 use crate::ffi::Plan;
-use crate::groups::plan::model::plan_by;
+use crate::groups::planner::model::plan_by;
 use crate::harness::model::{refuse, relief_steps};
 
 /// The call that gives the relief plan.

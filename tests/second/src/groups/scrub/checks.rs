@@ -4,9 +4,9 @@
 use super::calls::{scrub_stripe, Scrubbed};
 use super::model::{self, found};
 use super::refused;
+use crate::groups::encode::calls::check_stripe;
+use crate::groups::encode::model::clean;
 use crate::groups::rebuild_one::calls::rebuild_one;
-use crate::groups::stripes::calls::check_stripe;
-use crate::groups::stripes::model::clean;
 use crate::harness::answer::YES;
 use crate::harness::model::{
     cell_place, column_length, disk_place, encode, full_shape, stripe_length, widened, Cell,

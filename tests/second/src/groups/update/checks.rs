@@ -2,7 +2,7 @@
 
 use super::calls::update_cell;
 use super::{model, orders};
-use crate::groups::stripes::calls::encode_stripe;
+use crate::groups::encode::calls::encode_stripe;
 use crate::harness::answer::Answer;
 use crate::harness::model::{
     cell_place, extra_cell, set_cells, stripe_length, sum_of, Cell, WIDTHS,

@@ -1,9 +1,9 @@
 //! Stripes of large cells, whose sums the file has.
 
 use super::file::Line;
+use crate::groups::encode::calls::encode_stripe;
 use crate::groups::rebuild_one::calls::rebuild_one;
 use crate::groups::rebuild_two::calls::rebuild_two;
-use crate::groups::stripes::calls::encode_stripe;
 use crate::harness::answer::ACCEPTED;
 use crate::harness::model::{column_length, disk_place, stripe_length};
 use crate::harness::{Group, Shape};

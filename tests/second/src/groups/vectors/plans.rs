@@ -3,10 +3,10 @@
 use super::file::{text_of, Line};
 use crate::ffi::{Answer, Judged, Plan};
 use crate::groups::balanced_plan::calls::balanced_plan;
-use crate::groups::plan::calls::plan_disk;
-use crate::groups::plan_files::calls::{judge_text, plain_text, Written};
-use crate::groups::plan_files::model::ROOM;
 use crate::groups::plan_list::calls::plan_list;
+use crate::groups::plan_texts::calls::{judge_text, plain_text, Written};
+use crate::groups::plan_texts::model::ROOM;
+use crate::groups::planner::calls::plan_disk;
 use crate::groups::read_list::calls::read_list;
 use crate::harness::answer::ACCEPTED;
 use crate::harness::Group;

@@ -1,11 +1,11 @@
 //! Stripes as they are encoded, and lost disks of them.
 
 use super::file::{bytes_of, Line};
+use crate::groups::encode;
+use crate::groups::encode::calls::{check_stripe, encode_stripe, Checked};
 use crate::groups::rebuild_balanced::calls::rebuild_balanced;
 use crate::groups::rebuild_one::{self, calls::rebuild_one};
 use crate::groups::rebuild_two::calls::rebuild_two;
-use crate::groups::stripes;
-use crate::groups::stripes::calls::{check_stripe, encode_stripe, Checked};
 use crate::harness::answer::{Answer, ACCEPTED, YES};
 use crate::harness::model::{column_length, disk_place};
 use crate::harness::{Group, Lent, Random, Shape};
