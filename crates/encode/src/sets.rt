@@ -5,7 +5,7 @@ ghost use Rattle.encode.specs.Groups.{addedSet, Group};
 use super::offsets;
 
 // P's cell of a row gets the row's cells on disks lo to hi - 1 added; in the first group it becomes
-// their sum.
+// their sum. The lent list is then left free.
 pub fn add_row(
     width: usize,
     disks: usize,
@@ -26,7 +26,7 @@ pub fn add_row(
 }
 
 // Q's cell of a diagonal: the same with the diagonal's cells, and its extra cell if it is on these
-// disks.
+// disks. The lent list is then left free.
 pub fn add_diagonal(
     width: usize,
     disks: usize,

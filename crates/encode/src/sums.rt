@@ -5,7 +5,8 @@ ghost use Rattle.encode.specs.Groups.{Group};
 ghost use Rattle.encode.specs.Added.{SetsAdded};
 use super::sets;
 
-// `count` rows from `row` on and as many diagonals from `number` on, in turn.
+// `count` rows from `row` on and as many diagonals from `number` on, in turn. The lent list is then
+// left free.
 fn add_sets(
     width: usize,
     disks: usize,
@@ -30,7 +31,8 @@ fn add_sets(
 }
 
 // All rows and all diagonals. With a diagonal goes the row that it has on disk lo + 2, so its cells
-// are of rows that were just added or come next. No answer depends on it.
+// are of rows that were just added or come next. No answer depends on it. The lent list is then
+// left free.
 pub fn add_group(
     width: usize,
     disks: usize,

@@ -27,7 +27,7 @@ pub fn wide(byte: u8) -> usize
 }
 
 // Judges the steps in order. `marks` has a byte a cell, none marked, and collects the cells that
-// the steps read.
+// the steps read. The lent marks are then left free.
 pub fn judge_steps(width: usize, disks: usize, lost: usize, plan: &[u8], marks: &mut [u8]) -> Judged
     requires { ⌜ InArray width disks × (lost ≤ disks + 1) ⌝ }
     requires { ⌜ length (now plan) ≡ 3 * width ⌝ }

@@ -56,7 +56,7 @@ fn put_refusal(out: &mut [u8], at: usize, number: usize) -> usize
 }
 
 // Puts the lines of a plan's steps. A cell that a step reads is marked, so that the next steps
-// count it no more.
+// count it no more. The lent marks are then left free.
 fn put_steps(
     out: &mut [u8],
     at: usize,

@@ -28,7 +28,8 @@ fn rows_are_clean(width: usize, disks: usize, size: usize, stripe: &[u8]) -> boo
     xor_is_zero::is_zero(stripe, width * size, &at[..n])
 }
 
-// Do the cells of a diagonal set XOR to zero? There is no disk past Q, so all are pushed.
+// Do the cells of a diagonal set XOR to zero? There is no disk past Q, so all are pushed. The lent
+// list is then left free.
 fn diagonal_is_clean(
     width: usize,
     disks: usize,

@@ -30,7 +30,7 @@ fn is_zero(stripe: &[u8], n: usize, at: &[usize]) -> bool
     xor_is_zero::long_is_zero(stripe, n, at)
 }
 
-// Does an equation hold: do its survivors XOR to zero?
+// Does an equation hold: do its survivors XOR to zero? The lent list is then left free.
 fn equation_holds(
     width: usize,
     disks: usize,
@@ -49,7 +49,7 @@ fn equation_holds(
 
 // How many equations of a disk hold, from number `from` on and round, before one does not: the
 // width exactly if some clean stripe is alike this one off the disk. The first of them decides most
-// often, and no other answer depends on `from`.
+// often, and no other answer depends on `from`. The lent list is then left free.
 pub fn equations_passed(
     width: usize,
     disks: usize,

@@ -9,7 +9,8 @@ use super::equations;
 use super::fit;
 
 // A set of a dirty stripe that is not clean: the number of a row set, or the width and the number
-// of a diagonal set. No answer depends on it, so its bound is all that is promised.
+// of a diagonal set. No answer depends on it, so its bound is all that is promised. The lent list
+// is then left free.
 fn dirty_set(width: usize, disks: usize, size: usize, stripe: &[u8], at: &mut [usize]) -> usize
     requires { ⌜ Sized width disks size (now stripe) × (length (now at) ≡ 99) ⌝ }
     ensures { λ r. ⌜ r < 2 * width ⌝ }
@@ -69,7 +70,8 @@ fn first_number(width: usize, disks: usize, disk: usize, dirty: usize, extra: bo
 }
 
 // The first disk that fits, two more than the data disks if none does. Where the first equation of
-// a disk did not refuse it, that of the next one is chosen the other way.
+// a disk did not refuse it, that of the next one is chosen the other way. The lent list is then
+// left free.
 fn first_fit(
     width: usize,
     disks: usize,

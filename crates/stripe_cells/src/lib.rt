@@ -26,7 +26,7 @@ use parity_sets::DIAGONAL_SET;
 use parity_sets::ROW_SET;
 
 // A set's ordinary cell, of this disk and row, becomes the XOR of the other cells of the set, by a
-// lent list.
+// lent list. The lent list is then left free.
 pub fn solve_by(
     width: usize,
     disks: usize,

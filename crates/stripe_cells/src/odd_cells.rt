@@ -12,7 +12,8 @@ ghost use Rattle.stripe_cells.specs.Gathered.{MarkedStripe, Start, OddAd
 use super::odd_marks;
 
 // The cell `to` becomes the XOR of the cells in the list and of the odd cells from `from` on, as
-// far as the list has room; the first place that was not looked at.
+// far as the list has room; the first place that was not looked at. The lent list is then left
+// free.
 fn gather_list(
     stripe: &mut [u8],
     size: usize,
@@ -32,7 +33,7 @@ fn gather_list(
 }
 
 // The cell `to` ^= the odd cells from `from` on, list by list; the cell itself is in front of each
-// list.
+// list. The lent list is then left free.
 fn add_odd(stripe: &mut [u8], size: usize, to: usize, marks: &[u8], from: usize, at: &mut [usize])
     requires { ⌜ MarkedStripe size to (now marks) (now stripe) × (from ≤ length (now marks)) × (2 ≤ length (now at)) × (length (now at) ≤ 100) ⌝ }
     ensures { λ _. ⌜ now (stripe .exit) ≡ withPart size (to * size) (xorL (part size (to * size) (now (stripe .entry))) (xorOffsets size (now (stripe .entry)) (oddOffsets size (now (marks .entry)) from))) (now (stripe .entry)) ⌝ }

@@ -16,7 +16,7 @@ use parity_sets::DIAGONAL_SET;
 use parity_sets::ROW_SET;
 
 // The marks of a set's cells on neither disk x nor disk 0 are toggled. Cells of one byte have their
-// places as offsets.
+// places as offsets. The lent list is then left free.
 fn toggle_set(
     width: usize,
     disks: usize,
@@ -35,7 +35,7 @@ fn toggle_set(
 
 // The marks of the surviving cells of the row set and the diagonal set of each row, from this row
 // on, are toggled. The diagonal through disk x's cell of a row has the number of the next row,
-// since that is the row of its cell on disk 0.
+// since that is the row of its cell on disk 0. The lent list is then left free.
 fn toggle_sets(width: usize, disks: usize, x: usize, row: usize, marks: &mut [u8], at: &mut [usize])
     requires { ⌜ InArray width disks × (row < width) × (x < disks) × (length (now marks) ≡ width * (disks + 2)) × (length (now at) ≡ 33) ⌝ }
     ensures { λ _. ⌜ now (marks .exit) ≡ toggledAll (survivors width x 0 (startSets width width disks x 0 row)) (now (marks .entry)) ⌝ }

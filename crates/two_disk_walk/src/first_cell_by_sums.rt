@@ -39,7 +39,8 @@ fn push_sums(
 }
 
 // The start: the sets of half of the rows, from that of the extra cell on y on, summed into the
-// cells that they give. The first cell, the last of these, becomes the XOR of them all.
+// cells that they give. The first cell, the last of these, becomes the XOR of them all. The lent
+// list is then left free.
 pub fn start_sums(
     width: usize,
     disks: usize,

@@ -13,7 +13,7 @@ use parity_sets::DIAGONAL_SET;
 use parity_sets::ROW_SET;
 
 // The diagonal set and the row set of each of `count` rows after this row, added into the cells
-// that they give.
+// that they give. The lent list is then left free.
 fn add_sets(
     count: usize,
     width: usize,
@@ -51,7 +51,8 @@ fn add_sets(
     }
 }
 
-// The walk's last steps: the row set of this row, then the sets of `count` rows after it.
+// The walk's last steps: the row set of this row, then the sets of `count` rows after it. The lent
+// list is then left free.
 pub fn add_last(
     count: usize,
     width: usize,

@@ -37,7 +37,8 @@ fn push_lost(
     n
 }
 
-// A lost cell becomes the XOR of the lost cells of a set, of which it is one.
+// A lost cell becomes the XOR of the lost cells of a set, of which it is one. The lent list is then
+// left free.
 pub fn add_set(
     width: usize,
     disks: usize,

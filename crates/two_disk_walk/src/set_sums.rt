@@ -10,7 +10,7 @@ ghost use Rattle.two_disk_walk.specs.SumDisks.{Lost};
 use parity_sets::DIAGONAL_SET;
 use parity_sets::ROW_SET;
 
-// A lost cell becomes the XOR of the surviving cells of a set.
+// A lost cell becomes the XOR of the surviving cells of a set. The lent list is then left free.
 fn sum_set(
     width: usize,
     disks: usize,
@@ -34,7 +34,7 @@ fn sum_set(
 }
 
 // The row set and the diagonal set of each of `count` rows, from this row on, summed into the cells
-// that they give.
+// that they give. The lent list is then left free.
 pub fn sum_sets(
     count: usize,
     width: usize,

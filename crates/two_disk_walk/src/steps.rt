@@ -18,7 +18,7 @@ pub fn extra_row(width: usize, disk: usize) -> usize
 }
 
 // While cells are missing: the diagonal set through disk x's cell of this row gives a cell of disk
-// y, whose row comes next.
+// y, whose row comes next. The lent list is then left free.
 pub fn diagonal_step(
     left: usize,
     width: usize,
@@ -54,7 +54,8 @@ pub fn diagonal_step(
     row_step(left - 1, width, disks, size, x, y, next, stripe, at);
 }
 
-// While cells are missing: the row set gives the row's cell of disk x.
+// While cells are missing: the row set gives the row's cell of disk x. The lent list is then left
+// free.
 fn row_step(
     left: usize,
     width: usize,

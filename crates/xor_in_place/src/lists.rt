@@ -11,7 +11,8 @@ ghost use Rattle.xor_in_place.specs.Beside.{Apart};
 const MORE: usize = 7;
 
 // The n bytes from d on ^= the parts at the offsets from index i on, in lists of at most eight: the
-// destination is a source of each, in place of an offset before i, or of one that is done.
+// destination is a source of each, in place of an offset before i, or of one that is done. The lent
+// list is then left free.
 fn add_lists(t: &mut [u8], d: usize, n: usize, at: &mut [usize], from: usize)
     requires { ⌜ Apart d n (length (now t)) (now at) × (from ≤ length (now at)) × (from < length (now at) → 0 < from) ⌝ }
     ensures { λ _. ⌜ now (t .exit) ≡ withPart n d (xorL (part n d (now (t .entry))) (xorOffsets n (now (t .entry)) (drop from (now (at .entry))))) (now (t .entry)) ⌝ }

@@ -1,1 +1,0 @@
--- Nothing beyond the theory's definitions.
