@@ -28,12 +28,24 @@ pub fn follow(
     let rows = steps.rows;
     let kinds = steps.kinds;
     let numbers = steps.numbers;
+    let mut at = stripe_cells::no_offsets();
     let mut i = 0;
     while i < width {
         let row = rows[i] as usize;
         let kind = kinds[i] as usize;
         let number = numbers[i] as usize;
-        one_cell::rebuild_cell(width, disks, size, disk, row, kind, number, stripe, column);
+        one_cell::rebuild_cell(
+            width,
+            disks,
+            size,
+            disk,
+            row,
+            kind,
+            number,
+            stripe,
+            column,
+            &mut at,
+        );
         i += 1;
     }
 }

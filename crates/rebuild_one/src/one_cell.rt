@@ -50,7 +50,7 @@ fn other_row(
 
 // One step: the lost disk's cell of this row becomes the XOR of the set's other cells. The
 // surviving ones come from the stripe; another lost one, which an earlier step has rebuilt, from
-// the column.
+// the column. The lent list is then left free.
 pub fn rebuild_cell(
     width: usize,
     disks: usize,
@@ -61,13 +61,13 @@ pub fn rebuild_cell(
     number: usize,
     stripe: &[u8],
     column: &mut [u8],
+    at: &mut [usize],
 )
     requires { ⌜ Sized width disks size (now stripe) ⌝ }
-    requires { ⌜ (disk ≤ disks + 1) × (length (now column) ≡ width * size) × (number < width) × (row < width) × (isIn row (lostIn width disk (setOf width disks kind number)) ≡ true) ⌝ }
+    requires { ⌜ (disk ≤ disks + 1) × (length (now column) ≡ width * size) × (number < width) × (row < width) × (isIn row (lostIn width disk (setOf width disks kind number)) ≡ true) × (length (now at) ≡ 33) ⌝ }
     ensures { λ _. ⌜ withColumn width size disk (now (column .exit)) (now (stripe .entry)) ≡ solved size (place width row disk) (setOf width disks kind number) (withColumn width size disk (now (column .entry)) (now (stripe .entry))) ⌝ }
 {
-    let mut at = stripe_cells::no_offsets();
-    let n = stripe_cells::surviving(width, disks, size, kind, number, disk, disk, &mut at);
+    let n = stripe_cells::surviving(width, disks, size, kind, number, disk, disk, at);
     let start = row * size;
     let end = start + size;
     xor::gather(&mut column[start..end], stripe, &at[..n]);
