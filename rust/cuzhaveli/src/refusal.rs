@@ -42,7 +42,7 @@ kinds! {
     BadCellSize = 2, "the cell size is 0 or over 4096";
     NoSuchDisk = 3, "the array has no disk of that number, or no data disk";
     SameDisk = 4, "two disks that must differ are the same";
-    BadLength = 5, "a slice has another length than the one required";
+    BadLength = 5, "a length is another than the one required";
     StepRange = 6, "the row or set number of a step is the width or more, or its kind over 1";
     StepSet = 7, "the set of a step lacks that row's lost cell";
     StepRepeated = 8, "the row of a step was rebuilt by an earlier one";
