@@ -1,3 +1,4 @@
+# SPDX-License-Identifier: Apache-2.0
 """A proved Liberation RAID-6 code: the calls of libcuzhaveli.so.1.
 
 An array has a width p (3, 5, 7, 11, 13, 17, 19, 23, 29 or 31), k data disks (2 to p), row parity P
