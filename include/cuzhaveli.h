@@ -43,7 +43,7 @@
 extern "C" {
 #endif
 
-#define CUZHAVELI_VERSION 100 /* 0.1.0, as cuzhaveli_version() says it */
+#define CUZHAVELI_VERSION 10000 /* 1.0.0, as cuzhaveli_version() says it */
 #define CUZHAVELI_MAX_WIDTH 31
 #define CUZHAVELI_MAX_CELL_SIZE 4096
 #define CUZHAVELI_MAX_SERVERS 16          /* without the parity server */

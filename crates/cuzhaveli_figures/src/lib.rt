@@ -33,10 +33,10 @@ pub extern "C" fn cuzhaveli_bill_run(run: Run, first: u64, second: u64, third: u
 }
 
 // The version of the library: 10,000 times its first number, 100 times its second, and its third,
-// so 100 for 0.1.0.
+// so 10,000 for 1.0.0.
 #[no_mangle]
 pub extern "C" fn cuzhaveli_version() -> u32
-    ensures { λ r. ⌜ r ≡ 100 ⌝ }
+    ensures { λ r. ⌜ r ≡ 10000 ⌝ }
 {
-    100
+    10000
 }

@@ -54,7 +54,7 @@ pub use states::{report_disk, ArrayState, Totals};
 /// The version of the archive: 10,000 times its first number, 100 times its second, and its third.
 ///
 /// ```
-/// assert_eq!(cuzhaveli::version(), 100); // 0.1.0
+/// assert_eq!(cuzhaveli::version(), 10_000); // 1.0.0
 /// ```
 pub fn version() -> u32 {
     unsafe { ffi::cuzhaveli_version() }
