@@ -94,7 +94,7 @@ $(shared): $(or $(fast),build/libcuzhaveli.a) dispatch/shared.sh include/cuzhave
 build/cuzhaveli: build/libcuzhaveli.a $(fast) $(shell find rust/cuzhaveli rust/tool -name '*.rs' -o -name Cargo.toml)
 	@command -v cargo >/dev/null || { echo "make: the command cuzhaveli is built by cargo, which is not on PATH; install Rust 1.89 or newer" >&2; exit 1; }
 	@[ -f $@ ] || echo "make: compiling the command: a minute"
-	@CUZHAVELI_LIB_DIR="$(CURDIR)/build" CARGO_TARGET_DIR="$(CURDIR)/build/tool" cargo build -q --release --offline --manifest-path rust/tool/Cargo.toml
+	@CUZHAVELI_LIB_DIR="$(CURDIR)/build" CARGO_TARGET_DIR="$(CURDIR)/build/tool" RUSTFLAGS="$$RUSTFLAGS --remap-path-prefix=$(CURDIR)=cuzhaveli" cargo build -q --release --offline --manifest-path rust/tool/Cargo.toml
 	@cp build/tool/release/cuzhaveli $@
 	@echo "make: wrote $@"
 
