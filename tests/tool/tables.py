@@ -65,7 +65,7 @@ def manual_pages(setting):
         expect(done.returncode == 0 and not told, f"man says of {page.name}: {told}")
         for width in WIDTHS:
             shown = subprocess.run(["man", "-Tutf8", "-l", page], capture_output=True, text=True, env={**os.environ, "MANWIDTH": str(width), "MANPAGER": "cat"})
-            broken = re.findall(r"^.*[-\u2010]$", re.sub(r"\x1b\[[0-9;]*m|.\x08", "", shown.stdout), re.M)
+            broken = re.findall(r"^.*\w[-\u2010]$", re.sub(r"\x1b\[[0-9;]*m|.\x08", "", shown.stdout), re.M)
             expect(shown.returncode == 0 and shown.stdout and not broken, f"{page.name} in {width} columns breaks a word: {broken[:1]}")
     return f"{len(pages)} pages in {len(WIDTHS)} widths"
 
