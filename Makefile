@@ -91,7 +91,7 @@ $(shared): $(or $(fast),build/libcuzhaveli.a) dispatch/shared.sh include/cuzhave
 	@dispatch/shared.sh $< build
 	@echo "make: wrote $@"
 
-build/cuzhaveli: build/libcuzhaveli.a $(fast) $(shell find rust/cuzhaveli rust/tool -name '*.rs' -o -name Cargo.toml)
+build/cuzhaveli: build/libcuzhaveli.a $(fast) $(shell find rust -name target -prune -o -name '*.rs' -print -o -name '*.man' -print -o -name 'Cargo.*' -print)
 	@command -v cargo >/dev/null || { echo "make: the command cuzhaveli is built by cargo, which is not on PATH; install Rust 1.89 or newer" >&2; exit 1; }
 	@[ -f $@ ] || echo "make: compiling the command: a minute"
 	@CUZHAVELI_LIB_DIR="$(CURDIR)/build" CARGO_TARGET_DIR="$(CURDIR)/build/tool" RUSTFLAGS="$$RUSTFLAGS --remap-path-prefix=$(CURDIR)=cuzhaveli" cargo build -q --release --offline --manifest-path rust/tool/Cargo.toml
