@@ -5,29 +5,39 @@
 #                                build/libcuzhaveli.so.1, the same proved source compiled for x86-64 and for x86-64-v3 (AVX2), of
 #                                which the processor's is taken at load (docs/TRUST.md); with cargo build/cuzhaveli, the command
 #   make LIB=FILE                the same from a ready libcuzhaveli.a with the other archives beside it, without the kit; where
-#                                libcuzhaveli_fast.a is not there, shared library and command have the plain compilation alone
+#                                libcuzhaveli_fast.a is not there, shared library and command have the plain compilation alone.
+#                                It is remembered until `make clean`, or until `make LIB=` builds by the kit
 #   make demo                    shows the command at work on a film that it makes: encodes, loses disks, rebuilds, plays
 #   make examples                builds and runs examples/ from a scratch install, and compares their output
 #   make selftest                the Python package's own test of the shared library
 #   make manual                  writes docs/*.1 and rust/tool/completion/ anew, from the command's table
-#   make install PREFIX= DESTDIR=   header, archives, shared library, cuzhaveli.pc, command, manual and completion (PREFIX is
-#                                   /usr/local if not given)
-#   make uninstall PREFIX= DESTDIR=
-#   make dist                    build/cuzhaveli-VERSION-x86_64-linux.tar.gz, after .ci/run
+#   make install PREFIX= LIBDIR= DESTDIR=   header, archives, shared library, cuzhaveli.pc, command, manual and completion (PREFIX is
+#                                /usr/local if not given, LIBDIR PREFIX/lib)
+#   make uninstall PREFIX= LIBDIR= DESTDIR=
+#   make dist                    build/cuzhaveli-VERSION-x86_64-linux.tar.gz, of the archives that .ci/run built and tested
+#   make release-check           dist, packages, and what users do with them: tests/release/run
 #   make conformance IMPL=FILE   compares your code, a .c, .a or .so that offers functions of conformance/yours.h, with the library;
 #                                IMPL_CFLAGS= IMPL_LIBS= what it needs, OPTIONS= options of the runner (docs/TEST-YOURS.md); that
 #                                kit and the vectors are installed in share/cuzhaveli
 #   make clean                   removes build/
 
-VERSION = 0.1.0
+VERSION = 1.0.0
 PREFIX = /usr/local
+LIBDIR = $(PREFIX)/lib
 DESTDIR =
 LIB =
 CFLAGS = -O2
 PKG_CONFIG = pkg-config
 comma = ,
 
-fast = $(if $(LIB),$(patsubst $(dir $(LIB))%,build/%,$(wildcard $(dir $(LIB))libcuzhaveli_fast.a)),build/libcuzhaveli_fast.a)
+# The ready archive that is taken: what LIB= names, else what an earlier make was told, which build/origin has. Archives that
+# stand in build/ are taken as they are if LIB= names them, as the gate does.
+named := $(if $(filter command%,$(origin LIB)),$(abspath $(LIB)),$(file <build/origin))
+standing := $(if $(named),$(filter $(realpath build/libcuzhaveli.a),$(realpath $(named))))
+ready := $(if $(standing),,$(named))
+
+plain_fast = build/libcuzhaveli_fast.a
+fast := $(if $(ready),$(patsubst $(dir $(ready))%,build/%,$(wildcard $(dir $(ready))libcuzhaveli_fast.a)),$(if $(standing),$(wildcard $(plain_fast)),$(plain_fast)))
 archives = build/libcuzhaveli.a build/libcuzhaveli_plans.a $(fast)
 shared = build/libcuzhaveli.so.1
 tool = $(if $(shell command -v cargo),build/cuzhaveli)
@@ -37,48 +47,54 @@ dist = cuzhaveli-$(VERSION)-x86_64-linux
 
 completion = rust/tool/completion
 share = $(DESTDIR)$(PREFIX)/share
+libdir = $(DESTDIR)$(LIBDIR)
 
-.PHONY: all demo manual examples selftest install uninstall dist clean FORCE
+.PHONY: all demo manual examples selftest install uninstall dist release-check clean FORCE
 .DELETE_ON_ERROR:
 
 all: $(archives) $(shared) $(tool)
 	@[ -n "$(tool)" ] || echo "make: no cargo on PATH, so the command cuzhaveli is not built; the libraries are"
-	@[ -n "$(fast)" ] || echo "make: no libcuzhaveli_fast.a beside $(LIB), so $(shared)$(if $(tool), and $(tool)) have the plain compilation alone"
+	@[ -n "$(fast)" ] || echo "make: no libcuzhaveli_fast.a beside $(named), so $(shared)$(if $(tool), and $(tool)) have the plain compilation alone"
 
-ifeq ($(LIB),)
-$(shell [ ! -e build/from-lib ] || rm -f $(archives) $(shared) build/from-lib) # archives that LIB= brought are not built ones
-build/libcuzhaveli.a: archive.sh crates.txt $(shell find crates -name '*.rt' -o -name '*.antt')
-	@command -v rt >/dev/null || { echo "make: the library is built by the Rattle kit, whose command rt is not on PATH; install the kit, or take a ready archive: make LIB=FILE" >&2; exit 1; }
-	@echo "make: proving and compiling: 4 to 6 minutes on two cores the first time, then only what changed; build/archive.log says how far"
+ifneq ($(ready),)
+# What differs from the ready archives is copied. Where the fast one comes or goes, the plain one is taken anew: its date is
+# what cargo looks at.
+same := $(foreach one,$(archives),$(if $(shell cmp -s "$(dir $(ready))$(notdir $(one))" $(one) && echo same),$(one)))
+$(filter-out $(same),$(archives)) $(if $(filter-out x$(fast),x$(wildcard $(plain_fast))),build/libcuzhaveli.a): FORCE
+build/lib%.a: | build/origin
+	@[ -f "$(dir $(ready))lib$*.a" ] || { echo "make: the ready archive is $(ready), and there is no $(dir $(ready))lib$*.a; give the path of libcuzhaveli.a, with libcuzhaveli_plans.a beside it: make LIB=FILE, or LIB= for the kit" >&2; exit 1; }
+	@$(if $(fast),,rm -f $(plain_fast))
+	@cp "$(dir $(ready))lib$*.a" $@
+build/origin: $(if $(filter $(ready),$(file <build/origin)),,FORCE)
 	@mkdir -p build
-	@./archive.sh build >build/archive.log 2>&1 || { tail -n 20 build/archive.log >&2; echo "make: $@ was not built; the lines above are the end of build/archive.log" >&2; exit 1; }
+	@echo "$(ready)" >$@
+else ifeq ($(standing),)
+# What LIB= brought is not built here: with build/origin all is built anew.
+proofs = the library is proved before it is compiled, crate by crate: 5 to 7 minutes on two cores the first time, then only what changed
+build/libcuzhaveli.a: $(if $(wildcard build/origin),FORCE) archive.sh crates.txt $(shell find crates -name '*.rt' -o -name '*.antt')
+	@command -v rt >/dev/null || { echo "make: the library is built by the Rattle kit, whose command rt is not on PATH; install the kit, or take a ready archive: make LIB=FILE" >&2; exit 1; }
+	@mkdir -p build
+	@WHY="$(proofs)" ./progress.sh build/archive.log ./archive.sh build
+	@rm -f build/origin
 	@echo "make: wrote $@"
 build/libcuzhaveli_plans.a: build/libcuzhaveli.a
 	@[ -f $@ ] || cp build/members/cuzhaveli_plans.a $@
 	@echo "make: wrote $@"
 build/x86-64-v3/libcuzhaveli.a: build/libcuzhaveli.a
-	@echo "make: compiling for x86-64-v3: a minute; build/x86-64-v3.log says how far"
-	@./archive.sh build/x86-64-v3 x86-64-v3 >build/x86-64-v3.log 2>&1 || { tail -n 20 build/x86-64-v3.log >&2; echo "make: $@ was not built; the lines above are the end of build/x86-64-v3.log" >&2; exit 1; }
+	@WHY="the calls once more, for processors with AVX2 (x86-64-v3): a minute" ./progress.sh build/x86-64-v3.log ./archive.sh build/x86-64-v3 x86-64-v3
 build/libcuzhaveli_fast.a: build/libcuzhaveli.a build/x86-64-v3/libcuzhaveli.a dispatch/fast.sh dispatch/pick.c include/cuzhaveli.h
 	@dispatch/fast.sh build/libcuzhaveli.a build/x86-64-v3/libcuzhaveli.a build
 	@echo "make: wrote $@"
-else
-# Where the fast archive comes or goes, the plain one is taken anew: its date is what cargo looks at.
-$(shell [ "$(fast)" = "$(wildcard build/libcuzhaveli_fast.a)" ] || rm -f build/libcuzhaveli.a build/libcuzhaveli_fast.a)
-build/lib%.a: FORCE
-	@[ -f "$(dir $(LIB))lib$*.a" ] || { echo "make: LIB is $(LIB), and there is no $(dir $(LIB))lib$*.a; give the path of libcuzhaveli.a, with libcuzhaveli_plans.a beside it" >&2; exit 1; }
-	@mkdir -p build
-	@cmp -s "$(dir $(LIB))lib$*.a" $@ || cp "$(dir $(LIB))lib$*.a" $@
-	@touch build/from-lib
 endif
 
 $(shared): $(or $(fast),build/libcuzhaveli.a) dispatch/shared.sh include/cuzhaveli.h
 	@dispatch/shared.sh $< build
 	@echo "make: wrote $@"
 
-build/cuzhaveli: build/libcuzhaveli.a $(fast) $(shell find rust/cuzhaveli rust/tool -name '*.rs' -o -name Cargo.toml)
+build/cuzhaveli: build/libcuzhaveli.a $(fast) $(shell find rust -name target -prune -o -name '*.rs' -print -o -name '*.man' -print -o -name 'Cargo.*' -print)
 	@command -v cargo >/dev/null || { echo "make: the command cuzhaveli is built by cargo, which is not on PATH; install Rust 1.89 or newer" >&2; exit 1; }
-	@CUZHAVELI_LIB_DIR="$(CURDIR)/build" CARGO_TARGET_DIR="$(CURDIR)/build/tool" cargo build -q --release --offline --manifest-path rust/tool/Cargo.toml
+	@[ -f $@ ] || echo "make: compiling the command: a minute"
+	@CUZHAVELI_LIB_DIR="$(CURDIR)/build" CARGO_TARGET_DIR="$(CURDIR)/build/tool" RUSTFLAGS="$$RUSTFLAGS --remap-path-prefix=$(CURDIR)=cuzhaveli" cargo build -q --release --offline --manifest-path rust/tool/Cargo.toml
 	@cp build/tool/release/cuzhaveli $@
 	@echo "make: wrote $@"
 
@@ -97,10 +113,10 @@ manual: build/cuzhaveli
 	@echo "make: wrote docs/*.1 and $(completion)/"
 
 install: $(archives) $(shared) $(tool)
-	@install -d "$(DESTDIR)$(PREFIX)/include" "$(DESTDIR)$(PREFIX)/lib/pkgconfig"
+	@install -d "$(DESTDIR)$(PREFIX)/include" "$(libdir)/pkgconfig"
 	@install -m 644 include/cuzhaveli.h "$(DESTDIR)$(PREFIX)/include/"
-	@install -m 644 $(archives) $(shared) "$(DESTDIR)$(PREFIX)/lib/"
-	@ln -sf libcuzhaveli.so.1 "$(DESTDIR)$(PREFIX)/lib/libcuzhaveli.so"
+	@install -m 644 $(archives) $(shared) "$(libdir)/"
+	@ln -sf libcuzhaveli.so.1 "$(libdir)/libcuzhaveli.so"
 ifneq ($(tool),)
 	@install -d "$(DESTDIR)$(PREFIX)/bin" "$(share)/man/man1" "$(share)/bash-completion/completions" "$(share)/zsh/site-functions" "$(share)/fish/vendor_completions.d"
 	@install -m 755 $(tool) "$(DESTDIR)$(PREFIX)/bin/"
@@ -109,34 +125,40 @@ ifneq ($(tool),)
 	@install -m 644 $(completion)/_cuzhaveli "$(share)/zsh/site-functions/"
 	@install -m 644 $(completion)/cuzhaveli.fish "$(share)/fish/vendor_completions.d/"
 endif
-	@sed 's|@PREFIX@|$(PREFIX)|; s|@VERSION@|$(VERSION)|' cuzhaveli.pc.in >"$(DESTDIR)$(PREFIX)/lib/pkgconfig/cuzhaveli.pc"
+	@sed 's|@PREFIX@|$(PREFIX)|; s|@LIBDIR@|$(patsubst $(PREFIX)/%,$${prefix}/%,$(LIBDIR))|; s|@VERSION@|$(VERSION)|' cuzhaveli.pc.in >"$(libdir)/pkgconfig/cuzhaveli.pc"
 	@echo "make: installed header, archives, shared library, cuzhaveli.pc$(if $(tool),$(comma) command$(comma) manual and completion) under $(DESTDIR)$(PREFIX)"
 
 uninstall:
-	rm -f "$(DESTDIR)$(PREFIX)/include/cuzhaveli.h" "$(DESTDIR)$(PREFIX)/lib/libcuzhaveli.a" "$(DESTDIR)$(PREFIX)/lib/libcuzhaveli_plans.a" "$(DESTDIR)$(PREFIX)/lib/libcuzhaveli_fast.a" "$(DESTDIR)$(PREFIX)/lib/libcuzhaveli.so" "$(DESTDIR)$(PREFIX)/lib/libcuzhaveli.so.1" "$(DESTDIR)$(PREFIX)/lib/pkgconfig/cuzhaveli.pc" "$(DESTDIR)$(PREFIX)/bin/cuzhaveli" "$(share)/man/man1/cuzhaveli.1" "$(share)/man/man1/cuzhaveli-"*.1 "$(share)/bash-completion/completions/cuzhaveli" "$(share)/zsh/site-functions/_cuzhaveli" "$(share)/fish/vendor_completions.d/cuzhaveli.fish"
+	rm -f "$(DESTDIR)$(PREFIX)/include/cuzhaveli.h" "$(libdir)/libcuzhaveli.a" "$(libdir)/libcuzhaveli_plans.a" "$(libdir)/libcuzhaveli_fast.a" "$(libdir)/libcuzhaveli.so" "$(libdir)/libcuzhaveli.so.1" "$(libdir)/pkgconfig/cuzhaveli.pc" "$(DESTDIR)$(PREFIX)/bin/cuzhaveli" "$(share)/man/man1/cuzhaveli.1" "$(share)/man/man1/cuzhaveli-"*.1 "$(share)/bash-completion/completions/cuzhaveli" "$(share)/zsh/site-functions/_cuzhaveli" "$(share)/fish/vendor_completions.d/cuzhaveli.fish"
 
 examples: $(archives) $(shared)
 	@rm -rf "$(scratch)" && mkdir -p "$(scratch)"
-	@$(MAKE) -s install PREFIX="$(scratch)/usr" DESTDIR=
+	@$(MAKE) -s install PREFIX="$(scratch)/usr" LIBDIR="$(scratch)/usr/lib" DESTDIR=
 	@CC="$(CC)" CFLAGS="$(CFLAGS) $(warnings)" PKG_CONFIG="$(PKG_CONFIG)" examples/run "$(scratch)"
 
 selftest: $(shared)
 	@CUZHAVELI_LIBRARY="$(CURDIR)/$(shared)" PYTHONPATH="$(CURDIR)/python" PYTHONDONTWRITEBYTECODE=1 python3 -m cuzhaveli.selftest
 
-# The archive, the command and what belongs to them, with the sums, the kit's identity and the gate's log.
+# The archive, the command and what belongs to them, with the sums, the kit's identity and the gate's log. The same files give
+# the same bytes, whatever the folder, the day and the user's umask.
 dist: $(archives) $(shared) build/cuzhaveli
 	@[ -f build/gate.log ] || { echo "make: no build/gate.log, which goes into the archive; run .ci/run first" >&2; exit 1; }
 	@for one in $(archives) $(shared); do grep -q "$$(sha256sum <$$one | cut -d ' ' -f 1)" build/gate.log || { echo "make: $$one is not the one that build/gate.log tells of; run .ci/run again" >&2; exit 1; }; done
 	@command -v rt >/dev/null || { echo "make: the kit's identity goes into the archive, and its command rt is not on PATH" >&2; exit 1; }
 	@rm -rf build/$(dist) && mkdir -p build/$(dist)
-	@$(MAKE) -s install PREFIX=/usr DESTDIR="$(CURDIR)/build/$(dist)"
+	@$(MAKE) -s install PREFIX=/usr LIBDIR=/usr/lib DESTDIR="$(CURDIR)/build/$(dist)"
 	@mv build/$(dist)/usr/* build/$(dist)/ && rmdir build/$(dist)/usr
-	@sed 's|@PREFIX@|$${pcfiledir}/../..|; s|@VERSION@|$(VERSION)|' cuzhaveli.pc.in >build/$(dist)/lib/pkgconfig/cuzhaveli.pc
-	@cp -r README.md docs examples rust python build/$(dist)/ && rm -rf build/$(dist)/rust/*/target && find build/$(dist)/python -name __pycache__ -exec rm -rf {} +
+	@sed 's|@PREFIX@|$${pcfiledir}/../..|; s|@LIBDIR@|$${prefix}/lib|; s|@VERSION@|$(VERSION)|' cuzhaveli.pc.in >build/$(dist)/lib/pkgconfig/cuzhaveli.pc
+	@cp -r README.md LICENSE CHANGELOG.md SECURITY.md docs examples rust python build/$(dist)/
+	@ln -s share/cuzhaveli/conformance share/cuzhaveli/vectors build/$(dist)/
+	@rm -rf build/$(dist)/rust/*/target && find build/$(dist) -name __pycache__ -exec rm -rf {} +
 	@rt version >build/$(dist)/KIT && cp build/gate.log build/$(dist)/
 	@cd build/$(dist) && find . -type f ! -name SHA256SUMS | LC_ALL=C sort | xargs sha256sum >SHA256SUMS
-	@cd build && tar --sort=name --mtime=@0 --owner=0 --group=0 --numeric-owner -cf - $(dist) | gzip -n >$(dist).tar.gz
+	@cd build && tar --sort=name --mtime=@0 --owner=0 --group=0 --numeric-owner --mode=u+rw,go=rX --format=gnu -cf - $(dist) | gzip -n >$(dist).tar.gz
 	@sha256sum build/$(dist).tar.gz
+
+release-check: all
+	@tests/release/run build
 
 # The conformance kit: a user's code compared with the library.
 IMPL =

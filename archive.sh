@@ -6,6 +6,8 @@
 #           crates below the exports have to be proved: run it without ARCH first
 # The exports stand in the crates cuzhaveli_* of crates.txt. `rt staticlib` writes an archive of one crate; here each becomes a
 # member of libcuzhaveli.a, so that a program takes the members that it calls. libcuzhaveli_plans.a is the member on plans alone.
+# Every crate is proved once: `rt check` proves those below the exports, on all processors, and `rt staticlib` each export as it
+# compiles it. Lines that begin with archive.sh: say what comes next, for progress.sh.
 # For ARCH, `rattle build --toolchain` takes the folder of the compiler that it runs, which has the kit's own programs, clang by
 # a script that adds -march=ARCH after the kit's -march=x86-64.
 set -eu
@@ -53,17 +55,52 @@ compiled() { # NAME FILE
         --toolchain "$tools" --crate-type staticlib -o "$file"
 }
 
+# The crates that the exports use, at whatever remove; each stands in crates.txt below what it uses.
+below_exports() {
+    awk -F: '/^[a-z_]+:/ { names[++n] = $1; uses[$1] = $2 }
+        END {
+            for (i = n; i > 0; i--)
+                if (names[i] ~ /^cuzhaveli_/ || names[i] in used) { split(uses[names[i]], words, " "); for (j in words) used[words[j]] }
+            for (i = 1; i <= n; i++) if (names[i] in used) print names[i]
+        }' crates.txt
+}
+
+# Each of these is proved and compiled with nothing that another writes: as many at a time as there are processors.
+compiled_all() { # NAME..
+    running=
+    for name in "$@"; do
+        echo "archive.sh: compiling $name"
+        (compiled "$name" "$members/$name.a") >"$members/$name.log" 2>&1 &
+        running="$running $!:$name"
+        # shellcheck disable=SC2086 # the numbers are words
+        set -- $running
+        if [ $# -ge "${RT_JOBS:-$(nproc)}" ]; then ended "$1" && shift && running=$*; fi
+    done
+    for one in $running; do ended "$one"; done
+}
+
+ended() { # NUMBER:NAME
+    wait "${1%%:*}" || { cat "$members/${1#*:}.log"; die "${1#*:} was not compiled for $arch"; }
+    cat "$members/${1#*:}.log"
+}
+
 [ -z "$arch" ] || toolchain
 members=$folder/members
 rm -rf "$members" "$folder/libcuzhaveli.a" "$folder/libcuzhaveli_plans.a"
 mkdir "$members"
 exports=$(sed -n 's/^\(cuzhaveli_[a-z]*\):.*/\1/p' crates.txt | LC_ALL=C sort)
-# rt check proves what is not proved yet on all processors, rt staticlib one crate after another
-# shellcheck disable=SC2086 # the exports are words
-[ -n "$arch" ] || rt check $exports
-for export in $exports; do
-    if [ -z "$arch" ]; then proved "$export" "$members/$export.a"; else compiled "$export" "$members/$export.a"; fi
-    (cd "$members" && ar x "$export.a" "$export.o")
-done
+# shellcheck disable=SC2086 # the names are words
+if [ -z "$arch" ]; then
+    below=$(below_exports)
+    echo "archive.sh: proving" $below
+    rt check $below
+    for export in $exports; do
+        echo "archive.sh: compiling $export"
+        proved "$export" "$members/$export.a"
+    done
+else
+    compiled_all $exports
+fi
+for export in $exports; do (cd "$members" && ar x "$export.a" "$export.o"); done
 (cd "$members" && for export in $exports; do echo "$export.o"; done | xargs ar rcsD ../libcuzhaveli.a)
 cp "$members/cuzhaveli_plans.a" "$folder/libcuzhaveli_plans.a"

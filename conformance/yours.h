@@ -1,3 +1,4 @@
+/* SPDX-License-Identifier: Apache-2.0 */
 /* yours.h: what your code offers to be compared with the proved library. docs/TEST-YOURS.md
  * tells the way.
  *

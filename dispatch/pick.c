@@ -1,3 +1,4 @@
+/* SPDX-License-Identifier: Apache-2.0 */
 /* Chooses between the two compilations of each call, x86-64 and x86-64-v3, when a program is loaded.
  * fast.sh compiles this file once for each member of the archive, whose calls stand in calls.h as
  * PICK(name).

@@ -1,3 +1,4 @@
+/* SPDX-License-Identifier: Apache-2.0 */
 /* Loses a disk and rebuilds it by the balanced plan, then a disk and bad cells of two others, and mends them. */
 
 #include <cuzhaveli.h>

@@ -1,3 +1,4 @@
+/* SPDX-License-Identifier: Apache-2.0 */
 /* A run: the rebuild of one disk over many stripes, one of them free, with its record kept in a file and its bill. */
 
 #include <cuzhaveli.h>

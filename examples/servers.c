@@ -1,3 +1,4 @@
+/* SPDX-License-Identifier: Apache-2.0 */
 /* Three servers and a parity server: one is lost whole, another has two disks lost, and all come back. */
 
 #include <cuzhaveli.h>

@@ -1,3 +1,4 @@
+/* SPDX-License-Identifier: Apache-2.0 */
 /* The ingest check: does a package fit? Every file starts on a stripe of its own, so 300 small subtitle images beside one
  * feature take far more than their bytes. */
 

@@ -1,3 +1,4 @@
+/* SPDX-License-Identifier: Apache-2.0 */
 /* Encodes a stripe, loses one disk and then two, and rebuilds them. */
 
 #include <cuzhaveli.h>

@@ -1,3 +1,4 @@
+/* SPDX-License-Identifier: Apache-2.0 */
 /* cuzhaveli.h: a proved Liberation RAID-6 code. C99 and C++; x86-64 Linux; link with -lcuzhaveli.
  *
  * An array has a width p (3, 5, 7, 11, 13, 17, 19, 23, 29 or 31), k data disks (2 to p; disks 0 to k - 1), row
@@ -42,7 +43,7 @@
 extern "C" {
 #endif
 
-#define CUZHAVELI_VERSION 100 /* 0.1.0, as cuzhaveli_version() says it */
+#define CUZHAVELI_VERSION 10000 /* 1.0.0, as cuzhaveli_version() says it */
 #define CUZHAVELI_MAX_WIDTH 31
 #define CUZHAVELI_MAX_CELL_SIZE 4096
 #define CUZHAVELI_MAX_SERVERS 16          /* without the parity server */
@@ -50,21 +51,20 @@ extern "C" {
 #define CUZHAVELI_MAX_FILES 4096          /* of a package */
 #define CUZHAVELI_TEXT_BYTES 263          /* room for a plan that is written as text */
 #define CUZHAVELI_MAX_ARRAYS 64           /* of one list */
+#define CUZHAVELI_NO_LOSS 255             /* a byte of a server's losses that names no disk */
 
-/* Sizes in bytes, for a shape within the limits. */
-#define CUZHAVELI_COLUMN_BYTES(shape) ((shape).width * (shape).cell_size)           /* a disk's part of a stripe */
-#define CUZHAVELI_DATA_BYTES(shape) ((shape).disks * CUZHAVELI_COLUMN_BYTES(shape)) /* a stripe's film */
+/* Sizes in bytes, of type size_t, for numbers within the limits. Each takes what the calls take to which it belongs:
+ * on plans width and disks, on stripes a shape. */
+#define CUZHAVELI_PLAN_BYTES(width) ((size_t)3 * (size_t)(width))                    /* a plan as bytes */
+#define CUZHAVELI_LIST_BYTES(width, disks) (((size_t)(disks) + 2) * (size_t)(width)) /* a read list, or marks */
+#define CUZHAVELI_COLUMN_BYTES(shape) ((shape).width * (shape).cell_size)            /* a disk's part of a stripe */
+#define CUZHAVELI_DATA_BYTES(shape) ((shape).disks * CUZHAVELI_COLUMN_BYTES(shape))  /* a stripe's film */
 #define CUZHAVELI_STRIPE_BYTES(shape) (((shape).disks + 2) * CUZHAVELI_COLUMN_BYTES(shape))
-#define CUZHAVELI_SERVERS_BYTES(shape, m) (((size_t)(m) + 1) * CUZHAVELI_STRIPE_BYTES(shape)) /* of all servers */
-#define CUZHAVELI_LOSSES_BYTES(m) ((size_t)2 * ((size_t)(m) + 1))                             /* of all servers */
-#define CUZHAVELI_LIST_BYTES(p, k) (((size_t)(k) + 2) * (size_t)(p)) /* a read list, or marks of missing cells */
-#define CUZHAVELI_PLAN_BYTES(p) ((size_t)3 * (size_t)(p))            /* a plan as bytes */
-
-/* A byte of a server's losses that names no disk. */
-#define CUZHAVELI_NO_LOSS 255
+#define CUZHAVELI_SERVERS_BYTES(shape, servers) (((size_t)(servers) + 1) * CUZHAVELI_STRIPE_BYTES(shape))
+#define CUZHAVELI_LOSSES_BYTES(servers) ((size_t)2 * ((size_t)(servers) + 1))
 
 /* The place of a cell in a read list or among marks; times the cell size, its first byte in a stripe. */
-#define CUZHAVELI_CELL(p, row, disk) ((size_t)(disk) * (size_t)(p) + (size_t)(row))
+#define CUZHAVELI_CELL(width, row, disk) ((size_t)(disk) * (size_t)(width) + (size_t)(row))
 
 enum cuzhaveli_refusal {
     CUZHAVELI_OK = 0,
@@ -92,6 +92,38 @@ enum cuzhaveli_refusal {
     CUZHAVELI_BAD_PLAN_TEXT = 22,     /* a text that is not of a plan's form, or not of p lines; tested after 5 */
     CUZHAVELI_UNDETERMINED = 23       /* the other cells do not determine the missing ones; tested last */
 };
+
+/* What a refusal says, for people to read: a text that stands as long as the program runs, without a line's end. It is
+ * never NULL, also for a number that this header does not know; for 6 to 9 tell the step, `place`, too. */
+static inline const char *cuzhaveli_refusal_text(unsigned refusal)
+{
+    static const char *const texts[] = {
+        "not refused",
+        "the width is not one of 3, 5, 7, 11, 13, 17, 19, 23, 29, 31",
+        "the cell size is 0 or over 4096",
+        "the array has no disk of that number, or no data disk",
+        "two disks that must differ are the same",
+        "a length is another than the one required",
+        "the row or set number of a step is the width or more, or its kind over 1",
+        "the set of a step lacks that row's lost cell",
+        "the row of a step was rebuilt by an earlier one",
+        "another lost cell of a step's set is still missing",
+        "next is not below the stripes of the run, the stripe is not next, or more are skipped than passed",
+        "the package has more than 2^48 bytes",
+        "the input is not of the plan program's form",
+        "the data disks are fewer than 2 or more than the width",
+        "the package has more than 4096 files",
+        "the array has no row of that number",
+        "a rate is over 1000 cents a GiB",
+        "the bill has more than 2^54 bytes",
+        "the servers are fewer than 2 or more than 16, or there is none of that number",
+        "the surviving disks are those of no clean stripe",
+        "the list has no array of that number, or more than 64 arrays",
+        "the disk reported lost is lost, or the one reported back is not",
+        "the text is not of a plan's form, or has another number of lines than the width",
+        "the other cells do not determine the missing ones"};
+    return refusal < sizeof texts / sizeof *texts ? texts[refusal] : "a refusal that this header does not know";
+}
 
 /* p, k and s. */
 struct cuzhaveli_shape {
@@ -384,6 +416,22 @@ struct cuzhaveli_answer cuzhaveli_rebuild_cells(struct cuzhaveli_shape shape, co
  * same cell, the last one stands. Refuses 1, 13, 2, 3 (P and Q too), 5, 15. */
 struct cuzhaveli_answer cuzhaveli_update_cell(struct cuzhaveli_shape shape, size_t row, size_t disk, uint8_t *stripe,
                                               size_t stripe_len, const uint8_t *cell, size_t cell_len);
+
+/* The cells that an update of row `row` of data disk `disk` reads and changes, as CUZHAVELI_CELL numbers them: that
+ * cell, the P cell of its row, the Q cell of its diagonal and, if it is an extra cell, the Q cell of the diagonal that
+ * has it as such. Gives their number, 3 or 4; 0, and writes nothing, if there is no such row or data disk. */
+static inline size_t cuzhaveli_update_cells(size_t width, size_t disks, size_t row, size_t disk, size_t cells[4])
+{
+    if (row >= width || disk >= disks || disks > width)
+        return 0;
+    cells[0] = CUZHAVELI_CELL(width, row, disk);
+    cells[1] = CUZHAVELI_CELL(width, row, disks);
+    cells[2] = CUZHAVELI_CELL(width, (row + width - disk) % width, disks + 1);
+    if (disk == 0 || disk != (2 * row + 2) % width) /* the extra cell of diagonal p - 1 - row is on that disk */
+        return 3;
+    cells[3] = CUZHAVELI_CELL(width, width - 1 - row, disks + 1);
+    return 4;
+}
 
 /* Servers: `servers` of them, m = 2 to 16, with arrays of one shape, and a parity server, number m. Their m + 1 stripes
  * lie one after another in `stripes`, CUZHAVELI_SERVERS_BYTES(shape, servers) bytes; that of server i starts at byte

@@ -1,3 +1,4 @@
+/* SPDX-License-Identifier: Apache-2.0 */
 /* Jerasure's Liberation code, offered to the conformance runner, as an example of a shim over
  * columns:
  *     make conformance IMPL=conformance/examples/jerasure.c \

@@ -1,3 +1,4 @@
+/* SPDX-License-Identifier: Apache-2.0 */
 /* A plain Liberation code, as an example of what can be tested: make conformance
  * IMPL=conformance/examples/plain.c It lists the cells of each set and XORs them; cell c * p + i
  * is row i of disk c. */

@@ -1,4 +1,5 @@
 #!/usr/bin/env python3
+# SPDX-License-Identifier: Apache-2.0
 """A plain Liberation code in Python, held to the vectors: an example for any language.
 
 Usage: conformance/examples/vectors.py FOLDER [WIDTH]

@@ -1,3 +1,4 @@
+# SPDX-License-Identifier: Apache-2.0
 """Builds the package for pip (PEP 517 and 660) with nothing but Python.
 
 A wheel takes libcuzhaveli.so.1 beside the modules if it is built: the file that CUZHAVELI_LIBRARY
@@ -23,6 +24,7 @@ METADATA = f"""Metadata-Version: 2.1
 Name: cuzhaveli
 Version: {VERSION}
 Summary: A proved Liberation RAID-6 code: encode, check, rebuild by the fewest reads
+License: Apache-2.0
 Requires-Python: >=3.9
 Description-Content-Type: text/markdown
 
@@ -45,6 +47,7 @@ def build_sdist(sdist_directory, config_settings=None):
     kept = [TOP / "pyproject.toml", TOP / "README.md", pathlib.Path(__file__).resolve(), *modules()]
     kept += sorted((TOP / "examples").glob("lose_disks.*"))
     files = {path.relative_to(TOP).as_posix(): path.read_bytes() for path in kept}
+    files.update(licence())
     files["PKG-INFO"] = described()
     name = f"{NAME}.tar.gz"
     with tarfile.open(pathlib.Path(sdist_directory) / name, "w:gz", format=tarfile.PAX_FORMAT) as archive:
@@ -58,6 +61,12 @@ def build_sdist(sdist_directory, config_settings=None):
 def described():
     """What the package says of itself."""
     return (METADATA + (TOP / "README.md").read_text(encoding="utf-8")).encode()
+
+
+def licence():
+    """The licence: in the repository and a release a folder above, in a source package beside the others."""
+    places = [folder / "LICENSE" for folder in (TOP, TOP.parent)]
+    return {"LICENSE": place.read_bytes() for place in places if place.is_file()}
 
 
 def modules():
@@ -79,6 +88,7 @@ def write_wheel(folder, files, tag):
     wheel = f"Wheel-Version: 1.0\nGenerator: cuzhaveli_backend\nRoot-Is-Purelib: true\nTag: {tag}\n"
     files = dict(files)
     files[f"{about}/METADATA"] = described()
+    files.update((f"{about}/{name}", content) for name, content in licence().items())
     files[f"{about}/WHEEL"] = wheel.encode()
     record = "".join(f"{path},sha256={digest(content)},{len(content)}\n" for path, content in files.items())
     files[f"{about}/RECORD"] = f"{record}{about}/RECORD,,\n".encode()

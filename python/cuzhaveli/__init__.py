@@ -1,3 +1,4 @@
+# SPDX-License-Identifier: Apache-2.0
 """A proved Liberation RAID-6 code: the calls of libcuzhaveli.so.1.
 
 An array has a width p (3, 5, 7, 11, 13, 17, 19, 23, 29 or 31), k data disks (2 to p), row parity P
@@ -47,14 +48,14 @@ __all__ += shape.__all__
 __all__ += states.__all__
 __all__ += stripes.__all__
 
-__version__ = "0.1.0"
+__version__ = "1.0.0"
 
 
 def version() -> int:
     """The library's version: 10000 times its first number, 100 times its second, and its third.
 
     >>> version()
-    100
+    10000
     """
     number: int = _call("version")
     return number

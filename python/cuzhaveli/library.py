@@ -41,7 +41,7 @@ def path() -> str:
 def load() -> ctypes.CDLL:
     """The library with its calls declared; loaded at the first call.
 
-    >>> load().cuzhaveli_version() >= 100
+    >>> load().cuzhaveli_version() >= 10000
     True
     """
     where = path()

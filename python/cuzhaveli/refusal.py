@@ -41,7 +41,7 @@ TEXTS: dict[int, str] = {
     RefusalKind.BAD_CELL_SIZE: "the cell size is 0 or over 4096",
     RefusalKind.NO_SUCH_DISK: "the array has no disk of that number, or no data disk",
     RefusalKind.SAME_DISK: "two disks that must differ are the same",
-    RefusalKind.BAD_LENGTH: "a slice has another length than the one required",
+    RefusalKind.BAD_LENGTH: "a length is another than the one required",
     RefusalKind.STEP_RANGE: (
         "the row or set number of a step is the width or more, or its kind over 1"
     ),

@@ -1,3 +1,4 @@
+# SPDX-License-Identifier: Apache-2.0
 """Keeps a film on seven disks, loses disks and cells, and brings them back; draws the plan."""
 
 import cuzhaveli

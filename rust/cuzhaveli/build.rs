@@ -1,3 +1,4 @@
+// SPDX-License-Identifier: Apache-2.0
 //! Finds libcuzhaveli.a: in the folder that CUZHAVELI_LIB_DIR names, else in build/ of the
 //! repository or lib/ of a release, else where the program pkg-config says. Where that folder has
 //! libcuzhaveli_fast.a too, it is taken instead, unless the feature `plain` is on.

@@ -10,6 +10,7 @@ import subprocess
 from harness import TOP, expect, noise
 
 COMPLETION = TOP / "rust/tool/completion"
+WIDTHS = (60, 80, 100)  # columns of a terminal
 
 
 def manual_text(path):
@@ -53,7 +54,7 @@ def one_table(setting):
 
 
 def manual_pages(setting):
-    """The pages are what man understands."""
+    """The pages are what man understands, and no name in them is broken by a hyphen at the end of a line."""
     if not shutil.which("man"):
         return "left out: no man on this machine"
     pages = sorted((TOP / "docs").glob("*.1"))
@@ -62,7 +63,11 @@ def manual_pages(setting):
         # where a table meets the end of a printed page is no fault
         told = [line for line in done.stderr.splitlines() if not line.endswith("will not fit on one page")]
         expect(done.returncode == 0 and not told, f"man says of {page.name}: {told}")
-    return f"{len(pages)} pages"
+        for width in WIDTHS:
+            shown = subprocess.run(["man", "-Tutf8", "-l", page], capture_output=True, text=True, env={**os.environ, "MANWIDTH": str(width), "MANPAGER": "cat"})
+            broken = re.findall(r"^.*\w[-\u2010]$", re.sub(r"\x1b\[[0-9;]*m|.\x08", "", shown.stdout), re.M)
+            expect(shown.returncode == 0 and shown.stdout and not broken, f"{page.name} in {width} columns breaks a word: {broken[:1]}")
+    return f"{len(pages)} pages in {len(WIDTHS)} widths"
 
 
 # what is typed, and what must be offered and what must not

@@ -9,7 +9,7 @@ use refusals::Shape;
 use space::Space;
 
 // The version 0.1.0: 10,000 for each major number, 100 for each minor one, 1 for each patch.
-const VERSION: u32 = 100;
+const VERSION: u32 = 10000;
 
 // The space that a package of files takes.
 #[no_mangle]
@@ -36,10 +36,10 @@ pub extern "C" fn cuzhaveli_bill_run(run: Run, first: u64, second: u64, third: u
 }
 
 // The version of the library: 10,000 times its first number, 100 times its second, and its third,
-// so 100 for 0.1.0.
+// so 10,000 for 1.0.0.
 #[no_mangle]
 pub extern "C" fn cuzhaveli_version() -> u32
-    ensures { λ r. ⌜ r ≡ 100 ⌝ }
+    ensures { λ r. ⌜ r ≡ 10000 ⌝ }
 {
     VERSION
 }

@@ -1,3 +1,4 @@
+// SPDX-License-Identifier: Apache-2.0
 //! The library's calls as they are, field by field and name by name those of `include/cuzhaveli.h`,
 //! which says what each does and what its caller owes. The gate compares the two with the proved
 //! source.

@@ -1,3 +1,4 @@
+// SPDX-License-Identifier: Apache-2.0
 //! A proved Liberation RAID-6 code, as safe calls over `libcuzhaveli.a`.
 //!
 //! An array has a width p (3, 5, 7, 11, 13, 17, 19, 23, 29 or 31), k data disks (2 to p), row
@@ -53,7 +54,7 @@ pub use states::{report_disk, ArrayState, Totals};
 /// The version of the archive: 10,000 times its first number, 100 times its second, and its third.
 ///
 /// ```
-/// assert_eq!(cuzhaveli::version(), 100); // 0.1.0
+/// assert_eq!(cuzhaveli::version(), 10_000); // 1.0.0
 /// ```
 pub fn version() -> u32 {
     unsafe { ffi::cuzhaveli_version() }

@@ -33,6 +33,17 @@ macro_rules! kinds {
 
         impl RefusalKind {
             const ALL: &'static [(RefusalKind, &'static str)] = &[$((RefusalKind::$name, $text),)*];
+
+            /// What it says, as C's `cuzhaveli_refusal_text` does.
+            ///
+            /// ```
+            /// assert_eq!(cuzhaveli::RefusalKind::NoSuchRow.text(), "the array has no row of that number");
+            /// ```
+            pub fn text(self) -> &'static str {
+                match self {
+                    $(RefusalKind::$name => $text,)*
+                }
+            }
         }
     };
 }
@@ -42,7 +53,7 @@ kinds! {
     BadCellSize = 2, "the cell size is 0 or over 4096";
     NoSuchDisk = 3, "the array has no disk of that number, or no data disk";
     SameDisk = 4, "two disks that must differ are the same";
-    BadLength = 5, "a slice has another length than the one required";
+    BadLength = 5, "a length is another than the one required";
     StepRange = 6, "the row or set number of a step is the width or more, or its kind over 1";
     StepSet = 7, "the set of a step lacks that row's lost cell";
     StepRepeated = 8, "the row of a step was rebuilt by an earlier one";
@@ -62,6 +73,20 @@ kinds! {
     BadPlanText = 22, "the text is not of a plan's form, or has another number of lines than the width";
     Undetermined = 23, "the other cells do not determine the missing ones";
     Unknown = 255, "a refusal that this version of the crate does not know";
+}
+
+impl RefusalKind {
+    /// All that the library can answer, in the order of their numbers; not [`RefusalKind::Unknown`].
+    ///
+    /// ```
+    /// use cuzhaveli::RefusalKind;
+    ///
+    /// assert!(RefusalKind::all().map(|kind| kind as u8).eq(1..=23));
+    /// ```
+    pub fn all() -> impl Iterator<Item = RefusalKind> {
+        let kinds = RefusalKind::ALL.iter().map(|(kind, _)| *kind);
+        kinds.filter(|kind| *kind != RefusalKind::Unknown)
+    }
 }
 
 impl Refusal {

@@ -1,3 +1,4 @@
+// SPDX-License-Identifier: Apache-2.0
 //! Images of disks with a film, in layout 2: written once and named last; what may be believed is
 //! what their checksums say. docs/cuzhaveli.1 describes the layout.
 //!

@@ -1,3 +1,4 @@
+// SPDX-License-Identifier: Apache-2.0
 //! The command `cuzhaveli`: images of disks, encoded, checked, rebuilt with few reads, in a full array the fewest.
 //!
 //! All coding is done by the proved library; this program moves bytes between files and memory, and

@@ -1,11 +1,15 @@
 //! The table as manual pages, in the language of man(7).
 
+use cuzhaveli::RefusalKind;
+
 use crate::commands::COMMANDS;
 use crate::table::Command;
 
 /// What no entry of the table says: what the program is, and what it keeps.
 const DESCRIPTION: &str = include_str!("manual/description.man");
 const CHAPTERS: &str = include_str!("manual/chapters.man");
+/// Where in the chapters the table of refusals goes.
+const REFUSALS: &str = "@REFUSALS@\n";
 
 /// Text as man takes it.
 fn plain(text: &str) -> String {
@@ -23,7 +27,13 @@ fn paragraph(text: &str) -> String {
 
 fn head(name: &str) -> String {
     let (name, version) = (name.to_uppercase(), env!("CARGO_PKG_VERSION"));
-    format!("'\\\" t\n.\\\" Made by `make manual` from the table of commands.\n.TH {name} 1 \"\" \"cuzhaveli {version}\" \"User Commands\"\n")
+    format!("'\\\" t\n.\\\" Made by `make manual` from the table of commands.\n.TH {name} 1 \"\" \"cuzhaveli {version}\" \"User Commands\"\n.nh\n")
+}
+
+/// The library's refusals, from the crate's table.
+fn refusals() -> String {
+    let row = |kind: RefusalKind| format!("{}\tT{{\n{}\nT}}\n", kind as u8, plain(kind.text()));
+    format!(".TS\nr lx.\n{}.TE\n", RefusalKind::all().map(row).collect::<String>())
 }
 
 fn synopsis(command: &Command) -> String {
@@ -42,8 +52,9 @@ pub fn whole() -> String {
         COMMANDS.iter().map(|command| (format!("cuzhaveli-{}(1)", command.name), command.brief));
     let name =
         plain("cuzhaveli - images of disks, encoded, checked, rebuilt with few reads, in a full array the fewest");
+    let chapters = CHAPTERS.replacen(REFUSALS, &refusals(), 1);
     format!(
-        "{}.SH NAME\n{}\n.SH SYNOPSIS\n.nf\n{lines}.fi\n{DESCRIPTION}.SH COMMANDS\n{}{CHAPTERS}",
+        "{}.SH NAME\n{}\n.SH SYNOPSIS\n.nf\n{lines}.fi\n{DESCRIPTION}.SH COMMANDS\n{}{chapters}",
         head("cuzhaveli"),
         name,
         list(commands)
