@@ -1,6 +1,6 @@
 #!/usr/bin/env python3
-"""Holds the documents to the crates: docs/layers.svg and docs/STATEMENTS.md are what their scripts make, with the axioms that
-`rt ci` printed; docs/ARCHITECTURE.md has a row for each crate, with its layer, and each public function once; and what the
+"""Holds the documents to the crates: docs/layers.svg, docs/STATEMENTS.md and docs/index.html are what their scripts make, with
+the axioms that `rt ci` printed; docs/ARCHITECTURE.md has a row for each crate, with its layer, and each public function once; and what the
 documents cite is there (citations.py).
 
 Usage: tests/interface/documents.py
@@ -77,6 +77,7 @@ def without(row):
 CHECKS = [
     (lambda text: made_by("docs/layers.py", text.encode()), TOP / "docs/layers.svg", "docs/layers.py >docs/layers.svg", without("<line ")),
     (lambda text: made_by("docs/statements.py", text.encode()), STATEMENTS, "docs/statements.py >docs/STATEMENTS.md", without("pub ")),
+    (lambda text: made_by("docs/page.py", text.encode()), TOP / "docs/index.html", "docs/page.py >docs/index.html", without("<option ")),
     *([(axioms, STATEMENTS, "say in docs/statements.py what the crate takes for granted",
         lambda text: text.replace("axioms=0", "axioms=1"))] if LOGS else []),
     (crate_rows, ARCHITECTURE, "write the table anew from crates.txt and the heads of the crates", without(r"\| \d+ \| `")),
