@@ -55,7 +55,8 @@ function picture(p, k, lost, plan) {
 
 function told(p, k, lost, plan) {
   const rows = p * k, less = (100 * (rows - plan.reads)) / rows, most = Math.max(...plan.shares);
-  const than = plan.reads === rows ? "as many as by rows alone" : `${less.toFixed(1)} % fewer than the ${rows} of rows alone`;
+  const fewer = plan.reads === rows ? "as many as by rows alone" : `${less.toFixed(1)} % fewer than the ${rows} of rows alone`;
+  const than = lost < k ? fewer : "all that hold film";
   return `Disk ${diskName(k, lost)} is lost: ${plan.reads} of ${p * (k + 1)} surviving cells are read, ${than}. The busiest survivor gives ${most} of its ${p}.`;
 }
 

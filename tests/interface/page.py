@@ -1,6 +1,6 @@
 #!/usr/bin/env python3
 """Holds docs/index.html to the library and to its folder: the plans of its script are the library's, its links lead to
-files, and it loads nothing from outside.
+files, and it loads nothing from outside; and README.md's table of plans to the library's shares.
 
 Usage: tests/interface/page.py LIBRARY FOLDER
   LIBRARY: libcuzhaveli.a; FOLDER: an existing folder for what is compiled.
@@ -34,6 +34,7 @@ for (const p of WIDTHS.filter((width) => width <= Number(process.argv[2])))
 WRONG = [("p - 1 - mod(row - lost, p)", "mod(row - lost, p)"), ("p % 4 === 1", "p % 4 === 3"), ("2 * n * (relieved", "n * (relieved"),
          ("mod(-2 * number, p)", "mod(2 * number, p)"), ("number > 0 && ", ""), ("disk !== lost", "true"), ("rows: () => new Set()", "rows: () => new Set([0])")]
 SMALL, LARGEST = 7, 31
+BUSIEST = {"own": {28, 29, 30}, "balanced": {23}, "relief": {30}, "relieved": {16}}
 
 
 def outside(text):
@@ -61,13 +62,28 @@ def first_difference(ours, library):
     return "one of the two ends early"
 
 
-def compare(library, folder, text):
-    """The script's plans and the library's; how many there are."""
-    script = re.search(r'<script id="plans">\n(.*?)</script>', text, re.S)[1]
+def library_plans(library, folder):
+    """The library's plans, up to each of two widths."""
     program = folder / "page_plans"
     strict = ["-std=c99", "-O2", "-Wall", "-Wextra", "-pedantic", "-Werror", f"-I{TOP / 'include'}"]
     subprocess.run(["cc", *strict, TOP / "tests/interface/page_plans.c", library, "-o", program], check=True)
-    wanted = {width: subprocess.run([program, str(width)], capture_output=True, text=True, check=True).stdout for width in (SMALL, LARGEST)}
+    return {width: subprocess.run([program, str(width)], capture_output=True, text=True, check=True).stdout for width in (SMALL, LARGEST)}
+
+
+def busiest(lines):
+    """What README.md's table says of the plans for a data disk at p = k = 31: the most that is read of a survivor, and of the relieved one."""
+    found = {}
+    for line in re.findall(r"^31 31 (\d+) (\w+) (\d+) reads 721: .* ([01]+)$", lines, re.M):
+        shares = [line[3][31 * disk:31 * disk + 31].count("1") for disk in range(33)]
+        found.setdefault(line[1], set()).add(max(shares))
+        if line[1] == "relief":
+            found.setdefault("relieved", set()).add(shares[int(line[2])])
+    return found
+
+
+def compare(wanted, folder, text):
+    """The script's plans and the library's; how many there are."""
+    script = re.search(r'<script id="plans">\n(.*?)</script>', text, re.S)[1]
     given = plans(folder, script, LARGEST)
     if given != wanted[LARGEST]:
         sys.exit(f"page: DIFFERS: {first_difference(given, wanted[LARGEST])}\n  in: docs/page/plans.js\n  do: correct it, then docs/page.py >docs/index.html")
@@ -87,10 +103,13 @@ def main():
             found.append(f"a wrong page passes: {wrong}")
     if found:
         sys.exit("\n".join(f"page: DIFFERS: {problem}\n  in: docs/index.html" for problem in found))
+    wanted = library_plans(library, folder)
+    if (shares := busiest(wanted[LARGEST])) != BUSIEST:
+        sys.exit(f"page: DIFFERS: the busiest survivors at p = 31 are {shares}, README.md's table and BUSIEST here have {BUSIEST}")
     if not shutil.which("node"):
         print("page: its links lead to files, it loads nothing; no node on this machine, so the plans of its script are not compared")
         return
-    print(f"page: {compare(library, folder, text)} plans of its script are the library's, {len(WRONG)} wrong scripts are told apart")
+    print(f"page: {compare(wanted, folder, text)} plans of its script are the library's, {len(WRONG)} wrong scripts are told apart")
 
 
 if __name__ == "__main__":
