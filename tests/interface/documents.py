@@ -82,7 +82,7 @@ CHECKS = [
         lambda text: text.replace("axioms=0", "axioms=1"))] if LOGS else []),
     (crate_rows, ARCHITECTURE, "write the table anew from crates.txt and the heads of the crates", without(r"\| \d+ \| `")),
     (crate_rows, ARCHITECTURE, "", lambda text: re.sub(r"^\| \d+ \| `", "| 0 | `", text, count=1, flags=re.M)),
-    (functions_once, ARCHITECTURE, "list each public function in one row of 'The public functions'", without(r"\| `\w+::")),
+    (functions_once, ARCHITECTURE, "list each public function in one row of 'The public functions'", without(r"\| `cuzhaveli_plan_disk`")),
     (functions_once, ARCHITECTURE, "", lambda text: text + re.search(r"`\w+::\w+", text)[0]),
     (functions_once, ARCHITECTURE, "", lambda text: text + "`text::put_kind`"),
 ]
