@@ -10,8 +10,8 @@ reference. include/cuzhaveli.h and rust/cuzhaveli/src/ffi.rs must declare the sa
 structs, with the same sizes and offsets; libcuzhaveli.a must define exactly these calls,
 libcuzhaveli_plans.a those of crates/cuzhaveli_plans, and libcuzhaveli_fast.a each call and its two
 compilations; an archive must hold no data and need nothing but memcpy and memset; the refusals must have one set of names and
-numbers in the header, the crate and the documents; the refusals that the header names for a
-call must be those that it gave in the random calls; header and Makefile must have one version.
+numbers in the header, the crate and docs/SCOPE.md; the refusals that the header names for a
+call must be those that it gave in the random calls, and those of the table of calls in docs/C.md; header and Makefile must have one version.
 Exit status 1 if something differs.
 """
 
@@ -28,7 +28,8 @@ HEADER = TOP / "include/cuzhaveli.h"
 FFI = TOP / "rust/cuzhaveli/src/ffi.rs"
 MAKEFILE = TOP / "Makefile"
 KINDS = TOP / "rust/cuzhaveli/src/refusal.rs"
-TABLES = [TOP / "README.md", TOP / "docs/C.md"]
+REFUSALS = TOP / "docs/SCOPE.md"
+CALLS = TOP / "docs/C.md"
 NEEDED = {"memcpy", "memset"}
 SIZES = {"u8": 1, "bool": 1, "u32": 4, "u64": 8, "usize": 8}
 STANDARDS = [("gcc", "c99"), ("gcc", "c11"), ("g++", "c++98"), ("g++", "c++17")]
@@ -282,7 +283,7 @@ def check_archives(calls, archives):
 
 
 def check_refusals():
-    """One set of refusals: the header's enum, the crate's kinds, the documents' tables."""
+    """One set of refusals: the header's enum, the crate's kinds, the table of docs/SCOPE.md."""
     enum = re.search(r"enum cuzhaveli_refusal \{(.*?)\};", without_comments(HEADER.read_text()), re.S)[1]
     wanted = {name: int(number) for name, number in re.findall(r"CUZHAVELI_(\w+) = (\d+)", enum)}
     kinds = re.findall(r'^    (\w+) = (\d+), "', KINDS.read_text(), re.M)
@@ -290,11 +291,10 @@ def check_refusals():
     given.pop("UNKNOWN", None)
     if {"OK": 0, **given} != wanted:
         differs(f"refusals {sorted(given.items())}\n  header: {sorted(wanted.items())}", KINDS, "take the header's names and numbers")
-    for path in TABLES:
-        rows = re.findall(r"^\| (\d+) \| `CUZHAVELI_(\w+)` \|", path.read_text(), re.M) if path.exists() else []
-        table = {name: int(number) for number, name in rows}
-        if {"OK": 0, **table} != wanted:
-            differs(f"refusals {sorted(table.items())}\n  header: {sorted(wanted.items())}", path, "take the header's names and numbers")
+    rows = re.findall(r"^\| (\d+) \| `CUZHAVELI_(\w+)` \|", REFUSALS.read_text(), re.M)
+    table = {name: int(number) for number, name in rows}
+    if {"OK": 0, **table} != wanted:
+        differs(f"refusals {sorted(table.items())}\n  header: {sorted(wanted.items())}", REFUSALS, "take the header's names and numbers")
     return len(wanted) - 1
 
 
@@ -315,6 +315,29 @@ def named_refusals():
         for name in re.findall(r"(cuzhaveli_\w+)\(", calls):
             named_in[name] = set(map(int, re.findall(r"\d+", listed[1]))) if listed else None
     return named_in
+
+
+def told_refusals(text):
+    """The refusals that the table of calls names for each call."""
+    told = {}
+    for calls, numbers in re.findall(r"^\| (`cuzhaveli_.*?`) \|.*\| ([^|]*) \|$", text, re.M):
+        listed = {int(number) for number in re.findall(r"\d+", numbers)}
+        for first, last in re.findall(r"(\d+) to (\d+)", numbers):
+            listed |= set(range(int(first), int(last)))
+        told.update({name: listed for name in re.findall(r"`(cuzhaveli_\w+)\(", calls)})
+    return told
+
+
+def check_told():
+    """The table of docs/C.md has each call of the header, with its refusals."""
+    text, named_in = CALLS.read_text(), {name: numbers or set() for name, numbers in named_refusals().items()}
+    told = told_refusals(text)
+    for name in told.keys() | named_in.keys():
+        if told.get(name) != named_in.get(name):
+            differs(f"{name} refuses {sorted(told.get(name) or [])}, in the header {sorted(named_in.get(name) or [])}",
+                    CALLS, "give the call its row, with the header's refusals")
+    if told_refusals(text.replace("| 1, 13, 3 |", "| 1, 3 |", 1)) == told:
+        differs("a wrong table passes", CALLS, "correct told_refusals")
 
 
 def check_given(boundary):
@@ -345,6 +368,7 @@ def main():
     refusals = check_refusals()
     check_version()
     check_given(boundary)
+    check_told()
     if problems:
         sys.exit(f"interface: {problems} differences")
     print(f"interface: {len(calls)} calls, {len(structs)} structs, {fields} offsets, {symbols} symbols, {refusals} refusals agree")

@@ -1,7 +1,7 @@
 #!/usr/bin/env python3
-"""Holds the documents to the crates: docs/layers.svg and docs/STATEMENTS.md are what their scripts make, with the axioms that
-`rt ci` printed; docs/ARCHITECTURE.md has a row for each crate, with its layer, and each public function once; and what the
-documents cite is there (citations.py).
+"""Holds the documents to the crates: docs/layers.svg, docs/STATEMENTS.md and docs/index.html are what their scripts make, with
+the axioms that `rt ci` printed; docs/ARCHITECTURE.md has a row for each crate, with its layer, and each public function once; what the
+documents cite is there (citations.py); the entries of docs/DECISIONS.md are numbered; and all are short enough to be read.
 
 Usage: tests/interface/documents.py
 Each check is also given a wrong text, which it must refuse. Exit status 1 if something differs.
@@ -20,7 +20,11 @@ import statements  # noqa: E402
 TOP = source.TOP
 ARCHITECTURE = TOP / "docs/ARCHITECTURE.md"
 STATEMENTS = TOP / "docs/STATEMENTS.md"
+DECISIONS = TOP / "docs/DECISIONS.md"
 LOGS = sorted((TOP / "target/log").glob("*.say"))
+# README.md, docs/*.md but those that follow documents 01 and 02 or the crates line by line, and the manual pages, together
+LONG = {"SCOPE.md", "COVERAGE.md", "STATEMENTS.md"}
+MOST_WORDS = 30000
 
 
 def crate_rows(text):
@@ -68,6 +72,28 @@ def axioms(text):
             yield f"{log.stem} has axioms={number}"
 
 
+def numbered(text):
+    """Every entry has its number, from 1 on."""
+    entries = re.findall(r"^(?!#)(\S+) (?=\*\*)", text, re.M)
+    for number, given in enumerate(entries, 1):
+        if given != f"{number}.":
+            yield f"entry {number} begins with '{given}'"
+            return
+
+
+def word_count(readme):
+    """The words of the documents with this README.md; of a manual page those that are read, without its requests."""
+    pages = [readme, *(path.read_text() for path in sorted((TOP / "docs").glob("*.md")) if path.name not in LONG)]
+    manual = "".join(path.read_text() for path in sorted((TOP / "docs").glob("*.1")))
+    pages.append(re.sub(r"^(?:\.[A-Za-z]+|\.\\\".*|'.*)", "", manual, flags=re.M))
+    return sum(len(page.split()) for page in pages)
+
+
+def few_words(readme):
+    if (count := word_count(readme)) >= MOST_WORDS:
+        yield f"the documents have {count} words, of {MOST_WORDS}"
+
+
 def without(row):
     """Takes the first line of this form out of a text."""
     return lambda text: re.sub(rf"^{row}.*\n", "", text, count=1, flags=re.M)
@@ -77,11 +103,14 @@ def without(row):
 CHECKS = [
     (lambda text: made_by("docs/layers.py", text.encode()), TOP / "docs/layers.svg", "docs/layers.py >docs/layers.svg", without("<line ")),
     (lambda text: made_by("docs/statements.py", text.encode()), STATEMENTS, "docs/statements.py >docs/STATEMENTS.md", without("pub ")),
+    (lambda text: made_by("docs/page.py", text.encode()), TOP / "docs/index.html", "docs/page.py >docs/index.html", without("<option ")),
     *([(axioms, STATEMENTS, "say in docs/statements.py what the crate takes for granted",
         lambda text: text.replace("axioms=0", "axioms=1"))] if LOGS else []),
+    (numbered, DECISIONS, "number the entries anew, from 1 on", lambda text: text + "\n- **An entry.** Without a number.\n"),
+    (few_words, TOP / "README.md", "cut what does not serve, in any of them", lambda text: text * 30),
     (crate_rows, ARCHITECTURE, "write the table anew from crates.txt and the heads of the crates", without(r"\| \d+ \| `")),
     (crate_rows, ARCHITECTURE, "", lambda text: re.sub(r"^\| \d+ \| `", "| 0 | `", text, count=1, flags=re.M)),
-    (functions_once, ARCHITECTURE, "list each public function in one row of 'The public functions'", without(r"\| `\w+::")),
+    (functions_once, ARCHITECTURE, "list each public function in one row of 'The public functions'", without(r"\| `cuzhaveli_plan_disk`")),
     (functions_once, ARCHITECTURE, "", lambda text: text + re.search(r"`\w+::\w+", text)[0]),
     (functions_once, ARCHITECTURE, "", lambda text: text + "`text::put_kind`"),
 ]
@@ -111,7 +140,8 @@ def main():
         sys.exit(f"documents: {len(found)} differences")
     public = sum(len(source.called(crate)) for crate in source.CRATES) + len(source.exports())
     cited = sum(len(citations.words(page.read_text())) for page in citations.PAGES)
-    print(f"documents: {len(source.CRATES)} crates, {public} public functions, {cited} words cited on {len(citations.PAGES)} pages")
+    count = word_count((TOP / "README.md").read_text())
+    print(f"documents: {len(source.CRATES)} crates, {public} public functions, {cited} words cited on {len(citations.PAGES)} pages, {count} words of {MOST_WORDS}")
 
 
 if __name__ == "__main__":

@@ -4,8 +4,8 @@
 Usage: tests/interface/snippets.py LIBRARY FOLDER
   LIBRARY: libcuzhaveli.a; FOLDER: an existing folder for what is compiled.
 
-The C blocks of docs/C.md are one program; that of README.md is a function, which
-tests/interface/readme.c calls. Exit status 1 if one does not compile or an assertion fails.
+The C blocks of docs/C.md are one program; that of README.md is one, and says what came back.
+Exit status 1 if one does not compile, an assertion fails or the disk does not come back.
 """
 
 import pathlib
@@ -15,6 +15,7 @@ import sys
 
 TOP = pathlib.Path(__file__).resolve().parents[2]
 HEAD = "#include <assert.h>\n#include <string.h>\n#include <cuzhaveli.h>\n\nint main(void)\n{\n"
+SAID = "disk 1 is back, from 19 of 30 cells\n"
 
 
 def blocks(path):
@@ -39,7 +40,8 @@ def run(source, library, document):
         sys.exit(f"snippets: FAILED: the C code of {document} does not compile; correct it there:\n{built.stderr[:3000]}")
     done = subprocess.run([program], capture_output=True, text=True)
     if done.returncode != 0:
-        sys.exit(f"snippets: FAILED: the C code of {document} does not hold; correct it there:\n{done.stderr[:3000]}")
+        sys.exit(f"snippets: FAILED: the C code of {document} does not hold; correct it there:\n{done.stdout}{done.stderr[:3000]}")
+    return done.stdout
 
 
 def main():
@@ -47,12 +49,13 @@ def main():
         sys.exit(__doc__.split("\n\n")[1])
     library, folder = pathlib.Path(sys.argv[1]), pathlib.Path(sys.argv[2])
     (folder / "c_md.c").write_text(HEAD + blocks(TOP / "docs/C.md") + "return 0;\n}\n")
-    readme = (TOP / "tests/interface/readme.c").read_text()
-    (folder / "readme_md.c").write_text(readme.replace("/* README */", blocks(TOP / "README.md")))
+    (folder / "readme_md.c").write_text(blocks(TOP / "README.md"))
     run(folder / "c_md.c", library, "docs/C.md")
-    run(folder / "readme_md.c", library, "README.md")
+    said = run(folder / "readme_md.c", library, "README.md")
+    if said != SAID:
+        sys.exit(f"snippets: FAILED: the C code of README.md prints {said!r}, not {SAID!r}")
     count = (folder / "c_md.c").read_text().count("assert(")
-    print(f"snippets: {count} assertions of docs/C.md hold, README.md's lines rebuild a stripe")
+    print(f"snippets: {count} assertions of docs/C.md hold, README.md's program says '{said.strip()}'")
 
 
 if __name__ == "__main__":
