@@ -48,6 +48,8 @@ dist = cuzhaveli-$(VERSION)-x86_64-linux
 completion = rust/tool/completion
 share = $(DESTDIR)$(PREFIX)/share
 libdir = $(DESTDIR)$(LIBDIR)
+# The folder is not to be seen in what is compiled.
+cargo = CUZHAVELI_LIB_DIR="$(CURDIR)/build" CARGO_TARGET_DIR="$(CURDIR)/build/tool" RUSTFLAGS="$$RUSTFLAGS --remap-path-prefix=$(CURDIR)=cuzhaveli" cargo build -q --release --offline
 
 .PHONY: all demo manual examples selftest install uninstall dist release-check clean FORCE
 .DELETE_ON_ERROR:
@@ -94,7 +96,7 @@ $(shared): $(or $(fast),build/libcuzhaveli.a) dispatch/shared.sh include/cuzhave
 build/cuzhaveli: build/libcuzhaveli.a $(fast) $(shell find rust -name target -prune -o -name '*.rs' -print -o -name '*.man' -print -o -name 'Cargo.*' -print)
 	@command -v cargo >/dev/null || { echo "make: the command cuzhaveli is built by cargo, which is not on PATH; install Rust 1.89 or newer" >&2; exit 1; }
 	@[ -f $@ ] || echo "make: compiling the command: a minute"
-	@CUZHAVELI_LIB_DIR="$(CURDIR)/build" CARGO_TARGET_DIR="$(CURDIR)/build/tool" RUSTFLAGS="$$RUSTFLAGS --remap-path-prefix=$(CURDIR)=cuzhaveli" cargo build -q --release --offline --manifest-path rust/tool/Cargo.toml
+	@$(cargo) --manifest-path rust/tool/Cargo.toml
 	@cp build/tool/release/cuzhaveli $@
 	@echo "make: wrote $@"
 
