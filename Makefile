@@ -145,7 +145,7 @@ selftest: $(shared)
 # the same bytes, whatever the folder, the day and the user's umask.
 dist: $(archives) $(shared) build/cuzhaveli
 	@[ -f build/gate.log ] || { echo "make: no build/gate.log, which goes into the archive; run .ci/run first" >&2; exit 1; }
-	@for one in $(archives) $(shared); do grep -q "$$(sha256sum <$$one | cut -d ' ' -f 1)" build/gate.log || { echo "make: $$one is not the one that build/gate.log tells of; run .ci/run again" >&2; exit 1; }; done
+	@for one in $(archives) $(shared) build/cuzhaveli; do grep -q "$$(sha256sum <$$one | cut -d ' ' -f 1)" build/gate.log || { echo "make: $$one is not the one that build/gate.log tells of; run .ci/run again" >&2; exit 1; }; done
 	@command -v rt >/dev/null || { echo "make: the kit's identity goes into the archive, and its command rt is not on PATH" >&2; exit 1; }
 	@rm -rf build/$(dist) && mkdir -p build/$(dist)
 	@$(MAKE) -s install PREFIX=/usr LIBDIR=/usr/lib DESTDIR="$(CURDIR)/build/$(dist)"
