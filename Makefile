@@ -48,6 +48,8 @@ dist = cuzhaveli-$(VERSION)-x86_64-linux
 completion = rust/tool/completion
 share = $(DESTDIR)$(PREFIX)/share
 libdir = $(DESTDIR)$(LIBDIR)
+# The folder is not to be seen in what is compiled.
+cargo = CUZHAVELI_LIB_DIR="$(CURDIR)/build" CARGO_TARGET_DIR="$(CURDIR)/build/tool" RUSTFLAGS="$$RUSTFLAGS --remap-path-prefix=$(CURDIR)=cuzhaveli" cargo build -q --release --offline
 
 .PHONY: all demo manual examples selftest install uninstall dist release-check clean FORCE
 .DELETE_ON_ERROR:
@@ -94,7 +96,7 @@ $(shared): $(or $(fast),build/libcuzhaveli.a) dispatch/shared.sh include/cuzhave
 build/cuzhaveli: build/libcuzhaveli.a $(fast) $(shell find rust -name target -prune -o -name '*.rs' -print -o -name '*.man' -print -o -name 'Cargo.*' -print)
 	@command -v cargo >/dev/null || { echo "make: the command cuzhaveli is built by cargo, which is not on PATH; install Rust 1.89 or newer" >&2; exit 1; }
 	@[ -f $@ ] || echo "make: compiling the command: a minute"
-	@CUZHAVELI_LIB_DIR="$(CURDIR)/build" CARGO_TARGET_DIR="$(CURDIR)/build/tool" RUSTFLAGS="$$RUSTFLAGS --remap-path-prefix=$(CURDIR)=cuzhaveli" cargo build -q --release --offline --manifest-path rust/tool/Cargo.toml
+	@$(cargo) --manifest-path rust/tool/Cargo.toml
 	@cp build/tool/release/cuzhaveli $@
 	@echo "make: wrote $@"
 
@@ -143,7 +145,7 @@ selftest: $(shared)
 # the same bytes, whatever the folder, the day and the user's umask.
 dist: $(archives) $(shared) build/cuzhaveli
 	@[ -f build/gate.log ] || { echo "make: no build/gate.log, which goes into the archive; run .ci/run first" >&2; exit 1; }
-	@for one in $(archives) $(shared); do grep -q "$$(sha256sum <$$one | cut -d ' ' -f 1)" build/gate.log || { echo "make: $$one is not the one that build/gate.log tells of; run .ci/run again" >&2; exit 1; }; done
+	@for one in $(archives) $(shared) build/cuzhaveli; do grep -q "$$(sha256sum <$$one | cut -d ' ' -f 1)" build/gate.log || { echo "make: $$one is not the one that build/gate.log tells of; run .ci/run again" >&2; exit 1; }; done
 	@command -v rt >/dev/null || { echo "make: the kit's identity goes into the archive, and its command rt is not on PATH" >&2; exit 1; }
 	@rm -rf build/$(dist) && mkdir -p build/$(dist)
 	@$(MAKE) -s install PREFIX=/usr LIBDIR=/usr/lib DESTDIR="$(CURDIR)/build/$(dist)"

@@ -5,6 +5,7 @@ Usage: tests/python/loading.py LIBRARY, the path of libcuzhaveli.so.1
 Exit status 1 if a way does not work, or an error does not say what to do.
 """
 
+import ctypes
 import os
 import pathlib
 import shutil
@@ -39,12 +40,13 @@ def main():
             shutil.copytree(TOP / "python/cuzhaveli", folder / "cuzhaveli", ignore=shutil.ignore_patterns("__pycache__", "*.so.1"))
         shutil.copy(library, beside / "cuzhaveli" / NAME)
         subprocess.run(["cc", "-shared", "-xc", "-", "-o", old], input=b"int cuzhaveli_version(void) { return 99; }", check=True)
-        loaded = f"100 {library}"
+        number = ctypes.CDLL(str(library)).cuzhaveli_version()
+        loaded = f"{number} {library}"
         tried = [
             ("named", said(alone, CUZHAVELI_LIBRARY=str(library)), 0, [loaded]),
-            ("beside the package", said(beside), 0, [f"100 {beside / 'cuzhaveli' / NAME}"]),
+            ("beside the package", said(beside), 0, [f"{number} {beside / 'cuzhaveli' / NAME}"]),
             ("named before beside", said(beside, CUZHAVELI_LIBRARY=str(library)), 0, [loaded]),
-            ("by the loader", said(alone, LD_LIBRARY_PATH=str(library.parent)), 0, [f"100 {NAME}"]),
+            ("by the loader", said(alone, LD_LIBRARY_PATH=str(library.parent)), 0, [f"{number} {NAME}"]),
             ("named, not there", said(beside, CUZHAVELI_LIBRARY="/none.so"), 1, ["LibraryError: CUZHAVELI_LIBRARY is /none.so, which", remedy]),
             ("named, older", said(alone, CUZHAVELI_LIBRARY=str(old)), 1, [f"LibraryError: {old} has no cuzhaveli_plan_disk: it is older", remedy]),
             ("the selftest, not there", said(alone, SELFTEST, CUZHAVELI_LIBRARY="/none.so"), 2, ["selftest: CUZHAVELI_LIBRARY is /none.so, which", remedy]),

@@ -26,6 +26,7 @@ taken() { # FROM TO NAME.., files beside the libraries
     mkdir -p "$2/x86-64-v3" || fail "no folder $2"
     for one in libcuzhaveli.a libcuzhaveli_plans.a x86-64-v3/libcuzhaveli.a libcuzhaveli_fast.a libcuzhaveli.so.1 "${@:3}"; do
         sleep 0.02
+        if [ ! -f "$1/$one" ] && [ "$one" = x86-64-v3/libcuzhaveli.a ]; then : >"$2/$one"; continue; fi # only its date counts
         cp "$1/$one" "$2/$one" || fail "no $1/$one"
     done
 }
