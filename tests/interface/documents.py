@@ -82,11 +82,11 @@ def numbered(text):
 
 
 def word_count(readme):
-    """The words of the documents with this README.md; of a manual page those that are read, without its requests."""
+    """The words of the documents with this README.md: without code between ```, and without the requests of manual pages."""
     pages = [readme, *(path.read_text() for path in sorted((TOP / "docs").glob("*.md")) if path.name not in LONG)]
     manual = "".join(path.read_text() for path in sorted((TOP / "docs").glob("*.1")))
     pages.append(re.sub(r"^(?:\.[A-Za-z]+|\.\\\".*|'.*)", "", manual, flags=re.M))
-    return sum(len(page.split()) for page in pages)
+    return sum(len(re.sub(r"^```.*?^```$", "", page, flags=re.M | re.S).split()) for page in pages)
 
 
 def few_words(readme):
