@@ -138,6 +138,20 @@ def on_store(setting, words, film):
                    "FILE": {"board": listed, "put": film}.get(words[0], film.name)}
 
 
+# the words of `stripe` that show each of its options, for stripes of 2,240 zeros
+STRIPES = {"--disk": "rebuild --disk 0", "--test": "rebuild --disk 0 --test", "--missing": "rebuild-cells --missing 1,P.0",
+           "--draw": "rebuild-cells --missing 1 --draw", "--row": "update --disk 0 --row 1", "--servers": "server-write --servers 2",
+           "--server": "server-rebuild --servers 2 --server 1", "--loss": "server-rebuild --servers 2 --server 1 --loss 0.P", "--json": "check --json"}
+
+
+def stripe_runs(setting, line):
+    """Every option of `stripe` with an action that has it."""
+    for option in {*re.findall(r"--[-\w]+", line), *STRIPES}:
+        words = STRIPES[option].split()
+        setting.call("stripe", *words, "-p", 5, "-k", 5, "-s", 64, input=bytes(2240 * 3 + 64 * 3 * ("--row" in words)), status=0)
+    return len(STRIPES)
+
+
 def synopsis_runs(setting):
     """Every line of the manual's synopsis, with each of its options, ends with status 0."""
     film, plan, drive = setting.new(), setting.new(), setting.new()
@@ -152,6 +166,9 @@ def synopsis_runs(setting):
               "A,B,C": "3,2,1", "SHELL": "zsh", "COMMAND": "encode", "DRIVE": drive, "FILE": plan, "FILE...": film}
     count = 0
     for line in synopsis():
+        if line.startswith("stripe "):
+            count += stripe_runs(setting, line)
+            continue
         all_of_set = [part for part in parsed(line) if part[1][0][0] not in ("--new", "--from")]
         for parts in [*variants(line), [alternatives[0] for _, alternatives in all_of_set]]:
             words = list(itertools.chain(*parts))
