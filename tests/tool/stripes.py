@@ -401,6 +401,9 @@ def plans_as_text(setting):
                 shape = ["-p", code.p, "-k", code.k, "-d", lost]
                 text = setting.call("plan", *shape, *options, "--text", status=0).out
                 expect(re.fullmatch(rb"row,set,number\n(\d+,[RD],\d+\n){%d}" % code.p, text), f"{shape} {options}: {text}")
+                if code.p == 5:
+                    steps = [(step["row"], step["set"], step["number"]) for step in setting.told("plan", *shape, *options)["steps"]]
+                    expect(text.decode() == "row,set,number\n" + "".join(f"{row},{kind},{of}\n" for row, kind, of in steps), f"{shape} {options}: {text}, not {steps}")
                 judged = setting.told("judge", *shape, "-", input=text)
                 wanted = reads.get((name, lost), reads.get(("own", lost)) if lost >= code.k else judged["reads"])
                 expect(judged["accepted"] and judged["reads"] == wanted, f"{shape} {options}: {judged.told()}, not {wanted}")

@@ -134,7 +134,7 @@ def on_store(setting, words, film):
         words = [*(word for word in words if word in ("rebuild", "-q", "--json", "-n")), "--new", "D", *old, "DIR"]
         for path in (store / "disk-01").iterdir():
             path.unlink()
-    return words, {"STORE": store, "DIR": store, "PACKAGE": "a", "OFFSET": 5, "FROM": film, "TO": setting.new(), "FOLDER": setting.scratch,
+    return words, {"STORE": store, "STORE...": store, "DIR": store, "PACKAGE": "a", "OFFSET": 5, "FROM": film, "TO": setting.new(), "FOLDER": setting.scratch,
                    "FILE": {"board": listed, "put": film}.get(words[0], film.name)}
 
 
@@ -172,10 +172,10 @@ def synopsis_runs(setting):
         all_of_set = [part for part in parsed(line) if part[1][0][0] not in ("--new", "--from")]
         for parts in [*variants(line), [alternatives[0] for _, alternatives in all_of_set]]:
             words = list(itertools.chain(*parts))
-            if "DRIVE" in words and drive is None or words[0] == "board" and not {"STORE", "--list"} & set(words):
+            if "DRIVE" in words and drive is None:
                 continue
             places = {**values, "FILM": film if words[0] == "encode" else setting.new(), "DIR": setting.new() if words[0] == "encode" else kept}
-            if {"STORE", "--new", "--list"} & set(words) or words[0] == "rebuild" and "--from" in words:
+            if {"STORE", "STORE...", "--new", "--list"} & set(words) or words[0] == "rebuild" and "--from" in words:
                 words, more = on_store(setting, words, film)
                 places.update(more)
             setting.call(*(places.get(word, word) for word in words), status=0)

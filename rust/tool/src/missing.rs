@@ -71,8 +71,8 @@ fn cells(shape: Shape, word: &str) -> Option<(usize, std::ops::Range<usize>)> {
 fn no_cell(shape: Shape, value: &OsStr, word: &str) -> Fault {
     let (value, rows, disks) = (value.display(), shape.width() - 1, shape.disks() + 1);
     usage(format!(
-        "--missing {value}: {word} is no cell; give DISK.ROW, or DISK for all its rows, with disks 0 to {disks}, P or Q, \
-         and rows 0 to {rows}"
+        "--missing {value}: {word} is no cell; give DISK.ROW, or DISK for all its rows, with \
+         disks 0 to {disks}, P or Q, and rows 0 to {rows}"
     ))
 }
 

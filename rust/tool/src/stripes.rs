@@ -43,9 +43,9 @@ impl Records {
         Ok(Records { input: BufReader::with_capacity(CHUNK, input), record, number: 0 })
     }
 
-    /// Makes a call on every record and writes what comes of it; how many there were. What is left at
-    /// the end, and an input without any, the library gets too: it refuses another length. What is
-    /// done is handed out before more is waited for, so that a program can give a stripe at a time.
+    /// Makes a call on every record and writes what comes of it; how many there were. What is left
+    /// at the end, and an input without any, the library gets too: it refuses another length. What
+    /// is done is handed out before more is waited for, so that a program can give one at a time.
     pub fn each<T>(
         &mut self,
         results: &mut Results,

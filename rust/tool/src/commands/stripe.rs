@@ -55,35 +55,39 @@ pub const COMMAND: Command = Command {
     name: "stripe",
     brief: "the library's calls on stripes of standard input, for code under test",
     about: &[
-        "Reads stripes from standard input, one after another, without labels and checksums, and makes one call of the \
-         library on each; what the calls leave goes to standard output in the same order. A stripe has (DISKS + 2) * WIDTH * CELL \
-         bytes: the cell of row i on disk c starts at byte (c * WIDTH + i) * CELL, P is disk DISKS and Q the last. Stripes \
-         count from 0. One is in memory at a time, and what is done is handed out before more is waited for.",
+        "Reads stripes from standard input, one after another, without labels and checksums, and \
+         makes one call of the library on each; what the calls leave goes to standard output in \
+         the same order. A stripe has (DISKS + 2) * WIDTH * CELL bytes: the cell of row i on disk \
+         c starts at byte (c * WIDTH + i) * CELL, P is disk DISKS and Q the last. Stripes count \
+         from 0. One is in memory at a time, and what is done is handed out before more is waited \
+         for.",
         "encode writes P and Q of each stripe, whatever stood there.",
-        "check tells each stripe that is not clean, and the sets of it that do not XOR to zero, such as R 2 or D 0; the \
-         status is then 1.",
-        "scrub prints a line for each stripe: clean; the number of the one disk whose cells alone explain it; or more. If \
-         one is not clean, the status is 1.",
-        "rebuild writes the lost disk, or both, in their places, whatever stood there: one by our plan, which reads its \
-         cells alone and does not notice survivors that do not belong together. With --test they are tested first, by all \
-         cells of the stripe.",
-        "rebuild-cells writes the missing cells in their places, whatever stood there. With --draw nothing is read: it \
-         draws which cells are missing, which are read, and the sets whose XOR brings each back.",
-        "update takes after each stripe the CELL new bytes of the cell of --row and --disk, a data disk; what goes on is the \
-         stripe with this cell, its P cell and its Q cells changed.",
-        "server-write and server-rebuild take M + 1 stripes together, those of servers 0 to M - 1 and last of the parity \
-         server M, and hand on as many. server-write makes the last the XOR of the others, whatever stood there. \
-         server-rebuild first mends the disks that --loss names, and then makes stripe N the XOR of the others, whatever \
-         stood there.",
-        "Where the library refuses a stripe, one that ends too early, or an input without any, standard error names it by its number \
-         and its first byte in the input, the output ends before it, and the status is 3. Options that it refuses are told \
-         before anything is read.",
+        "check tells each stripe that is not clean, and the sets of it that do not XOR to zero, \
+         such as R 2 or D 0; the status is then 1.",
+        "scrub prints a line for each stripe: clean; the number of the one disk whose cells alone \
+         explain it; or more. If one is not clean, the status is 1.",
+        "rebuild writes the lost disk, or both, in their places, whatever stood there: one by our \
+         plan, which reads its cells alone and does not notice survivors that do not belong \
+         together. With --test they are tested first, by all cells of the stripe.",
+        "rebuild-cells writes the missing cells in their places, whatever stood there. With --draw \
+         nothing is read: it draws which cells are missing, which are read, and the sets whose XOR \
+         brings each back.",
+        "update takes after each stripe the CELL new bytes of the cell of --row and --disk, a data \
+         disk; what goes on is the stripe with this cell, its P cell and its Q cells changed.",
+        "server-write and server-rebuild take M + 1 stripes together, those of servers 0 to M - 1 \
+         and last of the parity server M, and hand on as many. server-write makes the last the XOR \
+         of the others, whatever stood there. server-rebuild first mends the disks that --loss \
+         names, and then makes stripe N the XOR of the others, whatever stood there.",
+        "Where the library refuses a stripe, one that ends too early, or an input without any, \
+         standard error names it by its number and its first byte in the input, the output ends \
+         before it, and the status is 3. Options that it refuses are told before anything is read.",
     ],
     words: &[
         Use::Operand(&Operand {
             name: "ACTION",
             kind: Kind::Word(NAMES),
-            about: "encode, check, scrub, rebuild, rebuild-cells, update, server-write or server-rebuild",
+            about: "encode, check, scrub, rebuild, rebuild-cells, update, server-write or \
+                    server-rebuild",
         }),
         Use::Opt(&WIDTH),
         Use::May(&Use::Opt(&DISKS)),
@@ -101,8 +105,9 @@ pub const COMMAND: Command = Command {
         Use::May(&Use::Opt(&Opt {
             name: "--missing",
             value: Some(("CELLS", Kind::File)),
-            about: "of rebuild-cells: the missing cells, DISK.ROW or DISK for all its rows, with commas between them, such \
-                    as 1,P.0,3.4; or a file of such words, with commas, spaces or ends of lines between them",
+            about: "of rebuild-cells: the missing cells, DISK.ROW or DISK for all its rows, with \
+                    commas between them, such as 1,P.0,3.4; or a file of such words, with commas, \
+                    spaces or ends of lines between them",
         })),
         Use::May(&Use::Opt(&Opt {
             name: "--draw",
@@ -117,7 +122,8 @@ pub const COMMAND: Command = Command {
         Use::May(&Use::Opt(&Opt {
             name: "--servers",
             value: Some(("M", Kind::Number)),
-            about: "of server-write and server-rebuild: the servers without the parity server, 2 to 16",
+            about: "of server-write and server-rebuild: the servers without the parity server, 2 \
+                    to 16",
         })),
         Use::May(&Use::Opt(&Opt {
             name: "--server",
@@ -134,12 +140,17 @@ pub const COMMAND: Command = Command {
     tells: &[
         (
             "found",
-            "of check and scrub: the stripes that are not clean, each with stripe, its number, and of check sets, those \
-             that do not XOR to zero, of scrub disks, the one that explains it, or none if several are needed",
+            "of check and scrub: the stripes that are not clean, each with stripe, its number, and \
+             of check sets, those that do not XOR to zero, of scrub disks, the one that explains \
+             it, or none if several are needed",
         ),
         ("stripes", "of check and scrub: the stripes"),
         ("dirty", "of check and scrub: those that are not clean"),
-        ("missing", "of --draw: the missing cells, each with disk, row and sets, whose XOR brings it back; none if nothing does"),
+        (
+            "missing",
+            "of --draw: the missing cells, each with disk, row and sets, whose XOR brings it back; \
+             none if nothing does",
+        ),
         ("read", "of --draw: the other cells that are read"),
         ("determined", "of --draw: whether all missing cells come back"),
     ],
