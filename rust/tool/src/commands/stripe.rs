@@ -28,28 +28,15 @@ const ACTIONS: &[Action] = &[
     ("server-write", &["--servers"], &[]),
     ("server-rebuild", &["--servers", "--server"], &["--loss"]),
 ];
-const NAMES: &[&str] = &[
-    "encode",
-    "check",
-    "scrub",
-    "rebuild",
-    "rebuild-cells",
-    "update",
-    "server-write",
-    "server-rebuild",
-];
-/// The options that not every action has.
-const OPTIONS: &[&str] = &[
-    "--json",
-    "--disk",
-    "--test",
-    "--missing",
-    "--draw",
-    "--row",
-    "--servers",
-    "--server",
-    "--loss",
-];
+/// Their names.
+const NAMES: [&str; ACTIONS.len()] = {
+    let (mut names, mut place) = ([""; ACTIONS.len()], 0);
+    while place < names.len() {
+        names[place] = ACTIONS[place].0;
+        place += 1;
+    }
+    names
+};
 
 pub const COMMAND: Command = Command {
     name: "stripe",
@@ -85,7 +72,7 @@ pub const COMMAND: Command = Command {
     words: &[
         Use::Operand(&Operand {
             name: "ACTION",
-            kind: Kind::Word(NAMES),
+            kind: Kind::Word(&NAMES),
             about: "encode, check, scrub, rebuild, rebuild-cells, update, server-write or \
                     server-rebuild",
         }),
@@ -185,9 +172,9 @@ fn action(given: &Given) -> Result<&'static str, Fault> {
     if let Some(option) = needs.iter().find(|option| !given.flag(option)) {
         return Err(usage(format!("{name} needs {option}")));
     }
-    let has =
-        |option: &&&str| given.flag(option) && !needs.contains(option) && !may.contains(option);
-    if let Some(option) = OPTIONS.iter().find(has) {
+    let mut all = ACTIONS.iter().flat_map(|(_, needs, may)| needs.iter().chain(*may));
+    let other = |option: &&&str| !needs.contains(option) && !may.contains(option);
+    if let Some(option) = all.find(|option| given.flag(option) && other(option)) {
         return Err(usage(format!("{option} is not for {name}; leave it out")));
     }
     if *name == "rebuild-cells" && given.flag("--json") && !given.flag("--draw") {
