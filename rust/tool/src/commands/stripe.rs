@@ -127,19 +127,19 @@ pub const COMMAND: Command = Command {
     tells: &[
         (
             "found",
-            "of check and scrub: the stripes that are not clean, each with stripe, its number, and \
-             of check sets, those that do not XOR to zero, of scrub disks, the one that explains \
-             it, or none if several are needed",
+            "of a verdict: the stripes that are not clean, each with stripe, its number, and of \
+             check with sets, those that do not XOR to zero, of scrub with disks, the one that \
+             explains it, or none if several are needed",
         ),
-        ("stripes", "of check and scrub: the stripes"),
-        ("dirty", "of check and scrub: those that are not clean"),
+        ("stripes", "of a verdict: the stripes"),
+        ("dirty", "of a verdict: those that are not clean"),
         (
             "missing",
-            "of --draw: the missing cells, each with disk, row and sets, whose XOR brings it back; \
-             none if nothing does",
+            "of a picture: the missing cells, each with disk, row and sets, whose XOR brings it \
+             back; none if nothing does",
         ),
-        ("read", "of --draw: the other cells that are read"),
-        ("determined", "of --draw: whether all missing cells come back"),
+        ("read", "of a picture: the other cells that are read"),
+        ("determined", "of a picture: whether all missing cells come back"),
     ],
     run,
 };
