@@ -8,6 +8,7 @@ import os
 import random
 import re
 import resource
+import select
 import subprocess
 
 from harness import TOP, expect, noise
@@ -340,7 +341,8 @@ def raw_pipes(setting):
         for one in clean:
             child.stdin.write(code.spoiled(one, code.column(code.k)))
             child.stdin.flush()
-            expect(child.stdout.read(code.bytes) == one, "a stripe at a time: other bytes")
+            ready = select.select([child.stdout], [], [], 30)[0] or child.kill()
+            expect(ready and child.stdout.read(code.bytes) == one, "a stripe at a time: other bytes, or none in 30 seconds")
         child.stdin.close()
         expect(child.wait() == 0 and child.stdout.read() == b"", "a stripe at a time: it did not end well")
     big, room = Code(31, 31, 4096), 33 * 31 * 4096
