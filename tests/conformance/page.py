@@ -77,4 +77,18 @@ def images(setting):
     return f"{len(lines)} commands on images work"
 
 
-CHECKS = (code, failure, images)
+def pipes(setting):
+    """The page's commands on stripes of a pipe work."""
+    command = setting.archive.parent / "cuzhaveli"
+    if not command.exists():
+        return f"there is no {command}, so the page's commands on stripes are left out"
+    lines = block_after("## Another language, by a pipe")
+    environment = {**os.environ, "PATH": f"{command.parent}:{os.environ['PATH']}"}
+    made = "cuzhaveli stripe encode -p 5 -k 4 -s 512 >clean"
+    subprocess.run(["sh", "-e", "-c", made], cwd=setting.work, env=environment, input=os.urandom(60 * 30 * 512), check=True)
+    done = subprocess.run(["sh", "-e", "-c", "\n".join(lines)], cwd=setting.work, env=environment, capture_output=True, text=True)
+    expect(done.returncode == 0 and done.stdout.split() == ["60", "clean"] and len(lines) == 3, f"They ended with status {done.returncode}:\n{done.stdout}{done.stderr}")
+    return f"{len(lines)} commands on stripes work"
+
+
+CHECKS = (code, failure, images, pipes)

@@ -4,7 +4,7 @@ A word between backticks is one of these, by its form:
   `crate::function`, `crate::module::function`   a function or struct of that crate, inner ones by their module
   `crate/edit`                                   a must-fail edit; after 'edits' those that follow may leave the crate out
   `Record .field`, then `.field`                 a field of that record
-  `name`, `a-name`                               any name of the crates, of the header, or of the checks of stores
+  `name`, `a-name`                               any name of the crates, of the header, or of the checks of the command
 After 'test' or 'tests' it is a group of tests/second. '(crate File)', '(crate folder/File)' or ', path.antt' after such words
 says where they are stated. Words of another form, as commands, are not looked at.
 """
@@ -19,7 +19,7 @@ LIST = rf"{NAME}(?:(?:, | and |, and ){NAME})*"
 FOLDERS = "crates|docs|tests|include|rust|bench|examples"
 HEADER = set(re.findall(r"\w+", (TOP / "include/cuzhaveli.h").read_text()))
 TOOL = {path.stem for path in (TOP / "rust").glob("*/src/**/*.rs")} | {"commands"}
-CHECKS = {name for path in TOP.glob("tests/store/*.py") for name in re.findall(r"^def (\w+)", path.read_text(), re.M)}
+CHECKS = {name for kind in ("store", "tool") for path in TOP.glob(f"tests/{kind}/*.py") for name in re.findall(r"^def (\w+)", path.read_text(), re.M)}
 # words of the language, of the kit and its log, of document 03, of what the command prints, of README's lines; an archive; Python's own
 OUTSIDE = {"match", "u32", "usize", "count_ones", "requires", "unfoldable", "trusted", "modulo", "around", "read_cell", "libcuzhaveli_plans", "PyObject_GetBuffer"}
 PAGES = [TOP / "README.md", *(TOP / f"docs/{page}.md" for page in ("ARCHITECTURE", "COVERAGE", "DECISIONS", "PROOFS", "REQUESTS", "SCOPE", "TRUST"))]

@@ -142,8 +142,8 @@ def boards(setting):
     expect(totals(told("board", *(shelf.folder for shelf in shelves))) == (4, 0, 0, 0, 0), "all are well")
     views = [shelf.view(range(lost)) for lost, shelf in enumerate(shelves)]
     listed = setting.new()
-    listed.write_bytes(b"# stores\n\n" + b"".join(bytes(view) + b"\n" for view in views[1:]))
-    done = told("board", "--list", listed, views[0], status=5)
+    listed.write_bytes(b"# stores\n\n" + b"".join(bytes(view) + b"\n" for view in views))
+    done = told("board", "--list", listed, status=5)
     expect([one["state"] for one in done["stores"]] == ["optimal", "degraded", "critical", "failed"], done.told())
     expect(totals(done) == (1, 1, 1, 1, 0), done.told())
     done = told("board", *views[:3], status=1)
@@ -165,7 +165,10 @@ def boards(setting):
     shelves[0].call("board", *[views[0]] * 65, status=3)
     shelves[0].call("board", setting.scratch, status=5)
     shelves[0].call("board", status=2)
-    return "9 boards"
+    shelves[0].call("board", "--list", listed, views[0], status=2)
+    listed.write_bytes(b"# none\n")
+    shelves[0].call("board", "--list", listed, status=2)
+    return "11 boards"
 
 
 def removed_bytes(setting):

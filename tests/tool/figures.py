@@ -10,7 +10,7 @@ from tables import manual_text, synopsis
 
 
 def fields(name, of="set"):
-    """The fields of a command's object, of a set or of a store, by its manual page."""
+    """The fields of a command's object, of a set, a store, or what else it is of, by its manual page."""
     text = manual_text(TOP / f"docs/cuzhaveli-{name}.1")
     if ".SH JSON" not in text:
         return []
@@ -51,16 +51,25 @@ def store_calls(setting):
                 (["board", film], 5), (["remove", store, "a"], 0)]
 
 
+def stripe_objects(setting):
+    """Those of `stripe`, by what they are of."""
+    for of, words, status in [("verdict", ["check"], 0), ("verdict", ["scrub"], 0), ("picture", ["rebuild-cells", "--missing", "1", "--draw"], 0),
+                              ("picture", ["rebuild-cells", "--missing", "0,1,2", "--draw"], 3)]:
+        told = setting.told("stripe", *words, "-p", 5, "-s", 64, input=bytes(2240), status=status).figures()
+        expect(list(told) == fields("stripe", of), f"{words}: the object has {list(told)}, the manual {fields('stripe', of)}")
+    return "stripe"
+
+
 def objects(setting):
     """--json: one line, an object with just the fields of the manual, in their order; for every command that tells figures."""
-    seen = set()
+    seen = {stripe_objects(setting)}
     for of, all_calls in (("set", calls), ("store", store_calls)):
         for words, status in all_calls(setting):
             told, wanted = setting.told(*words, status=status).figures(), fields(words[0], of)
             expect(list(told) == wanted, f"{words}: the object has {list(told)}, the manual {wanted}")
             seen.add(words[0])
     names = {line.split()[0] for line in synopsis()}
-    expect(seen == {name for name in names if fields(name)} == names - {"help"}, f"objects of {seen} were looked at, of {names}")
+    expect(seen == {name for name in names if fields(name) or fields(name, "verdict")} == names - {"help"}, f"objects of {seen} were looked at, of {names}")
     images = setting.encoded(noise(9000), 5, s=64)
     setting.call("decode", "--json", images.folder, "-", status=2)
     plan = setting.told("plan", "-p", 5, "-d", 1).figures()

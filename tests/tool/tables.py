@@ -74,7 +74,7 @@ def manual_pages(setting):
 TYPED = [("cuzhaveli re", {"rebuild", "repair"}, {"info", "--help"}), ("cuzhaveli rebuild --d", {"--disk"}, {"--test"}),
          ("cuzhaveli rebuild --plan ", {"balanced", "own", "rows", "film"}, {"--plan"}), ("cuzhaveli help re", {"rebuild"}, {"info"}), ("cuzhaveli rebuild --disk ", {"P", "Q"}, {"--disk"}),
          ("cuzhaveli help --completion ", {"bash", "fish"}, {"--man"}), ("cuzhaveli info f", {"film"}, {"info"}),
-         ("cuzhaveli bill --by", {"--bytes"}, {"film"})]
+         ("cuzhaveli bill --by", {"--bytes"}, {"film"}), ("cuzhaveli stripe re", {"rebuild", "rebuild-cells"}, {"scrub", "film"})]
 
 
 def completions(setting):
@@ -139,8 +139,22 @@ def on_store(setting, words, film):
         words = [*(word for word in words if word in ("rebuild", "-q", "--json", "-n")), "--new", "D", *old, "DIR"]
         for path in (store / "disk-01").iterdir():
             path.unlink()
-    return words, {"STORE": store, "DIR": store, "PACKAGE": "a", "OFFSET": 5, "FROM": film, "TO": setting.new(), "FOLDER": setting.scratch,
+    return words, {"STORE": store, "STORE...": store, "DIR": store, "PACKAGE": "a", "OFFSET": 5, "FROM": film, "TO": setting.new(), "FOLDER": setting.scratch,
                    "FILE": {"board": listed, "put": film}.get(words[0], film.name)}
+
+
+# the words of `stripe` that show each of its options, for stripes of 2,240 zeros
+STRIPES = {"--disk": "rebuild --disk 0", "--test": "rebuild --disk 0 --test", "--missing": "rebuild-cells --missing 1,P.0",
+           "--draw": "rebuild-cells --missing 1 --draw", "--row": "update --disk 0 --row 1", "--servers": "server-write --servers 2",
+           "--server": "server-rebuild --servers 2 --server 1", "--loss": "server-rebuild --servers 2 --server 1 --loss 0.P", "--json": "check --json"}
+
+
+def stripe_runs(setting, line):
+    """Every option of `stripe` with an action that has it."""
+    for option in {*re.findall(r"--[-\w]+", line), *STRIPES}:
+        words = STRIPES[option].split()
+        setting.call("stripe", *words, "-p", 5, "-k", 5, "-s", 64, input=bytes(2240 * 3 + 64 * 3 * ("--row" in words)), status=0)
+    return len(STRIPES)
 
 
 def synopsis_runs(setting):
@@ -157,13 +171,16 @@ def synopsis_runs(setting):
               "A,B,C": "3,2,1", "SHELL": "zsh", "COMMAND": "encode", "DRIVE": drive, "FILE": plan, "FILE...": film}
     count = 0
     for line in synopsis():
+        if line.startswith("stripe "):
+            count += stripe_runs(setting, line)
+            continue
         all_of_set = [part for part in parsed(line) if part[1][0][0] not in ("--new", "--from")]
         for parts in [*variants(line), [alternatives[0] for _, alternatives in all_of_set]]:
             words = list(itertools.chain(*parts))
-            if "DRIVE" in words and drive is None or words[0] == "board" and not {"STORE", "--list"} & set(words):
+            if "DRIVE" in words and drive is None:
                 continue
             places = {**values, "FILM": film if words[0] == "encode" else setting.new(), "DIR": setting.new() if words[0] == "encode" else kept}
-            if {"STORE", "--new", "--list"} & set(words) or words[0] == "rebuild" and "--from" in words:
+            if {"STORE", "STORE...", "--new", "--list"} & set(words) or words[0] == "rebuild" and "--from" in words:
                 words, more = on_store(setting, words, film)
                 places.update(more)
             setting.call(*(places.get(word, word) for word in words), status=0)

@@ -2,7 +2,7 @@
 _cuzhaveli() {
     local word=${COMP_WORDS[COMP_CWORD]} before=${COMP_WORDS[COMP_CWORD - 1]} words='' files=''
     if [ "$COMP_CWORD" -eq 1 ]; then
-        words='create put list get remove patch board encode decode info check rebuild repair plan judge space bill help --help --version'
+        words='create put list get remove patch board encode decode info check rebuild repair plan judge stripe space bill help --help --version'
     else
         case ${COMP_WORDS[1]} in
         create)
@@ -89,7 +89,7 @@ _cuzhaveli() {
             -k) words='' files='' ;;
             -d) words='P Q' files='' ;;
             --relieve) words='P Q' files='' ;;
-            *) words='-p -k -d --balanced --relieve --json --svg --csv --help' files='' ;;
+            *) words='-p -k -d --balanced --relieve --json --svg --text --csv --help' files='' ;;
             esac ;;
         judge)
             case $before in
@@ -97,6 +97,19 @@ _cuzhaveli() {
             -k) words='' files='' ;;
             -d) words='P Q' files='' ;;
             *) words='-p -k -d --json --help' files=yes ;;
+            esac ;;
+        stripe)
+            case $before in
+            -p) words='' files='' ;;
+            -k) words='' files='' ;;
+            -s) words='' files='' ;;
+            --disk) words='P Q' files='' ;;
+            --missing) words='' files=yes ;;
+            --row) words='' files='' ;;
+            --servers) words='' files='' ;;
+            --server) words='' files='' ;;
+            --loss) words='' files='' ;;
+            *) words='-p -k -s --disk --test --missing --draw --row --servers --server --loss --json --help encode check scrub rebuild rebuild-cells update server-write server-rebuild' files='' ;;
             esac ;;
         space)
             case $before in
@@ -118,7 +131,7 @@ _cuzhaveli() {
         help)
             case $before in
             --completion) words='bash zsh fish' files='' ;;
-            *) words='--man --completion --help create put list get remove patch board encode decode info check rebuild repair plan judge space bill help' files='' ;;
+            *) words='--man --completion --help create put list get remove patch board encode decode info check rebuild repair plan judge stripe space bill help' files='' ;;
             esac ;;
         esac
     fi

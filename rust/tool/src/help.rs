@@ -54,7 +54,7 @@ fn listed(name: &str, about: &str) -> String {
 }
 
 /// Text in lines, each after so many spaces.
-fn wrapped(text: &str, indent: usize) -> String {
+pub fn wrapped(text: &str, indent: usize) -> String {
     let mut lines = vec![String::new()];
     for word in text.split_whitespace() {
         let line = lines.last().map_or(0, |line| line.chars().count());

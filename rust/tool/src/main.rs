@@ -10,11 +10,14 @@ mod complete;
 mod help;
 mod json;
 mod manual;
+mod missing;
 mod near;
 mod picture;
 mod plan_text;
 mod progress;
 mod say;
+mod sets;
+mod stripes;
 mod svg;
 mod table;
 

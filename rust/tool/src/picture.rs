@@ -6,6 +6,7 @@ use cuzhaveli::{Plan, Set, Shape};
 use cuzhaveli_tool::names::disk_name;
 
 use crate::fault::Fault;
+use crate::sets::{self, holds};
 
 /// What happens to a cell.
 #[derive(Clone, Copy, Debug, PartialEq, Eq)]
@@ -53,30 +54,13 @@ pub struct Picture {
     pub sets: Vec<String>,
 }
 
-/// Whether a set holds a cell.
-fn holds(shape: Shape, set: Set, row: usize, disk: usize) -> bool {
-    let (p, k) = (shape.width(), shape.disks());
-    match set {
-        Set::Row(i) => row == usize::from(i) && disk <= k,
-        Set::Diagonal(i) => {
-            let i = usize::from(i);
-            let ordinary = disk < k && row == (i + disk) % p;
-            let extra = i > 0 && disk < k && row == p - 1 - i && disk == p - 2 * i % p;
-            ordinary || extra || (disk == k + 1 && row == i)
-        }
-    }
-}
-
 impl Picture {
     /// Draws a plan of that name from its sets, and holds the drawing to the library's read list.
     pub fn of(shape: Shape, lost: usize, plan: &Plan, name: String) -> Result<Picture, Fault> {
         let list = shape.plan_list(lost, &plan.bytes())?;
-        let mut sets = vec![String::new(); shape.width()];
+        let mut sets_of = vec![String::new(); shape.width()];
         for step in plan.steps() {
-            sets[usize::from(step.row)] = match step.set {
-                Set::Row(i) => format!("R {i}"),
-                Set::Diagonal(i) => format!("D {i}"),
-            };
+            sets_of[usize::from(step.row)] = sets::name(step.set);
         }
         let used: Vec<Set> = plan.steps().map(|step| step.set).collect();
         let disks = 0..shape.disks() + 2;
@@ -90,7 +74,7 @@ impl Picture {
                 "a defect: picture and read list differ; please report it".into(),
             ));
         }
-        Ok(Picture { shape, lost, plan: name, reads: plan.reads(), marks, sets })
+        Ok(Picture { shape, lost, plan: name, reads: plan.reads(), marks, sets: sets_of })
     }
 
     /// How many cells of a disk are read.

@@ -219,7 +219,7 @@ pub mod words {
     const THE_STORE: Operand =
         Operand { name: "STORE", kind: Kind::Folder, about: "the folder of the store's disks" };
     pub const STORE: Use = Use::Operand(&THE_STORE);
-    pub const STORES: Use = Use::Any(&STORE);
+    pub const STORES: Use = Use::Operands(&THE_STORE);
     pub const PACKAGE: Use = Use::Operand(&Operand {
         name: "PACKAGE",
         kind: Kind::Text,

@@ -26,15 +26,21 @@ pub const COMMAND: Command = Command {
     ],
     words: &[
         Use::May(&Use::Opt(&JSON)),
-        Use::May(&Use::Opt(&Opt {
-            name: "--list",
-            value: Some(("FILE", Kind::File)),
-            about: "a file with a store a line; lines that begin with # are passed over",
-        })),
-        STORES,
+        Use::One(&[
+            Use::Opt(&Opt {
+                name: "--list",
+                value: Some(("FILE", Kind::File)),
+                about: "a file with a store a line; lines that begin with # are passed over",
+            }),
+            STORES,
+        ]),
     ],
     tells: &[
-        ("stores", "the stores, each with store, state (optimal, degraded, critical, failed, unknown) and lost, its disks"),
+        (
+            "stores",
+            "the stores, each with store, state (optimal, degraded, critical, failed, unknown) and \
+             lost, its disks",
+        ),
         ("optimal", "the stores that can bear two more losses"),
         ("degraded", "those that can bear one more"),
         ("critical", "those that can bear none"),
@@ -48,12 +54,13 @@ pub const COMMAND: Command = Command {
 const MOST_LIST: u64 = 1 << 20;
 
 fn run(given: &Given) -> Result<(), Fault> {
-    let mut stores = given.operands.clone();
-    if let Some(list) = given.value("--list") {
-        stores.extend(listed(Path::new(list))?);
-    }
+    let stores = match (given.value("--list"), given.operands.is_empty()) {
+        (Some(list), true) => listed(Path::new(list))?,
+        (None, false) => given.operands.clone(),
+        _ => return Err(usage("give --list or stores, one of the two".into())),
+    };
     if stores.is_empty() {
-        return Err(usage("no store is given".into()));
+        return Err(usage("--list: the file names no store; give a store a line".into()));
     }
     let found: Vec<Option<Standing>> =
         stores.iter().map(|store| standing(Path::new(store))).collect();

@@ -38,7 +38,11 @@ pub const COMMAND: Command = Command {
         ("length", "the bytes of the film, or of all files"),
         ("bytes", "of a set: the bytes of an image"),
         ("lost", "the lost disks; of a store also those that are stale or lack images"),
-        ("each", "of a store: its disks, each with disk, state (whole, stale, lacking, lost), lacks, the images that it lacks, used and free bytes"),
+        (
+            "each",
+            "of a store: its disks, each with disk, state (whole, stale, lacking, lost), lacks, \
+             the images that it lacks, used and free bytes",
+        ),
     ],
     run,
 };

@@ -20,8 +20,16 @@ pub const COMMAND: Command = Command {
     ],
     words: &[Use::May(&Use::Opt(&JSON)), STORE, Use::May(&PACKAGE)],
     tells: &[
-        ("packages", "the packages, or the one that is named: name, files, the number of them, and length in bytes"),
-        ("files", "the files of the package that is named: name, length, and set, the name of its images, empty if it has none"),
+        (
+            "packages",
+            "the packages, or the one that is named: name, files, the number of them, and length \
+             in bytes",
+        ),
+        (
+            "files",
+            "the files of the package that is named: name, length, and set, the name of its \
+             images, empty if it has none",
+        ),
     ],
     run,
 };

@@ -24,6 +24,9 @@ mod store_info;
 mod store_rebuild;
 mod store_repair;
 mod stores;
+mod stripe;
+mod stripe_calls;
+mod stripe_draw;
 
 use std::ffi::OsString;
 
@@ -49,6 +52,7 @@ pub const COMMANDS: &[&Command] = &[
     &repair::COMMAND,
     &plan::COMMAND,
     &judge::COMMAND,
+    &stripe::COMMAND,
     &space::COMMAND,
     &bill::COMMAND,
     &help::COMMAND,

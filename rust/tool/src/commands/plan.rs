@@ -1,4 +1,4 @@
-//! `plan`: a picture of a plan, or the text of ours.
+//! `plan`: a picture of a plan, or its text.
 
 use cuzhaveli::{Plan, Set, Shape, Step};
 
@@ -38,6 +38,11 @@ pub const COMMAND: Command = Command {
             Use::Opt(&JSON),
             Use::Opt(&Opt { name: "--svg", value: None, about: "the picture as SVG" }),
             Use::Opt(&Opt {
+                name: "--text",
+                value: None,
+                about: "the steps of the plan as the text that judge reads",
+            }),
+            Use::Opt(&Opt {
                 name: "--csv",
                 value: None,
                 about: "the steps of our plan as the plan program prints them, for as many data disks as WIDTH",
@@ -57,7 +62,7 @@ pub const COMMAND: Command = Command {
 };
 
 fn run(given: &Given) -> Result<(), Fault> {
-    given.at_most_one(&["--json", "--csv", "--svg"])?;
+    given.at_most_one(&["--json", "--csv", "--svg", "--text"])?;
     given.at_most_one(&["--balanced", "--relieve"])?;
     let shape = given.shape()?;
     let lost = given.lost(shape)?;
@@ -65,6 +70,10 @@ fn run(given: &Given) -> Result<(), Fault> {
         return csv(given, shape, lost);
     }
     let (plan, name) = plan(given, shape, lost)?;
+    if given.flag("--text") {
+        let steps: Vec<Step> = plan.steps().collect();
+        return say::bytes(shape.write_plan(lost, &steps)?.as_bytes());
+    }
     let picture = Picture::of(shape, lost, &plan, name)?;
     if given.flag("--svg") {
         return say::bytes(svg::draw(&picture).as_bytes());

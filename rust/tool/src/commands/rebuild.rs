@@ -90,16 +90,28 @@ pub const COMMAND: Command = Command {
     tells: &[
         ("lost", "of a set: the lost disks"),
         ("images", "of a store: the images that were rebuilt, or would be"),
-        ("plan", "of a set: how they come back: balanced, own, relief, file, rows, tested; two where two are lost, none where none is"),
+        (
+            "plan",
+            "of a set: how they come back: balanced, own, relief, file, rows, tested; two where \
+             two are lost, none where none is",
+        ),
         ("done", "whether the images are there now; false with -n"),
         ("stripes", "the stripes that this call rebuilt, or would"),
         ("kept", "those that an earlier one had"),
-        ("read", "the bytes that were read of the survivors, cells and checksums; with -n of cells, if nothing is there yet"),
+        (
+            "read",
+            "the bytes that were read of the survivors, cells and checksums; with -n of cells, if \
+             nothing is there yet",
+        ),
         ("rows", "of a set: the bytes that all rows of the rebuilt stripes have"),
         ("busiest", "of a set: the bytes of the survivor of which the most were read"),
         ("mended", "the units in which a survivor was bad"),
         ("cents", "the bill of what was read, by --rates; 0 without"),
-        ("beyond", "stripes that cannot be rebuilt: stripe, count, and the disks that are lost or bad there; of a store the file too, and alone if too much of it is lost"),
+        (
+            "beyond",
+            "stripes that cannot be rebuilt: stripe, count, and the disks that are lost or bad \
+             there; of a store the file too, and alone if too much of it is lost",
+        ),
         ("lacks", "of a store: the disks that still lack something; none with -n"),
     ],
     run,

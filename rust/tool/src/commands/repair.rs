@@ -36,8 +36,15 @@ pub const COMMAND: Command = Command {
         ("blocks", "the checksum blocks that were"),
         ("labels", "the labels that were"),
         ("read", "the bytes that were read"),
-        ("lost", "the lost disks, which rebuild brings back; of a store also those that lack images"),
-        ("beyond", "stripes that cannot be made right: stripe, count, and the disks that are lost or bad there; of a store the file too, and alone if too much of it is lost"),
+        (
+            "lost",
+            "the lost disks, which rebuild brings back; of a store also those that lack images",
+        ),
+        (
+            "beyond",
+            "stripes that cannot be made right: stripe, count, and the disks that are lost or bad \
+             there; of a store the file too, and alone if too much of it is lost",
+        ),
         ("catalogues", "of a store: the catalogues that were replaced"),
     ],
     run,
