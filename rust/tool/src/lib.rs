@@ -12,6 +12,7 @@ pub mod encode;
 pub mod examine;
 pub mod fault;
 pub mod film;
+pub mod folder;
 pub mod geometry;
 pub mod image;
 pub mod label;

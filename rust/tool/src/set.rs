@@ -62,9 +62,15 @@ fn see(path: &Path) -> Seen {
             let found = image.block(0).ok().map(|block| Found::of(&block));
             Seen::Image(image, found)
         }
+        // The node of a drive that is not attached now.
+        Err(_) if is_dangling(path) => Seen::Odd("is a link that leads nowhere".into()),
         Err(error) if error.kind() == ErrorKind::NotFound => Seen::Nothing,
         Err(error) => Seen::Odd(format!("cannot be read: {error}")),
     }
+}
+
+fn is_dangling(path: &Path) -> bool {
+    path.is_symlink() && path.metadata().is_err_and(|error| error.kind() == ErrorKind::NotFound)
 }
 
 /// Whether the last block of an image whose first is bad is that label.
