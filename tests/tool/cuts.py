@@ -114,13 +114,13 @@ def cut_encodes(setting):
     return f"{cuts.count} states after {len(cuts.events)} changes"
 
 
-def go_on(setting, cuts, folder, torn):
+def go_on(setting, cuts, folder, torn, *words):
     """Rebuilds after a power cut. A part whose first block is torn has no mark: it is named, and removed."""
-    done = setting.call("rebuild", folder)
+    done = setting.call("rebuild", *words, folder)
     for name in (name for name, at in torn.items() if at is not None and at < LABEL):
         if done.status == 5 and f"{name} is not of this rebuild; remove it".encode() in done.err:
             (folder.parent / name).unlink()
-            done = setting.call("rebuild", folder)
+            done = setting.call("rebuild", *words, folder)
     cuts.expect(done.status == 0, f"rebuild again: {done.told()}")
 
 
@@ -200,7 +200,40 @@ def cut_decodes(setting):
     return f"{cuts.count} states after {len(cuts.events)} changes"
 
 
-CHECKS = [cut_encodes, cut_rebuilds, cut_repairs, cut_decodes]
+def cut_remnants(setting):
+    """A part, or a marked image, that the film cannot do without, since two other disks are bad: the film is there at any time."""
+    if not can_trace(setting):
+        return NO_TRACE
+    states, changes, cell = 0, 0, 512
+    film = noise(3 * 3 * cell * 4 - 7)
+    for kind in ("part", "named"):
+        world = new_world(setting)
+        images = setting.encoded(film, 3, 3, cell, 4, unit=1, where=world)
+        good = stands(images.folder)
+        own = images.part(1) if kind == "part" else images.path(1)
+        images.path(1).rename(own)
+        images.lose(2)
+        with open(own, "r+b") as file:
+            if kind == "part":
+                file.write(images.label(1, "part"))
+            for stripe, row in ((1, 0), (3, 2)):  # the rest of these units comes back from what is good of it
+                file.seek(images.offset(stripe, row))
+                file.write(bytes(cell))
+        for stripe, row in ((0, 0), (0, 1), (1, 1), (2, 2), (3, 2)):
+            images.flip(3, images.offset(stripe, row))
+        words = ["--disk", 1] if kind == "named" else []
+        cuts = Cuts(setting, world, "rebuild", *words, images.folder)
+        for left, _, torn in cuts.states():
+            folder = left / images.folder.name
+            cuts.expect(film_or_refused(setting, cuts, folder, film), "no film")
+            go_on(setting, cuts, folder, torn, *words)
+            done = setting.call("repair", folder)
+            cuts.expect(done.status == 0 and stands(folder) == good, f"other images after rebuild again: {done.told()}")
+        states, changes = states + cuts.count, changes + len(cuts.events)
+    return f"{states} states after {changes} changes"
+
+
+CHECKS = [cut_encodes, cut_rebuilds, cut_remnants, cut_repairs, cut_decodes]
 
 
 def main():

@@ -3,7 +3,7 @@
 import itertools
 import random
 
-from harness import LABEL, expect, noise
+from harness import LABEL, expect, noise, xxh64
 
 
 def small(setting, seed=1, stripes=9, **more):
@@ -218,12 +218,30 @@ def wide_damage(setting):
         images.path(disk).write_bytes(before[disk][:LABEL] + noise(images.end() - LABEL, disk) + before[disk][-LABEL:])
     spoiled = images.images()
     done = setting.told("repair", images.folder, status=6)
-    expect((done["pieces"], done["blocks"], len(done["beyond"])) == (0, 3 * images.units(), images.units()), done.told())
-    for disk, row, unit in itertools.product(range(images.disks), range(images.p), range(images.units())):
-        now = images.piece(images.path(disk).read_bytes(), row, unit)
-        expect(now == images.piece(spoiled[disk], row, unit), "repair wrote where nothing can be made right")
+    expect((done["pieces"], done["blocks"], done["gaps"]) == (0, 0, 9), done.told())
+    expect(done["beyond"] == [{"stripe": 0, "count": 9, "disks": [0, 1, 2]}], done.told())
+    expect(images.images() == spoiled, "repair wrote where nothing can be made right")
     setting.call("decode", images.folder, setting.new(), status=6)
     return "4 sets"
+
+
+def forged_blocks(setting):
+    """A checksum block with another sum and the right guard: told, and repair does not write it to the other images."""
+    film, images = small(setting)
+    good = images.images()
+    for disk in range(images.disks):
+        at = images.block(1)
+        sums = bytearray(good[disk][at:at + images.block_len - 8])
+        sums[8 * (3 * images.p + 2)] ^= 1
+        forged = bytes(sums) + xxh64(sums, images.seed(0xFFFFFFFF, 0xFFFFFFFF, 1)).to_bytes(8, "little")
+        images.write({disk: good[disk][:at] + forged + good[disk][at + images.block_len:]})
+        before = images.images()
+        done = setting.told("repair", images.folder, status=None)
+        expect(done.status == 6 and images.images() == before or images.images() == good, f"disk {disk}: a forged block spread: {done.told()}")
+        done = setting.call("decode", images.folder, out := setting.new())
+        expect(done.status == 6 or out.read_bytes() == film, done.told())
+        images.write(good)
+    return f"{images.disks} blocks"
 
 
 def random_reads(setting):
@@ -247,4 +265,4 @@ def random_reads(setting):
     return f"{told[0]} films, {told[5]} refused, {told[6]} with gaps told"
 
 
-CHECKS = [following_check, flips, two_and_a_half, checksum_blocks, stale_and_misplaced, dirty, labels, wide_damage, random_reads]
+CHECKS = [following_check, flips, two_and_a_half, checksum_blocks, stale_and_misplaced, dirty, labels, wide_damage, forged_blocks, random_reads]

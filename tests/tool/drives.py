@@ -239,7 +239,17 @@ def decoded_drives(setting, loops):
     little = loops.new(8192)
     setting.call("decode", "--overwrite", little, images.folder, little, status=4)
     expect(content(little) == bytes(8192), "a film was begun on a drive that is too short for it")
-    return "4 calls"
+    # where film cannot be made right, zeros: what was on the drive is no film
+    put(drive, 0, b"precious" * (len(FILM) // 8 + 1))
+    for disk in (0, 1, 2):
+        images.flip(disk, images.offset(images.unit, 0))
+        images.flip(disk, images.offset(images.unit, 1))
+        images.flip(disk, images.offset(images.unit, 2))
+    done = setting.call("decode", "--overwrite", drive, images.folder, drive, status=6)
+    unit = images.unit * images.k * images.p * images.s
+    expect(content(drive, len(FILM)) == FILM[:unit] + bytes(unit) + FILM[2 * unit:], f"other bytes in a gap: {done.told()}")
+    expect(f"has gaps of {unit} bytes of zeros".encode() in done.err, done.told())
+    return "5 calls"
 
 
 @with_drives

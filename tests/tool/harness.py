@@ -366,18 +366,21 @@ class Traced:
         self.wait()
 
     def fail_reads(self, spoiled):
-        """Lets every pread of these paths fail that meets one of their stretches of bytes."""
+        """Lets every pread of these paths fail that meets one of their stretches of bytes; gives how many did."""
+        failed = 0
         while self.status is None:
             self.step()
             if self.status is not None:
-                return
+                break
             entry = self.registers()
             stretches = spoiled.get(self.opened(entry[14]), ()) if entry[15] == 17 else ()  # pread64
             hit = any(entry[7] < end and start < entry[7] + entry[12] for start, end in stretches)
             self.step([*entry[:15], NO_CALL, *entry[16:]] if hit else None)
             if hit and self.status is None:
+                failed += 1
                 values = self.registers()
                 self.change([*values[:10], EIO, *values[11:]])
+        return failed
 
     def opened(self, number):
         """The path of an open file."""

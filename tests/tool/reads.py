@@ -127,15 +127,95 @@ def memory(setting):
 
 
 def rates(setting):
-    """--rate: no more than so many bytes a second are read."""
-    images = setting.encoded(noise(3 * 3 * 4096 * 8), 3)
+    """--rate: no more than so many bytes a second are read of each disk, and all disks side by side."""
+    images = setting.encoded(noise(3 * 3 * 4096 * 64), 3)
+    blocks = images.block_len * images.units()
     column = images.p * images.s * images.stripes
-    for words, read in ((["check"], 5 * column), (["repair"], 5 * column), (["rebuild", "--disk", 1], 7 * column // 3)):
-        done = setting.measured(*words, "--rate", 4 * read, images.folder)
-        expect(0.2 < done.seconds < 2, f"{words}: {done.seconds} s for {read} bytes at {4 * read} a second")
-        expect(setting.measured(*words, images.folder).seconds < 0.15, f"{words} is slow without a rate")
+    told = []
+    for words, most in ((["check"], column + 2 * blocks), (["repair"], column + 2 * blocks), (["rebuild", "--disk", 1], 2 * column // 3)):
+        rate = 2 * most
+        done = setting.measured(*words, "--json", "--rate", rate, images.folder)
+        busiest = done.figures().get("busiest", most)
+        expect(abs(busiest - most) <= column // 10 and done["read"] > 2.5 * busiest, f"{words}: {busiest} bytes of a disk, {done.told()}")
+        expect(0.9 * busiest / rate < done.seconds < 2.5 * busiest / rate, f"{words}: {done.seconds} s for {busiest} bytes of a disk at {rate} a second")
+        told.append(f"{words[0]} {done.seconds:.2f} s")
+        expect(min(setting.measured(*words, images.folder).seconds for _ in range(3)) < 0.35, f"{words} is slow without a rate")
     setting.call("check", "--rate", 0, images.folder, status=2)
-    return "3 commands"
+    return f"{', '.join(told)}; 0.5 s were due"
 
 
-CHECKS = [bytes_asked, device_reads, unreadable, memory, rates]
+def small_units(setting, count):
+    """A set of that many units of one-byte cells in one group, the sums of three disks wrong in each."""
+    images = setting.encoded_file(source_of(setting, 6 * count), 3, 2, 1, 65_536, unit=1)
+    turn = bytes(255 - byte for byte in range(256))
+    for disk in (0, 1, 2):
+        image = images.path(disk).read_bytes()
+        start, _ = images.start(0)
+        cells = images.p * images.stripes
+        images.path(disk).write_bytes(image[:start] + image[start:start + cells].translate(turn) + image[start + cells:])
+    return images
+
+
+def source_of(setting, length):
+    path = setting.new()
+    path.write_bytes(noise(length))
+    return path
+
+
+def spent(setting, *words):
+    """The seconds of the processor that a call takes, its status and its most memory in KiB."""
+    pid = os.fork()
+    if pid == 0:
+        null = os.open(os.devnull, os.O_WRONLY)
+        os.dup2(null, 1)
+        os.dup2(null, 2)
+        os.execv(setting.program, [str(setting.program), *map(str, words)])
+    _, status, usage = os.wait4(pid, 0)
+    return usage.ru_utime + usage.ru_stime, os.waitstatus_to_exitcode(status), usage.ru_maxrss
+
+
+def many_gaps(setting):
+    """Tens of thousands of units beyond repair: four times as many take about four times as long, and little memory."""
+    few, many = small_units(setting, 15_000), small_units(setting, 60_000)
+    told, most = [], 0
+    for words in (["check"], ["repair"], ["decode"], ["rebuild", "--disk", 0]):
+        seconds = []
+        for images in (few, many):
+            more = [setting.new()] if words == ["decode"] else []
+            taken, status, peak = spent(setting, *words, "--json", images.folder, *more)
+            expect(status == 6, f"{words}: status {status}")
+            seconds.append(taken)
+            most = max(most, peak)
+        expect(seconds[1] < 8 * seconds[0] + 0.3, f"{words}: {seconds} s for 15,000 and 60,000 units")
+        told.append(f"{words[0]} {seconds[1] / max(seconds[0], 0.001):.1f}")
+    expect(most < 64 * 1024, f"{most} KiB of memory")
+    # other disks in every other unit: stretches that cannot be told as one
+    images = few
+    image = bytearray(images.path(2).read_bytes())
+    for stripe in range(0, images.stripes, 2):
+        for row in range(images.p):
+            image[images.offset(stripe, row)] ^= 255
+    images.path(2).write_bytes(image)
+    images.lose(3)
+    done = setting.told("rebuild", images.folder, status=6)
+    expect(len(done["beyond"]) == 1000 and done["gaps"] == images.stripes, f"{len(done['beyond'])} stretches, {done['gaps']} stripes")
+    expect(done.err.count(b"\n") == 1002 and b"too much is bad in 14000 stripes more" in done.err, done.err[-300:].decode())
+    return f"{', '.join(told)} times as long; at most {most} KiB"
+
+
+def small_unreadable(setting):
+    """One-byte cells of a disk that cannot be read: sectors are tried, not cells, and the film comes back."""
+    if not can_trace(setting):
+        return "left out: no tracing on this machine"
+    film = noise(3 * 3 * 4096)
+    images = setting.encoded(film, 3, None, 1, 4096, unit=4096)
+    path, out, count = str(images.path(1)), setting.new(), 0
+    traced = Traced(setting, "decode", images.folder, out)
+    count = traced.fail_reads({path: [(LABEL, images.end())]})
+    expect(traced.status == 0 and out.read_bytes() == film, f"status {traced.status}")
+    sectors = -(-(images.end() - LABEL) // 512)
+    expect(count < 4 * sectors, f"{count} reads failed of {sectors} sectors")
+    return f"{count} reads failed of {sectors} sectors"
+
+
+CHECKS = [bytes_asked, device_reads, unreadable, small_unreadable, memory, many_gaps, rates]

@@ -188,6 +188,21 @@ def outside(setting):
     expect(setting.film(images) == FILM, "a device in an image's place")
     done = setting.told("judge", "-p", 5, "-d", 1, "/dev/zero", status=1)
     expect(done["refusal"] == 22, done.told())
+    # a link that leads nowhere, as to a drive that is not attached now, is not replaced by a file
+    images.path(2).unlink()
+    images.path(2).symlink_to("/dev/not-attached-now")
+    expect(setting.film(images) == FILM, "a link that leads nowhere")
+    stands(setting, images, 5, "rebuild", images.folder, says=b"disk-02.img is a link that leads nowhere")
+    expect(images.path(2).is_symlink() and not images.part(2).exists(), "a link that leads nowhere was replaced")
+    pipe = setting.new()
+    os.mkfifo(pipe)
+    for words in (["rebuild", pipe], ["repair", pipe], ["encode", "-p", 5, images.path(0), pipe], ["check", pipe], ["info", pipe],
+                  ["decode", pipe, setting.new()]):
+        try:
+            done = subprocess.run([setting.program, *map(str, words)], capture_output=True, timeout=10)
+        except subprocess.TimeoutExpired:
+            expect(False, f"{words[0]} waits for a pipe")
+        expect(done.returncode == 4 and b"Not a directory" in done.stderr, f"{words[0]} of a pipe: {done}")
     target = images.path(3).rename(setting.new())
     images.path(3).symlink_to(target)
     images.path(2).unlink()
@@ -196,7 +211,44 @@ def outside(setting):
     before = target.read_bytes()
     setting.call("repair", images.folder, status=4)
     expect(target.read_bytes() == before, "repair wrote through a link to a file")
-    return "13 links, pipes and devices"
+    return "20 links, pipes and devices"
+
+
+def exchanged(setting, moment, path, *words):
+    """A call during which another program puts a file of its own at a path: its status."""
+    traced, seen = Traced(setting, *words), 0
+    for name, first, second, _ in traced.calls():
+        if name == moment or moment == "rename" and name == "renameat2":
+            if seen == 0 and path.exists():
+                path.rename(path.with_suffix(".aside"))
+                path.write_bytes(b"not ours")
+            seen += 1
+    expect(seen > 0, f"no {moment} in {words}")
+    return traced.status
+
+
+def exchanged_parts(setting):
+    """A part that another program exchanges gets no name; at the last moment it may, and that is told. It is not removed."""
+    if not can_trace(setting):
+        return "left out: no tracing on this machine"
+    images = small(setting)
+    good = images.images()
+    for moment in ("fsync", "rename"):
+        images.lose(1)
+        status = exchanged(setting, moment, images.part(1), "rebuild", images.folder)
+        expect(status == 4, f"rebuild, exchanged at {moment}: status {status}")
+        named = images.path(1) if moment == "rename" else images.part(1)
+        expect(named.read_bytes() == b"not ours" and images.path(1).exists() == (moment == "rename"), f"rebuild, exchanged at {moment}")
+        named.unlink()
+        images.part(1).with_suffix(".aside").unlink()
+        setting.call("rebuild", images.folder, status=0)
+        expect(images.images() == good, "other images")
+        out = setting.new()
+        part = out.with_name(out.name + ".part")
+        status = exchanged(setting, moment, part, "decode", images.folder, out)
+        expect(status == 4 and out.exists() == (moment == "rename"), f"decode, exchanged at {moment}: status {status}")
+        expect((out if moment == "rename" else part).read_bytes() == b"not ours", f"decode, exchanged at {moment}: another's file is gone")
+    return "4 exchanges"
 
 
 def parts(setting):
@@ -241,4 +293,4 @@ def locked(setting):
     return "5 calls"
 
 
-CHECKS = [strangers, no_set, odd_labels, large_labels, lost_disks, nothing_overwritten, outside, parts, locked]
+CHECKS = [strangers, no_set, odd_labels, large_labels, lost_disks, nothing_overwritten, outside, exchanged_parts, parts, locked]

@@ -75,7 +75,7 @@ complete -c cuzhaveli -n '__fish_seen_subcommand_from info' -l json -d 'tell the
 complete -c cuzhaveli -n '__fish_seen_subcommand_from info' -F
 complete -c cuzhaveli -n '__fish_seen_subcommand_from check' -s q -d 'no progress'
 complete -c cuzhaveli -n '__fish_seen_subcommand_from check' -l json -d 'tell the figures as one JSON object on a line of its own, for programs'
-complete -c cuzhaveli -n '__fish_seen_subcommand_from check' -l rate -x -a '' -d 'read no more than BYTES a second, so that screens can play meanwhile'
+complete -c cuzhaveli -n '__fish_seen_subcommand_from check' -l rate -x -a '' -d 'read no more than BYTES a second of each disk, so that screens can play meanwhile'
 complete -c cuzhaveli -n '__fish_seen_subcommand_from check' -l from -x -a '' -d 'begin at this stripe; of a set only'
 complete -c cuzhaveli -n '__fish_seen_subcommand_from check' -F
 complete -c cuzhaveli -n '__fish_seen_subcommand_from rebuild' -s q -d 'no progress'
@@ -84,7 +84,7 @@ complete -c cuzhaveli -n '__fish_seen_subcommand_from rebuild' -s n -d 'only say
 complete -c cuzhaveli -n '__fish_seen_subcommand_from rebuild' -l plan -r -F -a 'balanced own rows' -d 'the plan for one lost data disk: balanced, of which no survivor gives more than it must; own, which the library'\''s usual call takes; rows, every row as row parity alone would need, for comparison; or a file with a plan, as cuzhaveli-judge(1) takes it (- for standard input). If it is not given, balanced where it reads as few cells as own, else own'
 complete -c cuzhaveli -n '__fish_seen_subcommand_from rebuild' -l relieve -x -a 'P Q' -d 'the plan that asks the least of this data disk, one that is slow, failing or playing'
 complete -c cuzhaveli -n '__fish_seen_subcommand_from rebuild' -l test -d 'read all survivors, and rebuild a stripe only if they belong together; stop at the first one where they do not (refusal 19)'
-complete -c cuzhaveli -n '__fish_seen_subcommand_from rebuild' -l rate -x -a '' -d 'read no more than BYTES a second, so that screens can play meanwhile'
+complete -c cuzhaveli -n '__fish_seen_subcommand_from rebuild' -l rate -x -a '' -d 'read no more than BYTES a second of each disk, so that screens can play meanwhile'
 complete -c cuzhaveli -n '__fish_seen_subcommand_from rebuild' -l rates -x -a '' -d 'cents a GiB, three numbers up to 1000: for the first 64 GiB, up to 1,024 GiB, and for the rest'
 complete -c cuzhaveli -n '__fish_seen_subcommand_from rebuild' -l disk -x -a 'P Q' -d 'this disk counts as lost: its number, P or Q'
 complete -c cuzhaveli -n '__fish_seen_subcommand_from rebuild' -l new -x -a 'P Q' -d 'of a store: this disk is a new, empty one'
@@ -93,7 +93,7 @@ complete -c cuzhaveli -n '__fish_seen_subcommand_from rebuild' -l overwrite -r -
 complete -c cuzhaveli -n '__fish_seen_subcommand_from rebuild' -F
 complete -c cuzhaveli -n '__fish_seen_subcommand_from repair' -s q -d 'no progress'
 complete -c cuzhaveli -n '__fish_seen_subcommand_from repair' -l json -d 'tell the figures as one JSON object on a line of its own, for programs'
-complete -c cuzhaveli -n '__fish_seen_subcommand_from repair' -l rate -x -a '' -d 'read no more than BYTES a second, so that screens can play meanwhile'
+complete -c cuzhaveli -n '__fish_seen_subcommand_from repair' -l rate -x -a '' -d 'read no more than BYTES a second of each disk, so that screens can play meanwhile'
 complete -c cuzhaveli -n '__fish_seen_subcommand_from repair' -l overwrite -r -F -d 'this drive may be written, whatever is on it'
 complete -c cuzhaveli -n '__fish_seen_subcommand_from repair' -F
 complete -c cuzhaveli -n '__fish_seen_subcommand_from plan' -s p -x -a '' -d 'the rows of a stripe: 3, 5, 7, 11, 13, 17, 19, 23, 29 or 31'

@@ -4,6 +4,7 @@ use std::collections::BTreeSet;
 use std::ops::Range;
 
 use crate::fault::Fault;
+use crate::gaps;
 use crate::geometry::{Geometry, MOST_BYTES};
 use crate::pace::Pace;
 use crate::reader::{Beyond, Reader};
@@ -123,7 +124,7 @@ pub fn read_all(set: &Set, sink: &mut impl Sink) -> Result<Account, Fault> {
             let stripes = geometry.stripes_of(batch.unit + unit as u64);
             let start = stripes.start * stripe as u64;
             let bytes = (stripes.end * stripe as u64).min(geometry.length) - start;
-            match beyond.iter().find(|beyond| beyond.stripes == stripes) {
+            match gaps::at(&beyond, stripes.start) {
                 Some(beyond) => sink.gap(start, bytes, beyond)?,
                 None => {
                     let places = geometry.places(batch, unit);

@@ -23,9 +23,10 @@ mod table;
 
 use std::process::ExitCode;
 
-use cuzhaveli_tool::fault;
+use cuzhaveli_tool::{fault, sys};
 
 fn main() -> ExitCode {
+    sys::outlive_size_limits();
     match commands::run(std::env::args_os().skip(1)) {
         Ok(()) => ExitCode::SUCCESS,
         Err(fault) => {

@@ -1,7 +1,7 @@
 //! All that is written: images, films, names. A file is written under another name and gets its own
 //! once it is whole and synced; a drive is marked first and gets its labels last.
 
-use std::fs::{self, File, OpenOptions};
+use std::fs::{self, File, Metadata, OpenOptions};
 use std::io::{self, ErrorKind, Seek, SeekFrom};
 use std::os::unix::fs::{FileExt, MetadataExt, OpenOptionsExt};
 use std::path::{Path, PathBuf};
@@ -13,32 +13,7 @@ use crate::image::Image;
 use crate::label::{Block, Found, Label};
 use crate::sys;
 
-/// Locks a folder against a second program that writes there, until the file is closed.
-pub fn lock(folder: &Path) -> Result<File, Fault> {
-    let file = File::open(folder).map_err(|error| Fault::path(folder, error))?;
-    match file.try_lock() {
-        Ok(()) => Ok(file),
-        Err(fs::TryLockError::WouldBlock) => Err(Fault::Failed(format!(
-            "{}: another cuzhaveli writes there; wait until it has ended",
-            folder.display()
-        ))),
-        Err(fs::TryLockError::Error(error)) => Err(Fault::path(folder, error)),
-    }
-}
-
-/// Makes names in a folder last.
-pub fn sync_folder(folder: &Path) -> Result<(), Fault> {
-    let synced = File::open(folder).and_then(|file| file.sync_all());
-    synced.map_err(|error| Fault::path(folder, error))
-}
-
-/// The folder that has a path.
-pub fn folder_of(path: &Path) -> &Path {
-    match path.parent() {
-        Some(folder) if folder != Path::new("") => folder,
-        _ => Path::new("."),
-    }
-}
+pub use crate::folder::{folder_of, lock, sync_folder};
 
 /// Where a file is written until it is whole.
 pub fn part_path(path: &Path) -> PathBuf {
@@ -246,22 +221,44 @@ impl Output {
         self.sync()
     }
 
-    /// Gives a file its name; the folder is to be synced.
+    /// Gives a file its name; the folder is to be synced. What another program has put in its place
+    /// gets none, or is told if that was done at the last moment.
     pub fn name(&self) -> Result<(), Fault> {
-        let named = match (self.drive, self.replaces) {
-            (Some(_), _) => Ok(()),
-            (None, true) => fs::rename(&self.path, &self.target),
-            (None, false) => sys::rename_new(&self.path, &self.target),
+        if self.drive.is_some() {
+            return Ok(());
+        }
+        self.stands_at(&self.path)?;
+        let named = match self.replaces {
+            true => fs::rename(&self.path, &self.target),
+            false => sys::rename_new(&self.path, &self.target),
         };
         named.map_err(|error| match error.kind() {
             ErrorKind::AlreadyExists => taken(&self.target),
             _ => Fault::path(&self.path, error),
-        })
+        })?;
+        self.stands_at(&self.target)
+    }
+
+    /// Refuses a path at which another file stands than the one that was written.
+    fn stands_at(&self, path: &Path) -> Result<(), Fault> {
+        match self.is_at(path) {
+            true => Ok(()),
+            false => Err(Fault::Failed(format!(
+                "{}: another program has put something else there; remove it, and run this again",
+                path.display()
+            ))),
+        }
+    }
+
+    fn is_at(&self, path: &Path) -> bool {
+        let id = |data: Metadata| (data.dev(), data.ino());
+        let own = self.file.metadata().map(id).ok();
+        own.is_some() && own == path.symlink_metadata().map(id).ok()
     }
 
     /// Takes a new file away again, as far as that can be done.
     pub fn discard(self) {
-        if self.drive.is_none() {
+        if self.drive.is_none() && self.is_at(&self.path) {
             let _ = fs::remove_file(&self.path);
         }
     }

@@ -1,6 +1,7 @@
 //! The one way by which the bytes of a set are read: what does not fit its checksum is mended from
 //! the rest of its unit and compared, or is not handed out.
 
+mod holes;
 mod mend;
 
 use std::io;
@@ -12,7 +13,7 @@ use crate::blocks::Blocks;
 use crate::cells::Cells;
 use crate::fault::Fault;
 use crate::geometry::{Batch, Geometry};
-use crate::image::Bounce;
+use crate::image::{Bounce, Image};
 use crate::names::{self, disk_names};
 use crate::pace::Pace;
 use crate::parallel;
@@ -20,12 +21,16 @@ use crate::rows::{self, Row};
 use crate::set::Set;
 use crate::wanted::{Reading, Wanted, Way};
 
+use holes::Holes;
+
 /// What is known of a piece of the batch.
 #[derive(Clone, Copy, Debug, PartialEq, Eq)]
 enum State {
     Unread,
     Good,
     Bad,
+    /// Not all of its cells can be read.
+    Torn,
 }
 
 /// How a piece is bad.
@@ -65,17 +70,16 @@ impl Beyond {
     }
 }
 
-/// A cell that cannot be read, in a piece of which others can: row, disk and place in the batch.
-type Hole = (usize, usize, usize);
-
 pub struct Reader<'a> {
     set: &'a Set,
     geometry: Geometry,
     cells: Cells,
     blocks: Blocks,
     states: Vec<State>,
-    holes: Vec<Hole>,
+    holes: Holes,
     bad: Vec<Bad>,
+    /// The units of the batch that have a bad piece.
+    flawed: Vec<bool>,
     stripe: Vec<u8>,
     /// One for each thread, at least one.
     bounces: Vec<Bounce>,
@@ -96,8 +100,9 @@ impl<'a> Reader<'a> {
             cells: Cells::new(geometry, bytes),
             blocks: Blocks::new(set.label.set, geometry),
             states: Vec::new(),
-            holes: Vec::new(),
+            holes: Holes::default(),
             bad: Vec::new(),
+            flawed: Vec::new(),
             stripe: vec![0; geometry.shape.stripe_len()],
             bounces: (0..set.threads()).map(|_| Bounce::default()).collect(),
             pace,
@@ -184,17 +189,20 @@ impl<'a> Reader<'a> {
         self.states = vec![State::Unread; batch.units * self.pieces()];
         self.holes.clear();
         self.bad.clear();
+        self.flawed = vec![false; batch.units];
         self.blocks.clear(batch);
-        for disk in wanted.quietest(self.set) {
+        let set = self.set;
+        let there =
+            wanted.quietest(set).into_iter().filter_map(|disk| Some((disk, set.image(disk)?)));
+        for (disk, image) in there.chain(set.remnants()) {
             let unknown: Vec<usize> = self.blocks.unknown().collect();
             let (Some(first), Some(last)) = (unknown.first(), unknown.last()) else { return };
-            self.read_blocks(disk, *first..last + 1);
+            self.read_blocks(disk, image, *first..last + 1);
         }
     }
 
-    /// Reads the blocks of units from one disk.
-    fn read_blocks(&mut self, disk: usize, units: Range<usize>) {
-        let Some(image) = self.set.image(disk) else { return };
+    /// Reads the blocks of units from the image of a disk.
+    fn read_blocks(&mut self, disk: usize, image: &Image, units: Range<usize>) {
         let len = self.geometry.block_len();
         let at = self.geometry.block_at(self.cells.batch.unit + units.start as u64);
         let mut bytes = vec![0; units.len() * len];
@@ -212,7 +220,7 @@ impl<'a> Reader<'a> {
     /// Whether every piece of a unit was read and fitted its sum.
     pub fn is_sound(&self, unit: usize) -> bool {
         let disks: Vec<usize> = (0..self.geometry.disks()).collect();
-        self.has(unit, &disks) && self.bad.iter().all(|bad| bad.unit != unit)
+        self.has(unit, &disks) && !self.flawed[unit]
     }
 
     /// The blocks of the batch, by disk and unit, that are not the ones that are known, or that
@@ -236,13 +244,14 @@ impl<'a> Reader<'a> {
         let disks: Vec<usize> = set.present().collect();
         let mut bad = parallel::each(&mut self.bounces, disks, look).concat();
         bad.sort();
-        set.present().for_each(|disk| self.count(disk, all));
+        set.present().for_each(|disk| self.read[disk] += all as u64);
+        self.pace.spend(set.present().map(|disk| (disk, all as u64)));
         bad
     }
 
     fn count(&mut self, disk: usize, bytes: usize) {
         self.read[disk] += bytes as u64;
-        self.pace.spend(bytes as u64);
+        self.pace.spend([(disk, bytes as u64)]);
     }
 
     fn pieces(&self) -> usize {
@@ -310,25 +319,13 @@ impl<'a> Reader<'a> {
         let known =
             std::mem::replace(&mut self.states[at], if fits { State::Good } else { State::Bad });
         if !fits && known == State::Unread && self.blocks.is_known(unit) {
-            self.bad.push(Bad { disk, row, unit, flaw: Flaw::Sum });
+            self.flaw(Bad { disk, row, unit, flaw: Flaw::Sum });
         }
     }
 
-    /// Reads a piece or, where that fails, those of its cells that can be read.
-    fn read_piece(&mut self, unit: usize, disk: usize, row: usize) {
-        let places = self.geometry.places(self.cells.batch, unit);
-        if self.read_cells(disk, row, places.clone()).is_ok() {
-            let fits = self.blocks.fits(unit, disk, row, self.cells.piece(disk, row, unit));
-            return self.judge(unit, disk, row, fits);
-        }
-        for place in places {
-            if self.read_cells(disk, row, place..place + 1).is_err() {
-                self.holes.push((row, disk, place));
-            }
-        }
-        let at = self.at(unit, disk, row);
-        self.states[at] = State::Bad;
-        self.bad.push(Bad { disk, row, unit, flaw: Flaw::Read });
+    fn flaw(&mut self, bad: Bad) {
+        self.flawed[bad.unit] = true;
+        self.bad.push(bad);
     }
 
     fn read_cells(&mut self, disk: usize, row: usize, places: Range<usize>) -> io::Result<()> {

@@ -4,9 +4,9 @@
 use crate::encode::write_blocks;
 use crate::examine::{examine, Findings};
 use crate::fault::Fault;
+use crate::gaps::{self, Gaps};
 use crate::output::Output;
 use crate::pace::Pace;
-use crate::reader::Beyond;
 use crate::set::Set;
 
 /// What a repair did.
@@ -16,7 +16,7 @@ pub struct Account {
     pub blocks: u64,
     pub labels: u64,
     pub read: u64,
-    pub beyond: Vec<Beyond>,
+    pub beyond: Gaps,
 }
 
 /// The images that are written to, opened when the first bad thing is found in them.
@@ -45,6 +45,9 @@ pub fn repair(
     let mut account = Account::default();
     let disks = set.label.geometry.disks();
     let mut outputs = Outputs { open, outputs: (0..disks).map(|_| None).collect() };
+    for (disk, _) in &set.bad_labels {
+        outputs.of(*disk)?; // one that may not be written is refused before another is
+    }
     for (disk, at) in &set.bad_labels {
         let output = outputs.of(*disk)?;
         output.write(&set.label.block(*disk), *at)?;
@@ -56,13 +59,14 @@ pub fn repair(
             mend_disk(set, &found, disk, &mut outputs, &mut account)?;
         }
         done(found.batch.count as u64);
-        account.beyond.extend(found.beyond);
+        found.beyond.into_iter().for_each(|one| account.beyond.add(one));
         Ok(())
     })?;
     Ok(account)
 }
 
-/// Rewrites the bad pieces and checksum blocks of one disk in a batch, and syncs them.
+/// Rewrites the bad pieces and checksum blocks of one disk in a batch, and syncs them; nothing in a
+/// unit that is beyond repair, where the checksums themselves may be what is wrong.
 fn mend_disk(
     set: &Set,
     found: &Findings,
@@ -72,9 +76,9 @@ fn mend_disk(
 ) -> Result<(), Fault> {
     let geometry = set.label.geometry;
     let stripes = |unit: usize| geometry.stripes_of(found.batch.unit + unit as u64);
-    let mended = |unit: usize| found.beyond.iter().all(|beyond| beyond.stripes != stripes(unit));
+    let mended = |unit: usize| gaps::at(&found.beyond, stripes(unit).start).is_none();
     let pieces = found.reader.bad().iter().filter(|bad| bad.disk == disk && mended(bad.unit));
-    let blocks = found.blocks.iter().filter(|bad| bad.disk == disk);
+    let blocks = found.blocks.iter().filter(|bad| bad.disk == disk && mended(bad.unit));
     let mut wrote = false;
     for bad in pieces {
         let piece = found.reader.cells().piece(disk, bad.row, bad.unit);

@@ -48,13 +48,10 @@ pub fn read(
     let job = Job { set, geometry: set.label.geometry, batch: cells.batch, blocks };
     let stretches = job.stretches(cells, readings);
     let bytes: usize = stretches.iter().map(|(.., bytes)| bytes.len()).sum();
+    pace.spend(stretches.iter().map(|(disk, _, bytes)| (*disk, bytes.len() as u64)));
     if pace.is_limited() || bytes < LEAST {
         let bounce = &mut bounces[0];
-        let paced = |stretch: Stretch| {
-            pace.spend(stretch.2.len() as u64);
-            job.read(stretch, bounce)
-        };
-        return stretches.into_iter().flat_map(paced).collect();
+        return stretches.into_iter().flat_map(|stretch| job.read(stretch, bounce)).collect();
     }
     let work = |stretch: Stretch, bounce: &mut Bounce| job.read(stretch, bounce);
     let done = parallel::each(bounces, stretches, work);

@@ -5,7 +5,8 @@ use std::env;
 use std::fmt::Display;
 use std::io::{self, IsTerminal, Write};
 
-use cuzhaveli_tool::reader::Beyond;
+use cuzhaveli_tool::gaps::Gaps;
+use cuzhaveli_tool::names::count;
 use cuzhaveli_tool::set::Set;
 use cuzhaveli_tool::sys;
 
@@ -86,6 +87,12 @@ pub fn notes(set: &Set) {
 }
 
 /// Tells of stripes that cannot be made right.
-pub fn beyond(set: &Set, beyond: &Beyond) {
-    warn(&format!("{}, {}", set.folder().display(), beyond.told(set.label.geometry.shape)));
+pub fn gaps(set: &Set, gaps: &Gaps) {
+    let folder = set.folder().display();
+    for beyond in gaps.stretches() {
+        warn(&format!("{folder}, {}", beyond.told(set.label.geometry.shape)));
+    }
+    if gaps.more() > 0 {
+        warn(&format!("{folder}: too much is bad in {} more", count(gaps.more(), "stripe")));
+    }
 }

@@ -7,6 +7,7 @@ use crate::fault::Fault;
 use crate::image::Image;
 use crate::label::{hex, Found, Label};
 use crate::names::disk_names;
+use crate::output::part_path;
 
 /// The most disks of a set: 31 with film, P and Q.
 pub const MOST_DISKS: usize = 33;
@@ -38,6 +39,9 @@ pub struct Set {
     paths: Vec<PathBuf>,
     pub label: Label,
     places: Vec<Place>,
+    /// What stands in the place of lost disks, or beside it, unfinished: read where nothing else
+    /// is left, and believed where it fits its checksums.
+    remnants: Vec<(usize, Image)>,
     /// The labels of the images that are there which are not as they should be: disk, and where.
     pub bad_labels: Vec<(usize, u64)>,
     direct: bool,
@@ -62,9 +66,15 @@ fn see(path: &Path) -> Seen {
             let found = image.block(0).ok().map(|block| Found::of(&block));
             Seen::Image(image, found)
         }
+        // The node of a drive that is not attached now.
+        Err(_) if is_dangling(path) => Seen::Odd("is a link that leads nowhere".into()),
         Err(error) if error.kind() == ErrorKind::NotFound => Seen::Nothing,
         Err(error) => Seen::Odd(format!("cannot be read: {error}")),
     }
+}
+
+fn is_dangling(path: &Path) -> bool {
+    path.is_symlink() && path.metadata().is_err_and(|error| error.kind() == ErrorKind::NotFound)
 }
 
 /// Whether the last block of an image whose first is bad is that label.
@@ -122,17 +132,27 @@ impl Set {
     }
 
     fn of(folder: PathBuf, paths: Vec<PathBuf>, label: Label) -> Set {
-        Set { folder, paths, label, places: Vec::new(), bad_labels: Vec::new(), direct: false }
+        let (places, remnants, bad_labels) = (Vec::new(), Vec::new(), Vec::new());
+        Set { folder, paths, label, places, remnants, bad_labels, direct: false }
     }
 
-    /// Refuses a set of which too much is lost.
-    fn enough(self) -> Result<Set, Fault> {
-        match self.lost() {
-            lost if lost.len() > 2 => {
-                Err(too_many(&self.folder, &self.label, &lost, &self.notes()))
-            }
-            _ => Ok(self),
+    /// Refuses a set of which too much is lost; else looks for what is left of its lost disks.
+    fn enough(mut self) -> Result<Set, Fault> {
+        let lost = self.lost();
+        if lost.len() > 2 {
+            return Err(too_many(&self.folder, &self.label, &lost, &self.notes()));
         }
+        for disk in lost {
+            let path = self.path(disk);
+            let found = [part_path(&path), path].map(|path| Image::open(&path).ok());
+            self.remnants.extend(found.into_iter().flatten().map(|image| (disk, image)));
+        }
+        Ok(self)
+    }
+
+    /// What is left of lost disks: the disk, and what stands there.
+    pub fn remnants(&self) -> impl Iterator<Item = (usize, &Image)> {
+        self.remnants.iter().map(|(disk, image)| (*disk, image))
     }
 
     /// Takes what stands in a place for the disk's image, or says why not.
@@ -243,6 +263,9 @@ impl Set {
                     cached.push(disk);
                 }
             }
+        }
+        for (_, image) in &mut self.remnants {
+            image.go_direct();
         }
         self.bad_labels = self.labels_now();
         cached

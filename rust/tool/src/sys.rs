@@ -16,6 +16,8 @@ pub const NO_FOLLOW: i32 = 0o400_000;
 pub const EXCLUSIVE: i32 = 0o200;
 /// Does not wait for the other end of a pipe.
 pub const NO_WAIT: i32 = 0o4000;
+/// Fails for what is no folder.
+pub const FOLDER: i32 = 0o200_000;
 /// Past the page cache.
 pub const DIRECT: i32 = 0o40_000;
 
@@ -26,6 +28,7 @@ const NO_REPLACE: u32 = 1;
 const GET_FD: i32 = 1;
 const INTERRUPT: i32 = 2;
 const TERMINATE: i32 = 15;
+const TOO_LARGE: i32 = 25;
 const BY_DEFAULT: usize = 0;
 const IGNORED: usize = 1;
 
@@ -175,6 +178,12 @@ pub fn on_stop(handler: extern "C" fn(i32)) {
             }
         }
     }
+}
+
+/// A file that would be larger than this program may write is an error of the write, not its end.
+pub fn outlive_size_limits() {
+    // Sound: no handler is called.
+    unsafe { signal(TOO_LARGE, IGNORED) };
 }
 
 /// Writes to standard error, within a signal too.

@@ -195,7 +195,7 @@ pub mod words {
     pub const RATE: Opt = Opt {
         name: "--rate",
         value: Some(("BYTES", Kind::Number)),
-        about: "read no more than BYTES a second, so that screens can play meanwhile",
+        about: "read no more than BYTES a second of each disk, so that screens can play meanwhile",
     };
     pub const OVERWRITE: Opt = Opt {
         name: "--overwrite",

@@ -29,8 +29,8 @@ pub const COMMAND: Command = Command {
     about: &[
         "Gives the film back, with up to two images lost. A FILM that is there is not overwritten; until it is whole it \
          is FILM.part.",
-        "Where film cannot be made right, FILM.part stays, with zeros there, and standard error says where; a pipe ends \
-         there.",
+        "Where film cannot be made right, FILM.part stays, or the drive, with zeros there, and standard error says where; a \
+         pipe ends there.",
         "Nothing is told of a film that goes to standard output.",
     ],
     words: &[
@@ -51,6 +51,9 @@ pub const COMMAND: Command = Command {
     ],
     run,
 };
+
+/// The zeros that are written at once, at most.
+const ZEROS: u64 = 1 << 20;
 
 /// Where the film goes.
 pub enum Target {
@@ -144,7 +147,7 @@ impl Sink for Way<'_> {
         }
     }
 
-    /// A gap stays a hole in a file and ends a stream, which can have none.
+    /// A gap stays a hole in a file, is zeros on a drive, and ends a stream, which can have none.
     fn gap(&mut self, at: u64, bytes: u64, beyond: &Beyond) -> Result<(), Fault> {
         let what = format!(
             "{bytes} bytes of film from byte {at}: {}",
@@ -155,8 +158,20 @@ impl Sink for Way<'_> {
         }
         say::warn(&format!("{}: {what}", self.set.folder().display()));
         self.gaps += bytes;
-        Ok(())
+        match &self.target {
+            Target::Output(output) if output.drive.is_some() => clear(output, at, bytes),
+            _ => Ok(()),
+        }
     }
+}
+
+/// Writes zeros where a drive has other bytes, which would be taken for film.
+fn clear(output: &Output, at: u64, bytes: u64) -> Result<(), Fault> {
+    let zeros = vec![0; bytes.min(ZEROS) as usize];
+    for start in (0..bytes).step_by(ZEROS as usize) {
+        output.write(&zeros[..(bytes - start).min(ZEROS) as usize], at + start)?;
+    }
+    Ok(())
 }
 
 impl Target {

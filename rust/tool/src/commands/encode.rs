@@ -197,10 +197,10 @@ fn create_all(
             apart(output.path(), drive, &before.chain(film).collect::<Vec<_>>())?;
         }
     }
-    for (disk, output) in outputs.iter_mut().enumerate().filter(|(_, one)| one.drive.is_some()) {
-        output.mark(label, disk, bytes)?;
-    }
-    Ok(())
+    let mut drives: Vec<_> =
+        outputs.iter_mut().enumerate().filter(|(_, one)| one.drive.is_some()).collect();
+    drives.iter_mut().try_for_each(|(_, drive)| drive.set_len(bytes))?; // all, before one is marked
+    drives.iter_mut().try_for_each(|(disk, drive)| drive.mark(label, *disk, bytes))
 }
 
 /// Labels all images, once all else is on the disks.

@@ -7,8 +7,9 @@ use cuzhaveli::Shape;
 use cuzhaveli_tool::drives::{apart, drive_at, Overwrite};
 use cuzhaveli_tool::names::{bytes, count, disk_names};
 use cuzhaveli_tool::output::{lock, Output};
-use cuzhaveli_tool::rebuild::{rebuild, Account, Spare};
+use cuzhaveli_tool::rebuild::{rebuild, Account};
 use cuzhaveli_tool::set::{Absence, Set};
+use cuzhaveli_tool::spare::Spare;
 use cuzhaveli_tool::stop;
 use cuzhaveli_tool::store::place::is_store;
 use cuzhaveli_tool::wanted::{Choice, Wanted, Way};
@@ -110,7 +111,12 @@ pub const COMMAND: Command = Command {
         (
             "beyond",
             "stripes that cannot be rebuilt: stripe, count, and the disks that are lost or bad \
-             there; of a store the file too, and alone if too much of it is lost",
+             there; of a store the file too, and alone if too much of it is lost; the first \
+             1000 stretches",
+        ),
+        (
+            "gaps",
+            "how many stripes that are in all, without those of files of which too much is lost",
         ),
         ("lacks", "of a store: the disks that still lack something; none with -n"),
     ],
@@ -135,23 +141,27 @@ fn run(given: &Given) -> Result<(), Fault> {
     let choice = choice(given, set.label.geometry.shape, &lost)?;
     let wanted = Wanted::rebuild(&set, &lost, &choice);
     let wanted = wanted.map_err(|refusal| given.refused("--relieve", refusal))?;
+    let mut spares = Vec::new();
     let account = match given.flag("-n") || lost.is_empty() {
         true => would(&set, &lost, &wanted),
         false => {
-            let spares = spares(&set, &lost, &named)?;
+            spares = make_spares(&set, &lost, &named)?;
             stop::says("what is rebuilt stays; the same command goes on");
             let what = format!("rebuild {}", disk_names(set.label.geometry.shape, &lost));
             let each = wanted.reads() as u64 * set.label.geometry.shape.cell_size() as u64;
             let total = Some(each * set.label.geometry.stripes);
             let mut progress = Progress::new(what, total, given.flag("-q"));
-            rebuild(&set, &spares, &wanted, pace, |stripes| progress.add(stripes * each))?
+            rebuild(&set, &mut spares, &wanted, pace, |stripes| progress.add(stripes * each))?
         }
     };
     let cents = match rates {
         Some(rates) => bill(given, account.read, rates)?.cents,
         None => 0,
     };
-    Story { given, set: &set, lost: &lost, wanted: &wanted, account: &account, cents }.tell()
+    let lacking = spares.iter().filter(|spare| spare.lacks()).map(|spare| spare.output.path());
+    let lacking = lacking.map(|path| path.display().to_string()).collect();
+    Story { given, set: &set, lost: &lost, wanted: &wanted, account: &account, lacking, cents }
+        .tell()
 }
 
 /// The plan that was asked for. With two disks lost there is none to choose, nor anything to test
@@ -207,15 +217,21 @@ fn would(set: &Set, lost: &[usize], wanted: &Wanted) -> Account {
     let stripes = if lost.is_empty() { 0 } else { geometry.stripes };
     let bytes = |cells: usize| (cells * geometry.shape.cell_size()) as u64 * stripes;
     let (read, busiest) = (bytes(wanted.reads()), bytes(wanted.busiest()));
-    Account { stripes, kept: 0, read, busiest, mended: 0, beyond: Vec::new() }
+    Account { stripes, read, busiest, ..Account::default() }
 }
 
-/// The images to be written, gone on with or begun.
-fn spares(set: &Set, lost: &[usize], named: &Overwrite) -> Result<Vec<Spare>, Fault> {
+/// The images to be written, gone on with or begun. All are tested before the first is written.
+fn make_spares(set: &Set, lost: &[usize], named: &Overwrite) -> Result<Vec<Spare>, Fault> {
     strangers(set, lost)?;
+    let label = &set.label;
+    let ours = |disk: usize| [label.mark(disk), label.block(disk)];
+    let is_drive = |disk: &usize| drive_at(&set.path(*disk)).is_some();
+    let (drives, files): (Vec<usize>, Vec<usize>) = lost.iter().partition(|disk| is_drive(disk));
     let mut spares: Vec<Spare> = Vec::new();
-    for disk in lost {
-        spares.push(spare(set, *disk, named)?);
+    for disk in drives {
+        let mut output = Output::drive(&set.path(disk), named, &ours(disk))?;
+        output.set_len(label.geometry.image_bytes())?;
+        spares.push(Spare::drive(output, label, disk)?);
     }
     for (number, spare) in spares.iter().enumerate() {
         let Some(drive) = spare.output.drive else { continue };
@@ -223,21 +239,14 @@ fn spares(set: &Set, lost: &[usize], named: &Overwrite) -> Result<Vec<Spare>, Fa
         let written = written.filter_map(|output| Some((output.path(), output.drive?)));
         apart(spare.output.path(), drive, &written.chain(set.drives()).collect::<Vec<_>>())?;
     }
-    for spare in &mut spares {
-        spare.output.mark(&set.label, spare.disk, set.label.geometry.image_bytes())?;
+    for disk in &files {
+        Output::begun(&set.path(*disk), &ours(*disk))?;
     }
+    for disk in files {
+        spares.push(Spare::file(&set.path(disk), label, disk)?);
+    }
+    spares.iter_mut().try_for_each(|spare| spare.mark(label))?;
     Ok(spares)
-}
-
-fn spare(set: &Set, disk: usize, named: &Overwrite) -> Result<Spare, Fault> {
-    let (path, label) = (set.path(disk), &set.label);
-    let ours = [label.mark(disk), label.block(disk)];
-    if drive_at(&path).is_some() {
-        let output = Output::drive(&path, named, &ours)?;
-        let begun = ours.contains(&output.first_block()?);
-        return Ok(Spare { disk, output, begun });
-    }
-    Spare::file(&path, label, disk)
 }
 
 /// What stands in a lost disk's place is not overwritten unless that disk is named; drives have
@@ -271,6 +280,8 @@ struct Story<'a> {
     lost: &'a [usize],
     wanted: &'a Wanted,
     account: &'a Account,
+    /// The images that are not whole.
+    lacking: Vec<String>,
     cents: u64,
 }
 
@@ -283,15 +294,12 @@ impl Story<'_> {
         if beyond.is_empty() {
             return Ok(());
         }
-        beyond.iter().for_each(|beyond| say::beyond(self.set, beyond));
-        let stripes = beyond.iter().map(|beyond| beyond.stripes.end - beyond.stripes.start).sum();
-        let parts =
-            self.lost.iter().map(|disk| self.set.path(*disk).display().to_string() + ".part");
+        say::gaps(self.set, beyond);
         Err(Fault::Beyond(format!(
             "{} cannot be rebuilt; the others are, in {}, which gets no label. Put back images that are somewhere else and \
              run it again, or save the film: cuzhaveli decode {} FILM",
-            count(stripes, "stripe"),
-            parts.collect::<Vec<_>>().join(", "),
+            count(beyond.stripes(), "stripe"),
+            self.lacking.join(", "),
             self.set.folder().display()
         )))
     }
@@ -313,7 +321,8 @@ impl Story<'_> {
             ("busiest", (*busiest).into()),
             ("mended", (*mended).into()),
             ("cents", self.cents.into()),
-            ("beyond", beyond.iter().map(json::beyond).collect()),
+            ("beyond", beyond.stretches().iter().map(json::beyond).collect()),
+            ("gaps", beyond.stripes().into()),
         ])
     }
 

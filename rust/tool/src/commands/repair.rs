@@ -43,7 +43,12 @@ pub const COMMAND: Command = Command {
         (
             "beyond",
             "stripes that cannot be made right: stripe, count, and the disks that are lost or bad \
-             there; of a store the file too, and alone if too much of it is lost",
+             there; of a store the file too, and alone if too much of it is lost; the first \
+             1000 stretches",
+        ),
+        (
+            "gaps",
+            "how many stripes that are in all, without those of files of which too much is lost",
         ),
         ("catalogues", "of a store: the catalogues that were replaced"),
     ],
@@ -84,7 +89,8 @@ fn tell(given: &Given, set: &Set, account: &Account) -> Result<(), Fault> {
         ("labels", (*labels).into()),
         ("read", (*read).into()),
         ("lost", (&*set.lost()).into()),
-        ("beyond", beyond.iter().map(json::beyond).collect()),
+        ("beyond", beyond.stretches().iter().map(json::beyond).collect()),
+        ("gaps", beyond.stripes().into()),
     ]);
     let done = store_repair::rewritten(&[
         (*pieces, "piece"),
@@ -94,7 +100,7 @@ fn tell(given: &Given, set: &Set, account: &Account) -> Result<(), Fault> {
     say::told(given, object, format!("{done}; {} read", bytes(*read)))?;
     let lost = set.lost();
     if !beyond.is_empty() {
-        beyond.iter().for_each(|beyond| say::beyond(set, beyond));
+        say::gaps(set, beyond);
         return Err(Fault::Beyond(format!(
             "{}: film that cannot be made right; put back images that are somewhere else, or save the rest: cuzhaveli \
              decode {0} FILM",

@@ -28,8 +28,9 @@ struct Total {
     kept: u64,
     read: u64,
     mended: u64,
-    /// What cannot be rebuilt.
+    /// What cannot be rebuilt, and how many stripes that are.
     beyond: Vec<Object>,
+    gaps: u64,
 }
 
 pub fn run(given: &Given) -> Result<(), Fault> {
@@ -90,7 +91,7 @@ fn add_new(given: &Given, store: &mut Store) -> Result<(), Fault> {
 
 impl Total {
     fn object(&mut self, done: bool, cents: u64) -> Object {
-        let Total { images, stripes, kept, read, mended, beyond } = self;
+        let Total { images, stripes, kept, read, mended, beyond, gaps } = self;
         Object(vec![
             ("images", (*images).into()),
             ("done", done.into()),
@@ -100,6 +101,7 @@ impl Total {
             ("mended", (*mended).into()),
             ("cents", cents.into()),
             ("beyond", beyond.drain(..).collect()),
+            ("gaps", (*gaps).into()),
         ])
     }
 
@@ -169,8 +171,9 @@ fn rebuild_file(
         total.images += work.disks.len();
         return Ok(true);
     }
-    beyond.iter().for_each(|beyond| say::beyond(&work.set, beyond));
-    total.beyond.extend(beyond.iter().map(|one| beyond_of(&name, one)));
+    say::gaps(&work.set, &beyond);
+    beyond_of(&name, &beyond, &mut total.beyond);
+    total.gaps += beyond.stripes();
     Ok(false)
 }
 

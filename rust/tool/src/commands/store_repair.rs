@@ -21,7 +21,7 @@ pub fn run(given: &Given) -> Result<(), Fault> {
     given.pace()?; // refused before anything is locked
     let (_lock, store) = locked(given.path(0))?;
     stop::says("what is repaired stays; the same command goes on");
-    let (mut total, mut beyond) = (Account::default(), Vec::new());
+    let (mut total, mut beyond, mut gaps) = (Account::default(), Vec::new(), 0);
     for (package, file) in store.catalogue.files() {
         let name = shown(package, file);
         let set = match store.set(package, file) {
@@ -36,8 +36,9 @@ pub fn run(given: &Given) -> Result<(), Fault> {
         };
         say::notes(&set);
         let account = repair_set(given, &set, &name)?;
-        account.beyond.iter().for_each(|beyond| say::beyond(&set, beyond));
-        beyond.extend(account.beyond.iter().map(|one| beyond_of(&name, one)));
+        say::gaps(&set, &account.beyond);
+        beyond_of(&name, &account.beyond, &mut beyond);
+        gaps += account.beyond.stripes();
         total.pieces += account.pieces;
         total.blocks += account.blocks;
         total.labels += account.labels;
@@ -45,7 +46,7 @@ pub fn run(given: &Given) -> Result<(), Fault> {
     }
     let catalogues = settle(&store)?;
     let (is_right, lost) = (beyond.is_empty(), lost(&store));
-    tell(given, &total, catalogues, &lost, beyond)?;
+    tell(given, &total, catalogues, &lost, (beyond, gaps))?;
     what_is_left(&store, lost, is_right)
 }
 
@@ -80,7 +81,7 @@ fn tell(
     account: &Account,
     catalogues: usize,
     lost: &[usize],
-    beyond: Vec<Object>,
+    (beyond, gaps): (Vec<Object>, u64),
 ) -> Result<(), Fault> {
     let Account { pieces, blocks, labels, read, .. } = account;
     let object = Object(vec![
@@ -90,6 +91,7 @@ fn tell(
         ("read", (*read).into()),
         ("lost", lost.into()),
         ("beyond", beyond.into_iter().collect()),
+        ("gaps", gaps.into()),
         ("catalogues", catalogues.into()),
     ]);
     let done = rewritten(&[

@@ -4,9 +4,9 @@ use std::fs::File;
 use std::os::unix::ffi::OsStrExt;
 use std::path::Path;
 
+use cuzhaveli_tool::gaps::{Gaps, MOST_STRETCHES};
 use cuzhaveli_tool::label::{new_name, Label};
 use cuzhaveli_tool::output::lock;
-use cuzhaveli_tool::reader::Beyond;
 use cuzhaveli_tool::store::catalogue::{self, Catalogue, Entry, Numbers, Package};
 use cuzhaveli_tool::store::change::{Change, Done};
 use cuzhaveli_tool::store::images::NewImages;
@@ -47,11 +47,14 @@ pub fn shown(package: &Package, file: &Entry) -> String {
     format!("{}/{}", package.name.as_str(), file.name.as_str())
 }
 
-/// Stripes of a file that cannot be made right.
-pub fn beyond_of(file: &str, stripes: &Beyond) -> Object {
-    let mut object = gone(file);
-    object.0.extend(json::beyond(stripes).0);
-    object
+/// Adds stripes of a file that cannot be made right, as long as there are not too many.
+pub fn beyond_of(file: &str, gaps: &Gaps, all: &mut Vec<Object>) {
+    let room = MOST_STRETCHES.saturating_sub(all.len());
+    for stripes in gaps.stretches().iter().take(room) {
+        let mut object = gone(file);
+        object.0.extend(json::beyond(stripes).0);
+        all.push(object);
+    }
 }
 
 /// A file of which too much is lost.

@@ -3,7 +3,7 @@
 
 use cuzhaveli::Refusal;
 
-use super::{Hole, Reader, State};
+use super::{Reader, State};
 use crate::fault::Fault;
 use crate::wanted::{Wanted, Way};
 
@@ -72,12 +72,45 @@ impl Reader<'_> {
         if !self.blocks.is_known(unit) {
             return;
         }
-        // First with what could be read of pieces that cannot be read whole, then without it.
+        self.solve_all(unit, &disks);
+        if !self.has(unit, &disks) && self.take_remnants(unit) {
+            self.solve_all(unit, &disks);
+        }
+    }
+
+    /// Mends first with what could be read of pieces that cannot be read whole, then without it.
+    fn solve_all(&mut self, unit: usize, disks: &[usize]) {
         for all in [false, true] {
-            if !self.has(unit, &disks) && self.solve(unit, all).is_ok() {
-                self.compare(unit, &disks);
+            if !self.has(unit, disks) && self.solve(unit, all).is_ok() {
+                self.compare(unit, disks);
             }
         }
+    }
+
+    /// Takes what fits its sums of images that count as lost; says whether there is something.
+    fn take_remnants(&mut self, unit: usize) -> bool {
+        let (set, places) = (self.set, self.geometry.places(self.cells.batch, unit));
+        let mut taken = false;
+        for (disk, image) in set.remnants() {
+            for row in 0..self.geometry.shape.width() {
+                let state = self.at(unit, disk, row);
+                if self.states[state] == State::Good {
+                    continue;
+                }
+                let at = self.geometry.cell_at(row, self.cells.batch.first + places.start as u64);
+                let bytes = self.cells.cells_mut(disk, row, places.clone());
+                let len = bytes.len();
+                if image.read(bytes, at, &mut self.bounces[0]).is_err() {
+                    continue;
+                }
+                self.count(disk, len);
+                if self.blocks.fits(unit, disk, row, self.cells.piece(disk, row, unit)) {
+                    self.states[state] = State::Good;
+                    taken = true;
+                }
+            }
+        }
+        taken
     }
 
     /// Computes the cells of a unit that are missing: those that cannot be read, or all of their
@@ -102,13 +135,5 @@ impl Reader<'_> {
             }
         }
         Ok(())
-    }
-
-    /// Whether a cell could be read, of a piece of which others could not.
-    fn is_readable(&self, unit: usize, disk: usize, row: usize, place: usize) -> bool {
-        let places = self.geometry.places(self.cells.batch, unit);
-        let torn = |hole: &&Hole| (hole.0, hole.1) == (row, disk) && places.contains(&hole.2);
-        let mut holes = self.holes.iter().filter(torn).peekable();
-        holes.peek().is_some() && holes.all(|hole| hole.2 != place)
     }
 }

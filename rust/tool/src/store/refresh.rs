@@ -10,8 +10,9 @@ use crate::image::Image;
 use crate::label::{hex, Found, Label};
 use crate::output::part_path;
 use crate::pace::Pace;
-use crate::rebuild::{rebuild, Account, Spare};
+use crate::rebuild::{rebuild, Account};
 use crate::set::Set;
+use crate::spare::Spare;
 use crate::sys;
 use crate::wanted::{Choice, Reading, Wanted};
 
@@ -75,11 +76,11 @@ impl Work {
         let mut spares = Vec::new();
         for disk in &self.disks {
             let mut spare = spare(store, label, *disk)?;
-            spare.output.mark(label, *disk, label.geometry.image_bytes())?;
+            spare.mark(label)?;
             reserve(&spare, label)?;
             spares.push(spare);
         }
-        rebuild(&self.set, &spares, &self.wanted, pace, done)
+        rebuild(&self.set, &mut spares, &self.wanted, pace, done)
     }
 }
 
