@@ -1,5 +1,6 @@
 //! The images of a set in a folder: which are there, and which set they are of.
 
+use std::collections::BTreeSet;
 use std::io::ErrorKind;
 use std::path::{Path, PathBuf};
 
@@ -40,7 +41,10 @@ pub struct Set {
     places: Vec<Place>,
     /// The labels of the images that are there which are not as they should be: disk, and where.
     pub bad_labels: Vec<(usize, u64)>,
+    /// Whether images are read past the page cache.
     direct: bool,
+    /// Whether it is so, and each image has a device of its own.
+    each_alone: bool,
 }
 
 /// What stands in a place, before the set is known.
@@ -122,7 +126,8 @@ impl Set {
     }
 
     fn of(folder: PathBuf, paths: Vec<PathBuf>, label: Label) -> Set {
-        Set { folder, paths, label, places: Vec::new(), bad_labels: Vec::new(), direct: false }
+        let (places, bad_labels) = (Vec::new(), Vec::new());
+        Set { folder, paths, label, places, bad_labels, direct: false, each_alone: false }
     }
 
     /// Refuses a set of which too much is lost.
@@ -224,13 +229,18 @@ impl Set {
     }
 
     /// How many reads are worth having under way: without the page cache the kernel reads nothing
-    /// ahead.
+    /// ahead, and a device of its own has one waiting while another is served.
     pub fn threads(&self) -> usize {
-        if self.direct {
-            4
-        } else {
-            2
+        match (self.direct, self.each_alone) {
+            (true, true) => 2 * self.present().count().max(1),
+            (true, false) => 4,
+            _ => 2,
         }
+    }
+
+    /// Whether images are read past the page cache, each from a device of its own.
+    pub fn each_alone(&self) -> bool {
+        self.each_alone
     }
 
     /// From now on images are read past the page cache; the disks where that cannot be had.
@@ -245,6 +255,9 @@ impl Set {
             }
         }
         self.bad_labels = self.labels_now();
+        let images: Vec<&Image> = self.present().filter_map(|disk| self.image(disk)).collect();
+        let devices: BTreeSet<u64> = images.iter().filter_map(|image| image.device()).collect();
+        self.each_alone = devices.len() == images.len();
         cached
     }
 
