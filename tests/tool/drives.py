@@ -270,4 +270,39 @@ def drive_order(setting, loops):
     return f"{len(seen)} writes and syncs"
 
 
-CHECKS = [rebuilt_drives, foreign_drives, encoded_drives, drives_in_use, decoded_drives, drive_order]
+def threads(setting, *words):
+    """The threads that a call begins, and its status."""
+    traced, seen = Traced(setting, *words), 0
+    while traced.status is None:
+        traced.step()
+        seen += traced.status is None and traced.registers()[15] in (56, 435)  # clone, clone3: entry and exit
+    return seen // 2, traced.status
+
+
+@with_drives
+def drives_alone(setting, loops):
+    """Where each image has a drive of its own, check asks all of them at once, and finds and repairs what is bad on each."""
+    film = noise(6 << 20)
+    images = setting.encoded(film, 5, s=1000, group=40, where=setting.on_disk)  # rows begin anywhere in a block
+    good, on_files = images.images(), threads(setting, "check", images.folder)[0] if can_trace(setting) else 0
+    drives = {disk: loops.new(images.image_bytes()) for disk in good}
+    if None in drives.values():
+        return "left out: not enough loop devices"
+    for disk, drive in drives.items():
+        put(drive, 0, good[disk])
+        linked(images, disk, drive)
+    if can_trace(setting):
+        begun, status = threads(setting, "check", images.folder)
+        # two for each drive but the first one's, where files of one device have four in all
+        expect(status == 0 and begun >= on_files + (2 * len(drives) - 4), f"{begun} threads for drives, {on_files} for files: {status}")
+    for disk in drives:
+        images.flip(disk, images.offset(disk * images.unit, disk % images.p) + 1)
+    told = setting.told("check", images.folder, status=1)
+    seen = [(one["disk"], one["stripe"] // images.unit) for one in told["found"]]
+    expect(sorted(seen) == [(disk, disk) for disk in drives] and told["cached"] == [], told.told())
+    setting.call("repair", images.folder, status=0)
+    expect({disk: content(drive) for disk, drive in drives.items()} == good, "repair left other bytes on the drives")
+    return f"{len(drives)} drives"
+
+
+CHECKS = [rebuilt_drives, foreign_drives, encoded_drives, drives_in_use, decoded_drives, drive_order, drives_alone]

@@ -1,6 +1,7 @@
 //! A film to the images of a new set.
 
 use std::io::{self, ErrorKind, Read};
+use std::thread;
 
 use crate::blocks::Blocks;
 use crate::cells::Cells;
@@ -54,19 +55,55 @@ pub fn encode<R: Read>(
     outputs: &[Output],
     done: impl FnMut(u64),
 ) -> Result<Label, Fault> {
-    let write = |geometry, cells: &Cells, blocks: &Blocks| {
+    let write = |geometry, part: Part| {
         let mut all = outputs.iter().enumerate();
-        all.try_for_each(|(disk, output)| write_batch(output, disk, geometry, cells, blocks))
+        all.try_for_each(|(disk, output)| part.write(output, disk, geometry))
     };
     encode_to(source, set, geometry, write, done)
 }
 
-/// The same, with each batch handed on to be written.
+/// What is written of a batch to each image: its cells, then its checksum blocks.
+#[derive(Clone, Copy)]
+pub enum Part<'a> {
+    Cells(&'a Cells),
+    Blocks(Batch, &'a Blocks),
+}
+
+impl Part<'_> {
+    pub fn write(self, output: &Output, disk: usize, geometry: Geometry) -> Result<(), Fault> {
+        match self {
+            Part::Cells(cells) => write_cells(output, disk, geometry, cells),
+            Part::Blocks(batch, blocks) => write_blocks(output, geometry, batch, blocks.all()),
+        }
+    }
+}
+
+/// Writes a batch; its sums are computed while its cells are written.
+fn write_parts(
+    geometry: Geometry,
+    cells: &Cells,
+    blocks: &mut Blocks,
+    mut write: impl FnMut(Geometry, Part) -> Result<(), Fault>,
+) -> Result<(), Fault> {
+    blocks.clear(cells.batch);
+    let mut sealed = false;
+    thread::scope(|scope| {
+        let seal = || blocks.seal(cells);
+        sealed = thread::Builder::new().spawn_scoped(scope, seal).is_ok();
+        write(geometry, Part::Cells(cells))
+    })?;
+    if !sealed {
+        blocks.seal(cells); // no second thread could be had
+    }
+    write(geometry, Part::Blocks(cells.batch, blocks))
+}
+
+/// The same, with each part of a batch handed on to be written.
 pub fn encode_to<R: Read>(
     source: &mut Source<R>,
     set: SetName,
     geometry: Geometry,
-    mut write: impl FnMut(Geometry, &Cells, &Blocks) -> Result<(), Fault>,
+    mut write: impl FnMut(Geometry, Part) -> Result<(), Fault>,
     mut done: impl FnMut(u64),
 ) -> Result<Label, Fault> {
     let mut geometry = geometry;
@@ -89,9 +126,7 @@ pub fn encode_to<R: Read>(
         } else if filled < full && length < geometry.length {
             return Err(source.changed());
         }
-        blocks.clear(cells.batch);
-        blocks.seal(&cells);
-        write(geometry, &cells, &blocks)?;
+        write_parts(geometry, &cells, &mut blocks, &mut write)?;
         unit = cells.batch.end_unit();
         done(filled);
     }
@@ -139,11 +174,21 @@ pub fn write_batch(
     cells: &Cells,
     blocks: &Blocks,
 ) -> Result<(), Fault> {
-    let batch = cells.batch;
-    for rows in geometry.stretches(batch, 0..geometry.shape.width()) {
-        output.write(cells.rows(disk, rows.clone()), geometry.cell_at(rows.start, batch.first))?;
+    write_cells(output, disk, geometry, cells)?;
+    write_blocks(output, geometry, cells.batch, blocks.all())
+}
+
+fn write_cells(
+    output: &Output,
+    disk: usize,
+    geometry: Geometry,
+    cells: &Cells,
+) -> Result<(), Fault> {
+    for rows in geometry.stretches(cells.batch, 0..geometry.shape.width()) {
+        let at = geometry.cell_at(rows.start, cells.batch.first);
+        output.write(cells.rows(disk, rows), at)?;
     }
-    write_blocks(output, geometry, batch, blocks.all())
+    Ok(())
 }
 
 /// Writes checksum blocks of units that follow one another.

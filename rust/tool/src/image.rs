@@ -17,10 +17,14 @@ pub const BOUNCE: usize = 256 << 10;
 pub struct Bounce(Vec<u8>);
 
 impl Bounce {
-    fn aligned(&mut self) -> &mut [u8] {
-        self.0.resize(BOUNCE + LABEL_BYTES, 0);
+    /// Room for so many bytes, or for as many as are read at once.
+    fn aligned(&mut self, len: usize) -> &mut [u8] {
+        let len = len.next_multiple_of(LABEL_BYTES).min(BOUNCE);
+        if self.0.len() < len + LABEL_BYTES {
+            self.0 = vec![0; len + LABEL_BYTES];
+        }
         let start = self.0.as_ptr().align_offset(LABEL_BYTES).min(LABEL_BYTES);
-        &mut self.0[start..start + BOUNCE]
+        &mut self.0[start..start + len]
     }
 }
 
@@ -63,7 +67,7 @@ impl Image {
         let open = || -> io::Result<File> {
             let file = open_to_read(&self.path, sys::DIRECT)?;
             // Some file systems open it and refuse to read.
-            read_direct(&file, &mut [0], 0, Bounce::default().aligned())?;
+            read_direct(&file, &mut [0], 0, &mut Bounce::default())?;
             self.is(&file.metadata()?).then_some(file).ok_or_else(|| ErrorKind::NotFound.into())
         };
         self.direct = open().ok();
@@ -79,7 +83,7 @@ impl Image {
     /// Reads all of the bytes.
     pub fn read(&self, bytes: &mut [u8], offset: u64, bounce: &mut Bounce) -> io::Result<()> {
         match &self.direct {
-            Some(file) => read_direct(file, bytes, offset, bounce.aligned()),
+            Some(file) => read_direct(file, bytes, offset, bounce),
             None => self.file.read_exact_at(bytes, offset),
         }
     }
@@ -98,10 +102,17 @@ impl Image {
             sys::will_need(&self.file, offset, len);
         }
     }
+
+    /// The number of the device that it is on.
+    pub fn device(&self) -> Option<u64> {
+        let on = |data: Metadata| sys::drive(&data).map_or(data.dev(), sys::whole_drive);
+        self.file.metadata().ok().map(on)
+    }
 }
 
 /// Reads the whole blocks around the bytes by way of aligned memory.
-fn read_direct(file: &File, bytes: &mut [u8], offset: u64, room: &mut [u8]) -> io::Result<()> {
+fn read_direct(file: &File, bytes: &mut [u8], offset: u64, bounce: &mut Bounce) -> io::Result<()> {
+    let room = bounce.aligned((offset % LABEL_BYTES as u64) as usize + bytes.len());
     let mut done = 0;
     while done < bytes.len() {
         let here = offset + done as u64;

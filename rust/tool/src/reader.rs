@@ -70,6 +70,11 @@ impl Beyond {
     }
 }
 
+/// About the most memory for checksum blocks that are read side by side, and the threads that do so
+/// whatever they take.
+const BLOCKS_AT_ONCE: usize = 4 << 20;
+const LEAST_THREADS: usize = 4;
+
 pub struct Reader<'a> {
     set: &'a Set,
     geometry: Geometry,
@@ -242,7 +247,8 @@ impl<'a> Reader<'a> {
             (0..batch.units).filter(bad).map(|unit| (disk, unit)).collect()
         };
         let disks: Vec<usize> = set.present().collect();
-        let mut bad = parallel::each(&mut self.bounces, disks, look).concat();
+        let threads = (BLOCKS_AT_ONCE / all).max(LEAST_THREADS).min(self.bounces.len());
+        let mut bad = parallel::each(&mut self.bounces[..threads], disks, look).concat();
         bad.sort();
         set.present().for_each(|disk| self.read[disk] += all as u64);
         self.pace.spend(set.present().map(|disk| (disk, all as u64)));

@@ -1,5 +1,6 @@
 //! Rows of a batch read from their images and compared with their sums, disks side by side.
 
+use std::collections::BTreeMap;
 use std::io;
 use std::ops::Range;
 
@@ -53,11 +54,26 @@ pub fn read(
         let bounce = &mut bounces[0];
         return stretches.into_iter().flat_map(|stretch| job.read(stretch, bounce)).collect();
     }
-    let work = |stretch: Stretch, bounce: &mut Bounce| job.read(stretch, bounce);
-    let done = parallel::each(bounces, stretches, work);
+    let work = |some: Vec<Stretch>, bounce: &mut Bounce| -> Vec<(Row, Verdict)> {
+        some.into_iter().flat_map(|stretch| job.read(stretch, bounce)).collect()
+    };
+    let done = parallel::each(bounces, turns(stretches, set.each_alone()), work);
     let mut done: Vec<(Row, Verdict)> = done.into_iter().flatten().collect();
     done.sort_by_key(|(row, _)| *row);
     done
+}
+
+/// Stretches by those that one thread reads: every second one of a device that has two threads of
+/// its own, so that none waits for another device; else one.
+fn turns(stretches: Vec<Stretch>, each_alone: bool) -> Vec<Vec<Stretch>> {
+    if !each_alone {
+        return stretches.into_iter().map(|stretch| vec![stretch]).collect();
+    }
+    let mut turns: BTreeMap<(usize, usize), Vec<Stretch>> = BTreeMap::new();
+    for (number, stretch) in stretches.into_iter().enumerate() {
+        turns.entry((number % 2, stretch.0)).or_default().push(stretch);
+    }
+    turns.into_values().collect()
 }
 
 impl Job<'_> {
@@ -68,7 +84,8 @@ impl Job<'_> {
     /// The stretches of the readings, none longer than is read at once.
     fn stretches<'b>(&self, cells: &'b mut Cells, readings: &[Reading]) -> Vec<Stretch<'b>> {
         let (width, row_len) = (self.geometry.shape.width(), self.row_len());
-        let most = (BOUNCE / row_len.max(1)).max(1);
+        let at_once = if self.set.each_alone() { BOUNCE / 2 } else { BOUNCE };
+        let most = (at_once / row_len.max(1)).max(1);
         let (mut rest, mut at, mut done) = (cells.rows_mut(), 0, Vec::new());
         for Reading { disk, rows } in readings {
             for rows in self.geometry.stretches(self.batch, rows.clone()) {
@@ -123,5 +140,27 @@ impl Job<'_> {
         };
         let units = 0..self.batch.units;
         units.map(|unit| self.blocks.fits(unit, disk, row, piece(unit))).collect()
+    }
+}
+
+#[cfg(test)]
+mod tests {
+    use super::*;
+
+    #[test]
+    fn no_device_waits_for_another() {
+        let mut bytes = [0; 17];
+        let disks = [0, 0, 0, 0, 0, 1, 1, 1, 2, 2, 2, 2, 2, 2, 2, 4, 4];
+        let places = disks.into_iter().zip(bytes.chunks_mut(1)).enumerate();
+        let stretches: Vec<Stretch> =
+            places.map(|(row, (disk, bytes))| (disk, row..row + 1, bytes)).collect();
+        let mut alone = turns(stretches, true);
+        assert!(alone.iter().all(|some| some.iter().all(|one| one.0 == some[0].0)));
+        let first: Vec<usize> = alone.iter().map(|some| some[0].0).collect();
+        assert_eq!(first, [0, 1, 2, 4, 0, 1, 2, 4]); // two threads each, no device at the end
+        assert_eq!(alone.iter().map(Vec::len).collect::<Vec<_>>(), [3, 1, 4, 1, 2, 2, 3, 1]);
+        let stretches = alone.drain(..).flatten().collect();
+        let one_by_one = turns(stretches, false);
+        assert!(one_by_one.len() == 17 && one_by_one.iter().all(|some| some.len() == 1));
     }
 }

@@ -1,5 +1,6 @@
 //! The images of a set in a folder: which are there, and which set they are of.
 
+use std::collections::BTreeSet;
 use std::io::ErrorKind;
 use std::path::{Path, PathBuf};
 
@@ -44,7 +45,10 @@ pub struct Set {
     remnants: Vec<(usize, Image)>,
     /// The labels of the images that are there which are not as they should be: disk, and where.
     pub bad_labels: Vec<(usize, u64)>,
+    /// Whether images are read past the page cache.
     direct: bool,
+    /// Whether it is so, and each image has a device of its own.
+    each_alone: bool,
 }
 
 /// What stands in a place, before the set is known.
@@ -133,7 +137,8 @@ impl Set {
 
     fn of(folder: PathBuf, paths: Vec<PathBuf>, label: Label) -> Set {
         let (places, remnants, bad_labels) = (Vec::new(), Vec::new(), Vec::new());
-        Set { folder, paths, label, places, remnants, bad_labels, direct: false }
+        let (direct, each_alone) = (false, false);
+        Set { folder, paths, label, places, remnants, bad_labels, direct, each_alone }
     }
 
     /// Refuses a set of which too much is lost; else looks for what is left of its lost disks.
@@ -244,13 +249,18 @@ impl Set {
     }
 
     /// How many reads are worth having under way: without the page cache the kernel reads nothing
-    /// ahead.
+    /// ahead, and a device of its own has one waiting while another is served.
     pub fn threads(&self) -> usize {
-        if self.direct {
-            4
-        } else {
-            2
+        match (self.direct, self.each_alone) {
+            (true, true) => 2 * self.present().count().max(1),
+            (true, false) => 4,
+            _ => 2,
         }
+    }
+
+    /// Whether images are read past the page cache, each from a device of its own.
+    pub fn each_alone(&self) -> bool {
+        self.each_alone
     }
 
     /// From now on images are read past the page cache; the disks where that cannot be had.
@@ -268,6 +278,9 @@ impl Set {
             image.go_direct();
         }
         self.bad_labels = self.labels_now();
+        let images: Vec<&Image> = self.present().filter_map(|disk| self.image(disk)).collect();
+        let devices: BTreeSet<u64> = images.iter().filter_map(|image| image.device()).collect();
+        self.each_alone = devices.len() == images.len();
         cached
     }
 

@@ -5,7 +5,7 @@ use std::io::Read;
 
 use super::change::Change;
 use super::opened::Store;
-use crate::encode::{encode_to, write_batch, Source};
+use crate::encode::{encode_to, Source};
 use crate::fault::Fault;
 use crate::geometry::LABEL_BYTES;
 use crate::label::Label;
@@ -68,10 +68,8 @@ impl<'a> NewImages<'a> {
             source,
             label.set,
             label.geometry,
-            |geometry, cells, blocks| {
-                on_all(change, &mut outputs, |disk, output| {
-                    write_batch(output, disk, geometry, cells, blocks)
-                })
+            |geometry, part| {
+                on_all(change, &mut outputs, |disk, output| part.write(output, disk, geometry))
             },
             done,
         )?;
