@@ -169,10 +169,10 @@ build/libcuzhaveli_play.a: build/libcuzhaveli.a $(fast) $(shell find rust/cuzhav
 	@CUZHAVELI_LIB_DIR="$(CURDIR)/build" CARGO_TARGET_DIR="$(CURDIR)/build/tool" cargo build -q --release --offline --manifest-path rust/play/Cargo.toml
 	@cp build/tool/release/libcuzhaveli_play.a $@
 build/cuzhaveli-fuse: servers/cuzhaveli-fuse.c build/libcuzhaveli_play.a rust/play/cuzhaveli_play.h
-	@$(CC) $(CFLAGS) -std=gnu11 -Wall -Wextra -Werror -Irust/play $$($(PKG_CONFIG) --cflags fuse3) -o $@ $< build/libcuzhaveli_play.a $$($(PKG_CONFIG) --libs fuse3) -lpthread -ldl -lm
+	@$(CC) $(CFLAGS) -std=gnu11 -Wall -Wextra -Werror -Wl,--gc-sections,-S -Irust/play $$($(PKG_CONFIG) --cflags fuse3) -o $@ $< build/libcuzhaveli_play.a $$($(PKG_CONFIG) --libs fuse3) -lpthread -ldl -lm
 	@echo "make: wrote $@"
 build/nbdkit-cuzhaveli-plugin.so: servers/nbdkit-cuzhaveli-plugin.c build/libcuzhaveli_play.a rust/play/cuzhaveli_play.h
-	@$(CC) $(CFLAGS) -std=gnu11 -Wall -Wextra -Werror -fPIC -shared -Wl,--exclude-libs,ALL -Irust/play $$($(PKG_CONFIG) --cflags nbdkit) -o $@ $< build/libcuzhaveli_play.a -lpthread -ldl -lm
+	@$(CC) $(CFLAGS) -std=gnu11 -Wall -Wextra -Werror -fPIC -shared -Wl,--exclude-libs,ALL,--gc-sections,-S -Irust/play $$($(PKG_CONFIG) --cflags nbdkit) -o $@ $< build/libcuzhaveli_play.a -lpthread -ldl -lm
 	@echo "make: wrote $@"
 
 install: install-servers

@@ -124,21 +124,30 @@ impl Tree {
 
     /// The film of a number; the same one for all who have it open.
     pub fn film(&self, number: u64) -> Result<Arc<Film>, Fault> {
-        let mut state = self.state.lock().unwrap_or_else(PoisonError::into_inner);
-        let node = number.checked_sub(ROOT).and_then(|at| state.nodes.get_mut(at as usize));
-        let Some(node) = node.filter(|node| node.thing != Thing::Folder) else {
-            return Err(Fault::No("no such file".into()));
-        };
-        if let Some(film) = node.film.upgrade() {
+        let (label, open) = self.node(number, |node| (node.label, node.film.upgrade()))?;
+        if let Some(film) = open {
             return Ok(film);
         }
-        let film = match self.is_store {
-            true => open::labelled(&self.folder, node.label, &self.cache)?,
+        // Without the lock: a disk may take its time.
+        let film = Arc::new(match self.is_store {
+            true => open::labelled(&self.folder, label, &self.cache)?,
             false => open::bare(&self.folder, &self.cache)?,
-        };
-        let film = Arc::new(film);
-        node.film = Arc::downgrade(&film);
-        Ok(film)
+        });
+        self.node(number, |node| match node.film.upgrade() {
+            Some(other) => other, // opened by somebody else meanwhile
+            None => {
+                node.film = Arc::downgrade(&film);
+                film
+            }
+        })
+    }
+
+    /// Looks at the node of a file.
+    fn node<T>(&self, number: u64, look: impl FnOnce(&mut Node) -> T) -> Result<T, Fault> {
+        let mut state = self.state.lock().unwrap_or_else(PoisonError::into_inner);
+        let node = number.checked_sub(ROOT).and_then(|at| state.nodes.get_mut(at as usize));
+        let file = node.filter(|node| node.thing != Thing::Folder);
+        file.map(look).ok_or_else(|| Fault::No("no such file".into()))
     }
 }
 

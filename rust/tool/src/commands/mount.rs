@@ -25,8 +25,8 @@ pub const COMMAND: Command = Command {
     brief: "a store as a file system, to play from, with up to two disks gone",
     about: &[
         "Shows the packages of a store, and the files of each, below the folder POINT; of a folder of images the one file \
-         film. Nothing can be written there. It returns once POINT can be read; umount POINT ends it, and so does the \
-         signal of kill to cuzhaveli-fuse.",
+         film. Nothing can be written there. It returns once POINT can be read; umount POINT ends it (fusermount3 -u POINT \
+         for users), and so does the signal of kill to cuzhaveli-fuse.",
         "Every byte that is read has been compared with its checksum. What is lost or bad is mended: a single lost piece by \
          its row, else by its unit. Where more is gone than can be mended, a read of those bytes fails (EIO), and reads of \
          others go on.",
@@ -65,12 +65,15 @@ pub const COMMAND: Command = Command {
 
 fn run(given: &Given) -> Result<(), Fault> {
     let (place, point) = (given.path(0), given.path(1));
-    let mut options = OsString::from("ro");
+    let mut words: Vec<OsString> = Vec::new();
+    if given.flag("--foreground") {
+        words.push("-f".into());
+    }
     if given.flag("--allow-other") {
-        options.push(",allow_other");
+        words.push("-oallow_other".into());
     }
     if let Some(bytes) = given.number("--cache")? {
-        options.push(format!(",cache={bytes}"));
+        words.push(format!("-ocache={bytes}").into());
     }
     let fails = |error| Fault::path(point, error);
     if !point.metadata().map_err(fails)?.is_dir() {
@@ -80,10 +83,6 @@ fn run(given: &Given) -> Result<(), Fault> {
     match is_store(place) {
         true => drop(opened(place)?),
         false => say::notes(&Set::open(place, &[])?),
-    }
-    let mut words: Vec<OsString> = vec!["-o".into(), options];
-    if given.flag("--foreground") {
-        words.push("-f".into());
     }
     // No word of the user is taken for an option.
     let full = |path: &Path| path.canonicalize().map_err(|error| Fault::path(path, error));

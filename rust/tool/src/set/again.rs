@@ -20,41 +20,39 @@ impl Set {
     }
 
     /// The set with what stands in its places now; none if that is what is open. An image stays
-    /// open, whatever became of its name, until another of this set has the name.
+    /// open, whatever became of its name, until another of this set has the name or it is cut.
     pub fn again(&self) -> Option<Set> {
         let mut set = Set::of(self.folder.clone(), self.paths.clone(), self.label);
-        let mut changed = false;
-        for disk in 0..self.places.len() {
-            let (place, new) = match self.image(disk) {
-                Some(image) => set.still(disk, image),
-                None => set.newly(disk),
+        let new: Vec<Option<Place>> =
+            (0..self.places.len()).map(|disk| set.new_place(disk, self.image(disk))).collect();
+        if new.iter().all(Option::is_none) {
+            return None;
+        }
+        for (disk, new) in new.into_iter().enumerate() {
+            let place = match (new, self.image(disk)) {
+                (Some(place), _) => place,
+                // Where no file can be opened, all stays as it is until the next time.
+                (None, Some(image)) => Place::Here(image.again().ok()?),
+                (None, None) => Place::Lost(Absence::Missing),
             };
-            changed |= new;
             set.places.push(place);
         }
-        changed.then_some(set)
+        Some(set)
     }
 
-    /// What stands in the place of an image that is open, and whether it is another than that.
-    fn still(&mut self, disk: usize, image: &Image) -> (Place, bool) {
+    /// What stands in a place, if it is another than the image that is open.
+    fn new_place(&mut self, disk: usize, open: Option<&Image>) -> Option<Place> {
         let path = self.path(disk);
-        if !fs::metadata(&path).is_ok_and(|data| image.is(&data)) {
-            if let Place::Here(other) = self.newly(disk).0 {
-                return (Place::Here(other), true);
-            }
+        if open.is_some_and(|image| fs::metadata(&path).is_ok_and(|data| image.is(&data))) {
+            return open.filter(|image| image.is_cut()).map(|_| cut());
         }
-        let lost = |what: &str| (Place::Lost(Absence::Unfinished(what.into())), true);
-        match image.again() {
-            _ if image.is_cut() => lost("was cut short"),
-            Ok(same) => (Place::Here(same), false),
-            Err(_) => lost("cannot be opened once more"),
+        match self.place(disk, see(&path)) {
+            Place::Here(other) => Some(Place::Here(other)),
+            Place::Lost(_) => open.filter(|image| image.is_cut()).map(|_| cut()),
         }
     }
+}
 
-    /// What stands in a place, and whether it is an image.
-    fn newly(&mut self, disk: usize) -> (Place, bool) {
-        let place = self.place(disk, see(&self.path(disk)));
-        let here = matches!(place, Place::Here(_));
-        (place, here)
-    }
+fn cut() -> Place {
+    Place::Lost(Absence::Unfinished("was cut short".into()))
 }
