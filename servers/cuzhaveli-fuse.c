@@ -282,7 +282,7 @@ int main(int count, char **texts)
         if (cuzhaveli_play_tree(given.store, &tree) != 0) {
             fprintf(stderr, "cuzhaveli-fuse: %s\n", cuzhaveli_play_why());
             status = 5;
-        } else if (fuse_opt_add_arg(&words, "-oro,default_permissions,fsname=cuzhaveli,subtype=cuzhaveli-fuse") == 0) {
+        } else if (fuse_opt_add_arg(&words, "-oro,nosuid,nodev,default_permissions,fsname=cuzhaveli,subtype=cuzhaveli-fuse") == 0) {
             status = serve(&words, &opts);
         }
     }

@@ -177,6 +177,25 @@ def mounted_signals(setting):
     return "unmounted by three signals"
 
 
+def mounted_by_fstab(setting):
+    """The words that mount(8) hands on for a line of fstab."""
+    if os.getuid() != 0 or not shutil.which("mount.fuse3"):
+        return "skipped: no root or no mount.fuse3"
+    shelf, point = Shelf(setting, 3, 3, 64), setting.new()
+    point.mkdir()
+    wanted = tuple(sorted(packages(setting, shelf).items()))
+    environment = {**os.environ, "PATH": f"{setting.program.parent}:{os.environ['PATH']}"}
+    words = ["mount.fuse3", str(shelf.folder), str(point), "-t", "fuse.cuzhaveli-fuse", "-o", "ro,allow_other,nofail,cache=1000000"]
+    subprocess.run(words, env=environment, check=True)
+    try:
+        line = next(line for line in open("/proc/mounts") if f" {point} " in line)
+        expect({"ro", "allow_other", "nosuid", "nodev"} <= set(line.split()[3].split(",")), f"mounted so: {line}")
+        expect(package_of(point) == wanted, "other files, or other bytes")
+    finally:
+        subprocess.run(["umount", str(point)], check=True)
+    return "mounted and unmounted as by mount(8)"
+
+
 def mounted_while_rebuilt(setting):
     """Played in order by two readers, at random by two, while two disks are lost, replaced and rebuilt, and two others go."""
     shelf = Shelf(setting, 5, 5, 4096, 8, 8)
@@ -244,4 +263,4 @@ def mounted_file_system(setting):
 
 
 CHECKS = [mounted_with_every_loss, mounted_read_only, mounted_beside_changes, mounted_third_loss, mounted_signals,
-          mounted_while_rebuilt, mounted_file_system]
+          mounted_by_fstab, mounted_while_rebuilt, mounted_file_system]

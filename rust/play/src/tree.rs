@@ -212,3 +212,34 @@ impl State {
         number
     }
 }
+
+#[cfg(test)]
+mod tests {
+    use super::*;
+
+    fn names(state: &State, folder: u64) -> Vec<(&[u8], u64)> {
+        state.folders[&folder].iter().map(|(name, number)| (&name[..], *number)).collect()
+    }
+
+    #[test]
+    fn a_file_that_is_replaced_has_another_number_and_the_old_one_stays() {
+        let mut state = State::default();
+        state.begin();
+        state.add(b"a/b/film", Thing::File(7, Some([1; 16])), None);
+        assert_eq!(names(&state, ROOT), [(&b"a"[..], 2)]);
+        assert_eq!(
+            (names(&state, 2), names(&state, 3)),
+            (vec![(&b"b"[..], 3)], vec![(&b"film"[..], 4)])
+        );
+        state.begin();
+        state.add(b"a/b/film", Thing::File(7, Some([2; 16])), None);
+        state.add(b"a/film", Thing::File(0, None), None);
+        assert_eq!(names(&state, 3), [(&b"film"[..], 5)]);
+        assert_eq!(names(&state, 2), [(&b"b"[..], 3), (b"film", 6)]);
+        assert_eq!(state.about(4), Some(About { number: 4, length: 7, is_folder: false }));
+        state.begin();
+        state.add(b"a/b/film", Thing::File(7, Some([1; 16])), None);
+        assert_eq!(names(&state, 3), [(&b"film"[..], 4)]);
+        assert_eq!((state.about(0), state.about(7)), (None, None));
+    }
+}

@@ -57,3 +57,17 @@ fn rows(pieces: &[Piece]) -> Option<Range<usize>> {
     let fits = pieces.len() == rows.len() && pieces.iter().all(|(one, _)| one == disk);
     fits.then_some(rows)
 }
+
+#[cfg(test)]
+mod tests {
+    use super::rows;
+
+    #[test]
+    fn rows_of_one_disk_that_follow_one_another() {
+        assert_eq!(rows(&[(3, 1)]), Some(1..2));
+        assert_eq!(rows(&[(3, 1), (3, 2), (3, 3)]), Some(1..4));
+        assert_eq!(rows(&[(3, 0), (3, 4)]), None); // from one stripe to the next
+        assert_eq!(rows(&[(1, 2), (3, 3)]), None);
+        assert_eq!(rows(&[]), None);
+    }
+}
