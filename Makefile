@@ -41,6 +41,8 @@ fast := $(if $(ready),$(patsubst $(dir $(ready))%,build/%,$(wildcard $(dir $(rea
 archives = build/libcuzhaveli.a build/libcuzhaveli_plans.a $(fast)
 shared = build/libcuzhaveli.so.1
 tool = $(if $(shell command -v cargo),build/cuzhaveli)
+has = $(if $(tool),$(shell $(PKG_CONFIG) --exists $(1) 2>/dev/null && echo $(2)))
+servers = $(call has,fuse3,build/cuzhaveli-fuse) $(call has,nbdkit,build/nbdkit-cuzhaveli-plugin.so)
 scratch = $(CURDIR)/build/scratch
 warnings = -std=c99 -Wall -Wextra -pedantic -Werror
 dist = cuzhaveli-$(VERSION)-x86_64-linux
@@ -54,7 +56,7 @@ cargo = CUZHAVELI_LIB_DIR="$(CURDIR)/build" CARGO_TARGET_DIR="$(CURDIR)/build/to
 .PHONY: all demo manual examples selftest install uninstall dist release-check clean FORCE
 .DELETE_ON_ERROR:
 
-all: $(archives) $(shared) $(tool)
+all: $(archives) $(shared) $(tool) $(servers)
 	@[ -n "$(tool)" ] || echo "make: no cargo on PATH, so the command cuzhaveli is not built; the libraries are"
 	@[ -n "$(fast)" ] || echo "make: no libcuzhaveli_fast.a beside $(named), so $(shared)$(if $(tool), and $(tool)) have the plain compilation alone"
 
@@ -114,7 +116,7 @@ manual: build/cuzhaveli
 	@build/cuzhaveli help --completion fish >$(completion)/cuzhaveli.fish
 	@echo "make: wrote docs/*.1 and $(completion)/"
 
-install: $(archives) $(shared) $(tool)
+install: $(archives) $(shared) $(tool) $(servers)
 	@install -d "$(DESTDIR)$(PREFIX)/include" "$(libdir)/pkgconfig"
 	@install -m 644 include/cuzhaveli.h "$(DESTDIR)$(PREFIX)/include/"
 	@install -m 644 $(archives) $(shared) "$(libdir)/"
@@ -182,6 +184,29 @@ install-kit:
 uninstall: uninstall-kit
 uninstall-kit:
 	rm -rf "$(kit)/conformance" "$(kit)/vectors"
+
+# The servers of films in place: the helper of `cuzhaveli mount` where libfuse3 is there, the plugin where nbdkit is.
+NBDKIT_PLUGINS = $(LIBDIR)/nbdkit/plugins
+.PHONY: install-servers uninstall-servers
+
+build/libcuzhaveli_play.a: build/libcuzhaveli.a $(fast) $(shell find rust/cuzhaveli rust/tool rust/play -name '*.rs' -o -name Cargo.toml)
+	@$(cargo) --manifest-path rust/play/Cargo.toml
+	@cp build/tool/release/libcuzhaveli_play.a $@
+build/cuzhaveli-fuse: servers/cuzhaveli-fuse.c build/libcuzhaveli_play.a rust/play/cuzhaveli_play.h
+	@$(CC) $(CFLAGS) -std=gnu11 -Wall -Wextra -Werror -Wl,--gc-sections,-S -Irust/play $$($(PKG_CONFIG) --cflags fuse3) -o $@ $< build/libcuzhaveli_play.a $$($(PKG_CONFIG) --libs fuse3) -lpthread -ldl -lm
+	@echo "make: wrote $@"
+build/nbdkit-cuzhaveli-plugin.so: servers/nbdkit-cuzhaveli-plugin.c build/libcuzhaveli_play.a rust/play/cuzhaveli_play.h
+	@$(CC) $(CFLAGS) -std=gnu11 -Wall -Wextra -Werror -fPIC -shared -Wl,--exclude-libs,ALL,--gc-sections,-S -Irust/play $$($(PKG_CONFIG) --cflags nbdkit) -o $@ $< build/libcuzhaveli_play.a -lpthread -ldl -lm
+	@echo "make: wrote $@"
+
+install: install-servers
+install-servers: $(servers)
+	@for one in $(filter %-fuse,$(servers)); do install -D -m 755 $$one "$(DESTDIR)$(PREFIX)/bin/$${one##*/}" || exit 1; done
+	@for one in $(filter %.so,$(servers)); do install -D -m 755 $$one "$(DESTDIR)$(NBDKIT_PLUGINS)/$${one##*/}" || exit 1; done
+
+uninstall: uninstall-servers
+uninstall-servers:
+	rm -f "$(DESTDIR)$(PREFIX)/bin/cuzhaveli-fuse" "$(DESTDIR)$(NBDKIT_PLUGINS)/nbdkit-cuzhaveli-plugin.so"
 
 clean:
 	rm -rf build

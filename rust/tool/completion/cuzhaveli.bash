@@ -2,7 +2,7 @@
 _cuzhaveli() {
     local word=${COMP_WORDS[COMP_CWORD]} before=${COMP_WORDS[COMP_CWORD - 1]} words='' files=''
     if [ "$COMP_CWORD" -eq 1 ]; then
-        words='create put list get remove patch board encode decode info check rebuild repair plan judge stripe space bill help --help --version'
+        words='create put list get remove patch mount board encode decode info check rebuild repair plan judge stripe space bill help --help --version'
     else
         case ${COMP_WORDS[1]} in
         create)
@@ -34,6 +34,11 @@ _cuzhaveli() {
             case $before in
             --at) words='' files='' ;;
             *) words='-q --json --at --help' files=yes ;;
+            esac ;;
+        mount)
+            case $before in
+            --cache) words='' files='' ;;
+            *) words='--allow-other --cache --foreground --help' files=yes ;;
             esac ;;
         board)
             case $before in
@@ -131,7 +136,7 @@ _cuzhaveli() {
         help)
             case $before in
             --completion) words='bash zsh fish' files='' ;;
-            *) words='--man --completion --help create put list get remove patch board encode decode info check rebuild repair plan judge stripe space bill help' files='' ;;
+            *) words='--man --completion --help create put list get remove patch mount board encode decode info check rebuild repair plan judge stripe space bill help' files='' ;;
             esac ;;
         esac
     fi

@@ -7,6 +7,7 @@ complete -c cuzhaveli -n __fish_use_subcommand -a list -d 'the packages of a sto
 complete -c cuzhaveli -n __fish_use_subcommand -a get -d 'a package of a store, or one file of it'
 complete -c cuzhaveli -n __fish_use_subcommand -a remove -d 'take a package out of a store'
 complete -c cuzhaveli -n __fish_use_subcommand -a patch -d 'replace some bytes of a file of a store'
+complete -c cuzhaveli -n __fish_use_subcommand -a mount -d 'a store as a file system, to play from, with up to two disks gone'
 complete -c cuzhaveli -n __fish_use_subcommand -a board -d 'which stores can bear two more losses, one more, none, or are past saving'
 complete -c cuzhaveli -n __fish_use_subcommand -a encode -d 'a film to the images of a set'
 complete -c cuzhaveli -n __fish_use_subcommand -a decode -d 'the film back from its images'
@@ -53,6 +54,11 @@ complete -c cuzhaveli -n '__fish_seen_subcommand_from patch' -F
 complete -c cuzhaveli -n '__fish_seen_subcommand_from patch' -a ''
 complete -c cuzhaveli -n '__fish_seen_subcommand_from patch' -a ''
 complete -c cuzhaveli -n '__fish_seen_subcommand_from patch' -F
+complete -c cuzhaveli -n '__fish_seen_subcommand_from mount' -l allow-other -d 'other users may read too; it needs user_allow_other in /etc/fuse.conf, or root'
+complete -c cuzhaveli -n '__fish_seen_subcommand_from mount' -l cache -x -a '' -d 'keep no more than BYTES of units in memory, but two units; 64M if it is not given'
+complete -c cuzhaveli -n '__fish_seen_subcommand_from mount' -l foreground -d 'do not return, but serve, and tell on standard error what cannot be read'
+complete -c cuzhaveli -n '__fish_seen_subcommand_from mount' -F
+complete -c cuzhaveli -n '__fish_seen_subcommand_from mount' -F
 complete -c cuzhaveli -n '__fish_seen_subcommand_from board' -l json -d 'tell the figures as one JSON object on a line of its own, for programs'
 complete -c cuzhaveli -n '__fish_seen_subcommand_from board' -l list -r -F -d 'a file with a store a line; lines that begin with # are passed over'
 complete -c cuzhaveli -n '__fish_seen_subcommand_from board' -F
@@ -138,4 +144,4 @@ complete -c cuzhaveli -n '__fish_seen_subcommand_from bill' -l bytes -x -a '' -d
 complete -c cuzhaveli -n '__fish_seen_subcommand_from bill' -l json -d 'tell the figures as one JSON object on a line of its own, for programs'
 complete -c cuzhaveli -n '__fish_seen_subcommand_from help' -l man -d 'the manual page'
 complete -c cuzhaveli -n '__fish_seen_subcommand_from help' -l completion -x -a 'bash zsh fish' -d 'a script that completes command lines in bash, zsh or fish'
-complete -c cuzhaveli -n '__fish_seen_subcommand_from help' -a 'create put list get remove patch board encode decode info check rebuild repair plan judge stripe space bill help'
+complete -c cuzhaveli -n '__fish_seen_subcommand_from help' -a 'create put list get remove patch mount board encode decode info check rebuild repair plan judge stripe space bill help'

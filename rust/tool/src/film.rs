@@ -3,6 +3,7 @@
 use std::collections::BTreeSet;
 use std::ops::Range;
 
+use crate::cells::Cells;
 use crate::fault::Fault;
 use crate::gaps;
 use crate::geometry::{Geometry, MOST_BYTES};
@@ -48,7 +49,9 @@ impl<'a> Film<'a> {
     /// Reads film of one unit: just its pieces or, where a disk of them is lost, all that brings
     /// them back.
     fn read_unit(&mut self, unit: u64, at: u64, bytes: &mut [u8]) -> Result<(), Fault> {
-        let readings = self.pieces(at, bytes.len() as u64);
+        let readings: Vec<Reading> = pieces(self.geometry, at, bytes.len() as u64)
+            .map(|(disk, row)| Reading { disk, rows: row..row + 1 })
+            .collect();
         let there = readings.iter().all(|reading| self.set.image(reading.disk).is_some());
         let batch = self.geometry.batch_of(unit, 1);
         let some = Wanted::cells(readings);
@@ -56,41 +59,35 @@ impl<'a> Film<'a> {
         if let [beyond, ..] = &beyond[..] {
             return Err(Fault::Beyond(beyond.told(self.geometry.shape)));
         }
-        self.copy(at, bytes);
+        copy(self.reader.cells(), self.geometry, at, bytes);
         Ok(())
     }
+}
 
-    /// The pieces of a unit that hold these bytes of its film.
-    fn pieces(&self, at: u64, len: u64) -> Vec<Reading> {
-        let (width, size) =
-            (self.geometry.shape.width() as u64, self.geometry.shape.cell_size() as u64);
-        let (first, last) = (at / size, (at + len - 1) / size);
-        let all = self.geometry.shape.disks() as u64 * width;
-        // Over a whole stripe every piece is met.
-        let numbers: BTreeSet<u64> =
-            (first..=last.min(first + all)).map(|cell| cell % all).collect();
-        let piece = |number: u64| {
-            let (disk, row) = ((number / width) as usize, (number % width) as usize);
-            Reading { disk, rows: row..row + 1 }
-        };
-        numbers.into_iter().map(piece).collect()
-    }
+/// The pieces of a unit, by disk and row, upward, that hold these bytes of its film.
+pub fn pieces(geometry: Geometry, at: u64, len: u64) -> impl Iterator<Item = (usize, usize)> {
+    let (width, size) = (geometry.shape.width() as u64, geometry.shape.cell_size() as u64);
+    let all = geometry.shape.disks() as u64 * width;
+    // Over a whole stripe every piece is met.
+    let (first, end) = (at / size, (at + len).div_ceil(size));
+    let numbers: BTreeSet<u64> = (first..end.min(first + all)).map(|cell| cell % all).collect();
+    numbers.into_iter().map(move |number| ((number / width) as usize, (number % width) as usize))
+}
 
-    fn copy(&self, at: u64, bytes: &mut [u8]) {
-        let (width, size) =
-            (self.geometry.shape.width() as u64, self.geometry.shape.cell_size() as u64);
-        let all = self.geometry.shape.disks() as u64 * width;
-        let mut done = 0;
-        while done < bytes.len() {
-            let here = at + done as u64;
-            let (cell, skip) = (here / size, (here % size) as usize);
-            let (number, place) = (cell % all, (cell / all) as usize);
-            let (disk, row) = ((number / width) as usize, (number % width) as usize);
-            let from = &self.reader.cells().cells(disk, row, place..place + 1)[skip..];
-            let len = from.len().min(bytes.len() - done);
-            bytes[done..done + len].copy_from_slice(&from[..len]);
-            done += len;
-        }
+/// Copies film of the unit that is in memory, from a byte of it on.
+pub fn copy(cells: &Cells, geometry: Geometry, at: u64, bytes: &mut [u8]) {
+    let (width, size) = (geometry.shape.width() as u64, geometry.shape.cell_size() as u64);
+    let all = geometry.shape.disks() as u64 * width;
+    let mut done = 0;
+    while done < bytes.len() {
+        let here = at + done as u64;
+        let (cell, skip) = (here / size, (here % size) as usize);
+        let (number, place) = (cell % all, (cell / all) as usize);
+        let (disk, row) = ((number / width) as usize, (number % width) as usize);
+        let from = &cells.cells(disk, row, place..place + 1)[skip..];
+        let len = from.len().min(bytes.len() - done);
+        bytes[done..done + len].copy_from_slice(&from[..len]);
+        done += len;
     }
 }
 

@@ -74,6 +74,18 @@ impl Image {
         self.direct.is_some()
     }
 
+    /// The same image once more, open for itself.
+    pub fn again(&self) -> io::Result<Image> {
+        let direct = self.direct.as_ref().map(File::try_clone).transpose()?;
+        let (path, file) = (self.path.clone(), self.file.try_clone()?);
+        Ok(Image { path, file, direct, drive: self.drive, len: self.len })
+    }
+
+    /// Whether it has become shorter than it was: something has cut it.
+    pub fn is_cut(&self) -> bool {
+        self.drive.is_none() && !self.file.metadata().is_ok_and(|data| data.len() >= self.len)
+    }
+
     /// Whether this is the same file or drive.
     pub fn is(&self, other: &Metadata) -> bool {
         let id = |data: &Metadata| (data.dev(), data.ino(), data.rdev());

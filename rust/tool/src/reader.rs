@@ -166,7 +166,7 @@ impl<'a> Reader<'a> {
         self.begin(batch, wanted);
         self.read_all(wanted);
         for unit in 0..batch.units {
-            if wanted.way != Way::None && !self.has(unit, wanted.way.lost()) {
+            if wanted.way != Way::None && !self.is_back(unit, &wanted.way) {
                 self.bring_back(unit, wanted)?;
             }
         }
@@ -280,13 +280,25 @@ impl<'a> Reader<'a> {
 
     /// Whether all that is read of a unit is good.
     fn is_read(&self, unit: usize, wanted: &Wanted) -> bool {
-        let mut pieces =
-            wanted.readings.iter().flat_map(|one| one.rows.clone().map(|row| (one.disk, row)));
-        pieces.all(|(disk, row)| self.states[self.at(unit, disk, row)] == State::Good)
+        let readings = wanted.readings.iter();
+        self.holds(unit, readings.flat_map(|one| one.rows.clone().map(|row| (one.disk, row))))
     }
 
     fn is_good(&self, unit: usize, wanted: &Wanted) -> bool {
-        self.is_read(unit, wanted) && self.has(unit, wanted.way.lost())
+        self.is_read(unit, wanted) && self.is_back(unit, &wanted.way)
+    }
+
+    /// Whether all that a way brings back is good in a unit.
+    fn is_back(&self, unit: usize, way: &Way) -> bool {
+        match way {
+            Way::SomeRows(disk, rows) => self.holds(unit, rows.clone().map(|row| (*disk, row))),
+            _ => self.has(unit, way.lost()),
+        }
+    }
+
+    /// Whether pieces of a unit of the batch, by disk and row, are in memory and good.
+    pub fn holds(&self, unit: usize, mut pieces: impl Iterator<Item = (usize, usize)>) -> bool {
+        pieces.all(|(disk, row)| self.states.get(self.at(unit, disk, row)) == Some(&State::Good))
     }
 
     /// Reads all rows that are wanted and not there.

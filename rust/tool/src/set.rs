@@ -1,5 +1,7 @@
 //! The images of a set in a folder: which are there, and which set they are of.
 
+mod again;
+
 use std::collections::BTreeSet;
 use std::io::ErrorKind;
 use std::path::{Path, PathBuf};

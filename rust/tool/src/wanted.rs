@@ -1,5 +1,6 @@
 //! What is read of each stripe, and how what is lost comes back from it.
 
+use std::collections::BTreeSet;
 use std::ops::Range;
 
 use cuzhaveli::{ReadList, Refusal, Shape};
@@ -39,6 +40,8 @@ pub enum Way {
     Tested(usize),
     /// By every row, for comparison.
     Rows(usize),
+    /// By these rows alone, the others of the disk stay lost.
+    SomeRows(usize, Range<usize>),
     Two([usize; 2]),
 }
 
@@ -57,6 +60,7 @@ pub enum Choice {
     Plan(Vec<u8>),
 }
 
+#[derive(Clone, Debug)]
 pub struct Wanted {
     pub readings: Vec<Reading>,
     pub needs: Vec<Need>,
@@ -105,7 +109,9 @@ impl Way {
             Way::Ours(one) | Way::Balanced(one) | Way::Tested(one) | Way::Rows(one) => {
                 std::slice::from_ref(one)
             }
-            Way::Relief(one, _) | Way::Plan(one, _) => std::slice::from_ref(one),
+            Way::Relief(one, _) | Way::Plan(one, _) | Way::SomeRows(one, _) => {
+                std::slice::from_ref(one)
+            }
             Way::Two(both) => both,
         }
     }
@@ -119,7 +125,7 @@ impl Way {
             Way::Relief(..) => "relief",
             Way::Plan(..) => "file",
             Way::Tested(_) => "tested",
-            Way::Rows(_) => "rows",
+            Way::Rows(_) | Way::SomeRows(..) => "rows",
             Way::Two(_) => "two",
         }
     }
@@ -163,17 +169,40 @@ impl Wanted {
         })
     }
 
-    /// Every row. P stands in the place of a lost data disk, and the XOR of each row, which is P
-    /// otherwise, is what was lost.
+    /// Every row.
     fn by_rows(set: &Set, lost: usize) -> Wanted {
         let shape = set.label.geometry.shape;
         let disks = set.present().filter(|disk| *disk <= shape.disks());
         let readings: Vec<Reading> = disks.map(|disk| whole(shape, disk)).collect();
         let mut wanted = Wanted::of(readings.clone(), &readings, Way::Rows(lost));
-        for need in wanted.needs.iter_mut().filter(|need| need.disk == shape.disks()) {
-            need.as_disk = lost;
-        }
+        wanted.by_p(shape.disks(), lost);
         wanted
+    }
+
+    /// Some cells of disks that are there, upward, and rows of a lost data disk by P and the other
+    /// data disks, which must be there.
+    pub fn with_rows(
+        set: &Set,
+        cells: &[(usize, usize)],
+        lost: usize,
+        rows: Range<usize>,
+    ) -> Wanted {
+        let p = set.label.geometry.shape.disks();
+        let others = (0..=p).filter(|disk| *disk != lost);
+        let line: Vec<Reading> = others.map(|disk| Reading { disk, rows: rows.clone() }).collect();
+        let each = line.iter().flat_map(|one| one.rows.clone().map(|row| (one.disk, row)));
+        let all: BTreeSet<(usize, usize)> = cells.iter().copied().chain(each).collect();
+        let single = |(disk, row): (usize, usize)| Reading { disk, rows: row..row + 1 };
+        let readings = all.into_iter().map(single).collect();
+        let mut wanted = Wanted::of(readings, &line, Way::SomeRows(lost, rows));
+        wanted.by_p(p, lost);
+        wanted
+    }
+
+    /// Lets P stand in the place of a lost data disk: the XOR of each row, which is P otherwise, is
+    /// then what was lost.
+    fn by_p(&mut self, p: usize, lost: usize) {
+        self.needs.iter_mut().filter(|need| need.disk == p).for_each(|need| need.as_disk = lost);
     }
 
     /// What the film needs: the data disks and, for one that is lost, the parity cells of a plan;

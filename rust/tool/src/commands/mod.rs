@@ -11,6 +11,7 @@ mod help;
 mod info;
 mod judge;
 mod list;
+mod mount;
 mod patch;
 mod plan;
 mod put;
@@ -43,6 +44,7 @@ pub const COMMANDS: &[&Command] = &[
     &get::COMMAND,
     &remove::COMMAND,
     &patch::COMMAND,
+    &mount::COMMAND,
     &board::COMMAND,
     &encode::COMMAND,
     &decode::COMMAND,

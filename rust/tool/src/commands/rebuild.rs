@@ -367,7 +367,7 @@ fn by(way: &Way) -> &'static str {
         Way::Relief(..) => "by the relief plan",
         Way::Plan(..) => "by the plan that was given",
         Way::Tested(_) => "from tested survivors",
-        Way::Rows(_) => "by rows",
+        Way::Rows(_) | Way::SomeRows(..) => "by rows",
         Way::Two(_) => "from all survivors",
     }
 }

@@ -4,6 +4,7 @@
 use cuzhaveli::Refusal;
 
 use super::{Reader, State};
+use crate::cells::Cells;
 use crate::fault::Fault;
 use crate::wanted::{Wanted, Way};
 
@@ -28,18 +29,21 @@ impl Reader<'_> {
                     shape.rebuild_by_plan(*lost, plan, stripe, &mut column)
                 }
                 Way::Tested(lost) => shape.rebuild_tested(*lost, stripe, &mut column),
-                Way::Rows(_) => shape.rebuild_one(shape.disks(), stripe, &mut column),
+                Way::Rows(_) | Way::SomeRows(..) => {
+                    shape.rebuild_one(shape.disks(), stripe, &mut column)
+                }
                 Way::Two(both) => shape.rebuild_two(*both, stripe),
             };
             let number = self.cells.batch.first + place as u64;
             done.map_err(|refusal| Fault::Refused(refusal, format!("stripe {number}: ")))?;
-            match wanted.way {
-                Way::Two(both) => both.iter().for_each(|disk| {
-                    self.cells.put(*disk, place, &self.stripe[shape.disk_range(*disk)]);
-                }),
-                _ => {
-                    wanted.way.lost().iter().for_each(|disk| self.cells.put(*disk, place, &column))
-                }
+            for disk in wanted.way.lost() {
+                let from = match wanted.way {
+                    Way::Two(_) => &self.stripe[shape.disk_range(*disk)],
+                    _ => &column,
+                };
+                let first = self.at(unit, *disk, 0);
+                let states = &self.states[first..first + shape.width()];
+                put_back(&mut self.cells, states, *disk, place, from);
             }
         }
         self.compare(unit, wanted.way.lost());
@@ -135,5 +139,15 @@ impl Reader<'_> {
             }
         }
         Ok(())
+    }
+}
+
+/// Copies a disk's part of a stripe to its cells, but to those of pieces that are good already.
+fn put_back(cells: &mut Cells, states: &[State], disk: usize, place: usize, column: &[u8]) {
+    let size = column.len() / states.len();
+    for (row, cell) in column.chunks_exact(size).enumerate() {
+        if states[row] != State::Good {
+            cells.cells_mut(disk, row, place..place + 1).copy_from_slice(cell);
+        }
     }
 }

@@ -1,0 +1,109 @@
+//! `mount`: a store as a file system. What serves it is a helper, `cuzhaveli-fuse`, so that this
+//! program links nothing.
+
+use std::env;
+use std::ffi::OsString;
+use std::io::ErrorKind;
+use std::os::unix::process::CommandExt;
+use std::path::{Path, PathBuf};
+use std::process;
+
+use cuzhaveli_tool::set::Set;
+use cuzhaveli_tool::store::place::is_store;
+
+use crate::args::Given;
+use crate::commands::stores::opened;
+use crate::fault::Fault;
+use crate::say;
+use crate::table::words::PLACE;
+use crate::table::{Command, Kind, Operand, Opt, Use};
+
+const HELPER: &str = "cuzhaveli-fuse";
+
+pub const COMMAND: Command = Command {
+    name: "mount",
+    brief: "a store as a file system, to play from, with up to two disks gone",
+    about: &[
+        "Shows the packages of a store, and the files of each, below the folder POINT; of a folder of images the one file \
+         film. Nothing can be written there. It returns once POINT can be read; umount POINT ends it (fusermount3 -u POINT \
+         for users), and so does the signal of kill to cuzhaveli-fuse.",
+        "Every byte that is read has been compared with its checksum. What is lost or bad is mended: a single lost piece by \
+         its row, else by its unit. Where more is gone than can be mended, a read of those bytes fails (EIO), and reads of \
+         others go on.",
+        "put, remove, patch, rebuild and repair can run beside it. A name is looked up in the catalogue of at most two \
+         seconds before; a file that is open stays readable after it was removed or replaced. An image that is rebuilt is \
+         read once it has its name.",
+        "It needs the program cuzhaveli-fuse, which is built where libfuse3 is, beside this one or on PATH. To mount at every \
+         start, a line of /etc/fstab: /srv/store /films fuse.cuzhaveli-fuse ro,allow_other,nofail 0 0",
+    ],
+    words: &[
+        Use::May(&Use::Opt(&Opt {
+            name: "--allow-other",
+            value: None,
+            about: "other users may read too; it needs user_allow_other in /etc/fuse.conf, or root",
+        })),
+        Use::May(&Use::Opt(&Opt {
+            name: "--cache",
+            value: Some(("BYTES", Kind::Number)),
+            about: "keep no more than BYTES of units in memory, but two units; 64M if it is not given",
+        })),
+        Use::May(&Use::Opt(&Opt {
+            name: "--foreground",
+            value: None,
+            about: "do not return, but serve, and tell on standard error what cannot be read",
+        })),
+        PLACE,
+        Use::Operand(&Operand {
+            name: "POINT",
+            kind: Kind::Folder,
+            about: "the folder where the files are shown",
+        }),
+    ],
+    tells: &[],
+    run,
+};
+
+fn run(given: &Given) -> Result<(), Fault> {
+    let (place, point) = (given.path(0), given.path(1));
+    let mut words: Vec<OsString> = Vec::new();
+    if given.flag("--foreground") {
+        words.push("-f".into());
+    }
+    if given.flag("--allow-other") {
+        words.push("-oallow_other".into());
+    }
+    if let Some(bytes) = given.number("--cache")? {
+        words.push(format!("-ocache={bytes}").into());
+    }
+    let fails = |error| Fault::path(point, error);
+    if !point.metadata().map_err(fails)?.is_dir() {
+        return Err(fails(ErrorKind::NotADirectory.into()));
+    }
+    // What is wrong with the disks is told here; the helper has nobody to tell.
+    match is_store(place) {
+        true => drop(opened(place)?),
+        false => say::notes(&Set::open(place, &[])?),
+    }
+    // No word of the user is taken for an option.
+    let full = |path: &Path| path.canonicalize().map_err(|error| Fault::path(path, error));
+    words.extend([full(place)?.into(), full(point)?.into()]);
+    start(&words)
+}
+
+/// The helper beside this program; if there is none, its name, for PATH.
+fn helper() -> PathBuf {
+    let beside = env::current_exe().ok().map(|own| own.with_file_name(HELPER));
+    beside.filter(|path| path.is_file()).unwrap_or_else(|| HELPER.into())
+}
+
+/// Becomes the helper.
+fn start(words: &[OsString]) -> Result<(), Fault> {
+    let error = process::Command::new(helper()).args(words).exec();
+    Err(Fault::Failed(match error.kind() {
+        ErrorKind::NotFound => format!(
+            "no {HELPER} beside this program or on PATH; install libfuse3 with its headers, and build the command again: \
+             make"
+        ),
+        _ => format!("{HELPER}: {error}"),
+    }))
+}
