@@ -11,7 +11,7 @@ static const double SAMPLE_SECONDS = 300e-6;
 
 /* What is timed: a call, the disks that are lost whole, the further cells that are missing, and the kind that it is
    compared with. */
-enum Kind { ONE, BALANCED, BY_PLAN, A_CELL, A_DISK, TWO_MORE, SIX_MORE, TWO, TWO_DISKS, KINDS };
+enum Kind { ONE, BALANCED, BY_PLAN, A_CELL, A_DISK, TWO_MORE, SIX_MORE, ONE_Q, ALL_OF_Q, TWO, TWO_DISKS, KINDS };
 
 /* A loss: marks of its cells, and the balanced plan for the first disk. */
 struct Gone {
@@ -20,7 +20,7 @@ struct Gone {
     uint8_t plan[CUZHAVELI_PLAN_BYTES(MOST_DISKS)];
 };
 
-/* One loss for each data disk. */
+/* One loss for each data disk, or of Q. */
 struct Losing {
     int count; /* 0 if so many cells are never determined */
     struct Gone all[MOST_DISKS];
@@ -73,7 +73,8 @@ static const struct {
     [ONE] = { one, 1, 0, ONE },          [BALANCED] = { balanced, 1, 0, ONE },
     [BY_PLAN] = { by_plan, 1, 0, ONE },  [A_CELL] = { cells, 0, 1, ONE },
     [A_DISK] = { cells, 1, 0, ONE },     [TWO_MORE] = { cells, 1, 2, ONE },
-    [SIX_MORE] = { cells, 1, 6, ONE },   [TWO] = { two, 2, 0, TWO },
+    [SIX_MORE] = { cells, 1, 6, ONE },   [ONE_Q] = { one, 1, 0, ONE_Q },
+    [ALL_OF_Q] = { cells, 1, 0, ONE_Q }, [TWO] = { two, 2, 0, TWO },
     [TWO_DISKS] = { cells, 2, 0, TWO },
 };
 
@@ -130,8 +131,9 @@ static void compare_mend(const struct Shelf *shelf, enum Kind kind, const struct
 
 static void open_losses(const struct Shelf *shelf, enum Kind kind, struct Losing *losing)
 {
+    int k = shelf->array->k, of_q = TIMED[kind].against == ONE_Q;
     losing->count = 0;
-    for (int disk = 0; disk < shelf->array->k; disk++) {
+    for (int disk = of_q ? k + 1 : 0; disk < (of_q ? k + 2 : k); disk++) {
         struct Gone *gone = &losing->all[losing->count];
         if (lose(shelf, kind, disk, gone)) {
             compare_mend(shelf, kind, gone);
@@ -184,7 +186,7 @@ static void print_row(const struct Shelf *shelf, const struct Losing losing[KIND
     for (enum Kind kind = ONE; kind < KINDS; kind++) {
         if (losing[kind].count == 0) {
             printf(" none |");
-        } else if (kind == ONE || kind == TWO || kind == A_CELL) {
+        } else if (kind == TIMED[kind].against || kind == A_CELL) {
             printf(" %.2f |", 1e6 * best[kind]);
         } else {
             print_ratio(best, times, kind, rounds);
@@ -213,7 +215,8 @@ void print_mends(int rounds)
 {
     printf("### warm: further rebuilds over that of one disk by our plan, and over that of two; best / median\n\n");
     printf("| p | k | s | one disk, us | balanced | by a plan sent | a missing cell, us | cells: one disk | and 2 | "
-           "and 6 | two disks, us | cells: two disks |\n|---|---|---|---|---|---|---|---|---|---|---|---|\n");
+           "and 6 | Q, us | cells: Q | two disks, us | cells: two disks |\n"
+           "|---|---|---|---|---|---|---|---|---|---|---|---|---|---|\n");
     for (int i = 0; i < ARRAYS; i++) {
         static struct Array array;
         open_array(&array, SHAPES[i][0], SHAPES[i][1]);

@@ -11,4 +11,4 @@ pub mod RunLaws
 pub mod WholeLaws
 pub mod NearestLoops
 pub mod NearestTurns
-pub mod RowSteps
+pub mod SetSteps

@@ -73,3 +73,7 @@ chosen-kept n x left best h g = record { one = g .one; none = λ l. absurd (omeg
 
 pub chosen-end : (n x left best : ℕ) → n ≤ x → Chosen n x left best → Chosen n n left best
 chosen-end n x left best h g = record { one = g .one; none = λ l c m. g .none l c (omega arith) }
+
+-- one that is left, without a look at the others
+pub chosen-single : (n left r : ℕ) → r < n → bit left r ≡ true → Chosen n n left r
+chosen-single n left r h e = record { one = λ l. e; none = λ l. absurd (omega arith) }

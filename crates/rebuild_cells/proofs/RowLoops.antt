@@ -55,12 +55,6 @@ unfolding firstFrom
 seek-end n j f h = let w : 0 ≡ n - j = omega arith in ap (λ (m : ℕ). firstFrom m j f) w
 
 -- ---- one unknown
-pub pivot-same : (b j : ℕ) (r : Rows) → eqb j b ≡ true → r ≡ pivoted b j r
-pivot-same b j r e = ap (λ (t : Bool). pick t r (rowAdded b j r)) (sym e)
-
-pub pivot-added : (b j : ℕ) (ws ts ws′ ts′ : List ℕ) → eqb j b ≡ false → ws′ ≡ plus b j ws → ts′ ≡ plus b j ts → rows ws′ ts′ ≡ pivoted b j (rows ws ts)
-pivot-added b j ws ts ws′ ts′ e w v = ap₂ rows w v ∙ ap (λ (t : Bool). pick t (rows ws ts) (rowAdded b j (rows ws ts))) (sym e)
-
 pub column-is : (n n′ b j : ℕ) (r r′ r″ : Rows) → n′ ≡ n → r′ ≡ pivoted b j r → r″ ≡ clearedFrom n′ b 0 r′ → r″ ≡ columnDone n b j r
 column-is n n′ b j r r′ r″ q w h = h ∙ ap₂ (λ (m : ℕ) (x : Rows). clearedFrom m b 0 x) q w
 

@@ -7,6 +7,9 @@ ghost use mathlib.Core.Logic.{_⊎_};
 ghost use Prim.Native.Nat.{_+_, _*_, _<_, _≤_};
 ghost use lib.ListN.{length};
 ghost use Rattle.mathematics.specs.Lists.{isIn};
+ghost use Rattle.mathematics.specs.bit_rows.Parity.{bit};
+ghost use Rattle.liberation.specs.Limits.{InArray};
+ghost use Rattle.liberation.specs.Plans.{diagonalOf};
 ghost use Rattle.liberation.specs.stripes.StripeLimits.{Sized};
 ghost use Rattle.liberation.specs.stripes.Stripes.{solved};
 ghost use Rattle.rebuild_cells.specs.theory.Mending.{oddCells, mendedCells};
@@ -15,14 +18,24 @@ ghost use Rattle.rebuild_cells.specs.Renewed.{Renewed, Chosen};
 use super::equations;
 use super::one_cell;
 use super::reduction;
+use parity_sets::DIAGONAL_SET;
+use parity_sets::ROW_SET;
 
 // Every unknown is left.
 const ALL: u64 = 18446744073709551615;
 
-// The one of two words that names fewer sets.
+// Does the word name one set alone? No result depends on it.
+fn names_one(word: u64) -> bool {
+    word & std::num::wrapping_sub_u64(word, 1) == 0
+}
+
+// The one of two words that names fewer sets; none names fewer than one.
 fn lighter(word: u64, other: u64) -> u64
     ensures { λ r. ⌜ ((r ≡ word) ⊎ (r ≡ other)) ⌝ }
 {
+    if names_one(word) {
+        return word;
+    }
     if u64::count_ones(other) < u64::count_ones(word) {
         return other;
     }
@@ -74,18 +87,93 @@ fn lightest(near: &[u64], left: u64, n: usize) -> usize
     best
 }
 
-// A cell becomes the XOR of the other odd cells of the sets that the word names; one row set needs
-// no marks.
+// Is unknown x left, and does one set give it?
+fn is_single(near: &[u64], left: u64, x: usize) -> bool
+    requires { ⌜ (x < length (now near)) × (length (now near) ≤ 62) ⌝ }
+    ensures { λ r. ⌜ (r ≡ true → bit left x ≡ true) ⌝ }
+{
+    if !reduction::has_bit(left, x) {
+        return false;
+    }
+    let word = near[x];
+    names_one(word)
+}
+
+// Of the first n unknowns the first that is left and that one set gives, n if there is none.
+fn first_single(near: &[u64], left: u64, n: usize) -> usize
+    requires { ⌜ (n ≤ length (now near)) × (length (now near) ≤ 62) ⌝ }
+    ensures { λ r. ⌜ (r ≤ n) × (r < n → bit left r ≡ true) ⌝ }
+{
+    let mut x = 0;
+    while x < n {
+        if is_single(near, left, x) {
+            return x;
+        }
+        x += 1;
+    }
+    n
+}
+
+// The unknown to be mended next: most are given by one set, and then no others are weighed.
+fn next_unknown(near: &[u64], left: u64, n: usize) -> usize
+    requires { ⌜ (n ≤ length (now near)) × (length (now near) ≤ 62) ⌝ }
+    ensures { λ r. ⌜ (r ≤ n) × Chosen n n left r ⌝ }
+{
+    let single = first_single(near, left, n);
+    if single < n {
+        return single;
+    }
+    lightest(near, left, n)
+}
+
+// The diagonal that has a cell of a data disk or of Q as an ordinary one; for a cell of P, which no
+// diagonal has, its row.
+fn own_diagonal(width: usize, disks: usize, disk: usize, row: usize) -> usize
+    requires { ⌜ InArray width disks × (row < width) ⌝ }
+    ensures { λ r. ⌜ (r < width) × (disk < disks → r ≡ diagonalOf width disk row) × (disks ≤ disk → r ≡ row) ⌝ }
+{
+    if disk < disks {
+        return parity_sets::diagonal_of(width, disk, row);
+    }
+    row
+}
+
+// A cell becomes the XOR of the other odd cells of the sets that the word names; its diagonal alone
+// needs no marks.
+fn mend_off_row(width: usize, disks: usize, size: usize, cell: usize, word: u64, stripe: &mut [u8])
+    requires { ⌜ Sized width disks size (now stripe) × (isIn cell (oddCells width disks word) ≡ true) ⌝ }
+    ensures { λ _. ⌜ now (stripe .exit) ≡ solved size cell (oddCells width disks word) (now (stripe .entry)) ⌝ }
+{
+    let row = cell % width;
+    let disk = cell / width;
+    let diagonal = own_diagonal(width, disks, disk, row);
+    if word == equations::bit_of(width + diagonal) {
+        stripe_cells::solve(
+            width,
+            disks,
+            size,
+            DIAGONAL_SET,
+            diagonal,
+            disk,
+            row,
+            stripe,
+        );
+        return;
+    }
+    one_cell::mend_cell(width, disks, size, cell, word, stripe);
+}
+
+// The same; its row set alone needs no marks either.
 fn mend_by(width: usize, disks: usize, size: usize, cell: usize, word: u64, stripe: &mut [u8])
     requires { ⌜ Sized width disks size (now stripe) × (isIn cell (oddCells width disks word) ≡ true) ⌝ }
     ensures { λ _. ⌜ now (stripe .exit) ≡ solved size cell (oddCells width disks word) (now (stripe .entry)) ⌝ }
 {
     let row = cell % width;
     if word == equations::bit_of(row) {
-        stripe_cells::solve(width, disks, size, 0, row, cell / width, row, stripe);
+        stripe_cells::solve(width, disks, size, ROW_SET, row, cell / width, row, stripe);
         return;
     }
-    one_cell::mend_cell(width, disks, size, cell, word, stripe);
+    mend_off_row(width, disks, size, cell, word, stripe);
 }
 
 // All unknowns, the one with the lightest word next.
@@ -103,14 +191,14 @@ fn mend_nearest(
 {
     let n = cells.len();
     let mut left = ALL;
-    let mut b = lightest(near, left, n);
+    let mut b = next_unknown(near, left, n);
     while b < n {
         let cell = cells[b];
         let word = near[b];
         mend_by(width, disks, size, cell, word, stripe);
         left = left ^ equations::bit_of(b);
         renew(sums, near, n, b);
-        b = lightest(near, left, n);
+        b = next_unknown(near, left, n);
     }
 }
 

@@ -1,11 +1,11 @@
-// Equations over bits, a word a row in two lent slices, reduced one unknown after another. A row is
-// only ever added to another.
+// Equations over bits, a word a row in two lent slices, reduced one unknown after another: two rows
+// are exchanged, or one is added to another.
 ghost use mathlib.Core.Path.{_≡_};
 ghost use Prim.Native.Nat.{_-_, _<_, _≤_};
 ghost use lib.ListN.{length, getD};
 ghost use Rattle.mathematics.specs.Sums.{firstFrom};
 ghost use Rattle.mathematics.specs.bit_rows.Parity.{bit};
-ghost use Rattle.mathematics.specs.bit_rows.Rows.{rows, plus, rowCleared, clearedFrom, pivoted, columnDone};
+ghost use Rattle.mathematics.specs.bit_rows.Rows.{rows, plus, exchanged, rowCleared, clearedFrom, pivoted, columnDone};
 ghost use Rattle.rebuild_cells.specs.Lent.{LentRows, ReducedTo};
 
 // Is this bit of the word set?
@@ -77,18 +77,26 @@ fn pivot_row(words: &[u64], b: usize) -> usize
     n
 }
 
-// Row j is added to row b if it is another one.
+// The words b and j change places.
+fn exchange_words(words: &mut [u64], b: usize, j: usize)
+    requires { ⌜ (b < length (now words)) × (j < length (now words)) ⌝ }
+    ensures { λ _. ⌜ now (words .exit) ≡ exchanged b j (now (words .entry)) ⌝ }
+{
+    let word = words[b];
+    words[b] = words[j];
+    words[j] = word;
+}
+
+// The rows b and j change places.
 fn take_pivot(words: &mut [u64], sums: &mut [u64], b: usize, j: usize)
     requires { ⌜ LentRows (now words) (now sums) × (b < length (now words)) × (j < length (now words)) ⌝ }
     ensures { λ _. ⌜ rows (now (words .exit)) (now (sums .exit)) ≡ pivoted b j (rows (now (words .entry)) (now (sums .entry))) ⌝ }
 {
-    if j == b {
-        return;
-    }
-    add_row(words, sums, b, j);
+    exchange_words(words, b, j);
+    exchange_words(sums, b, j);
 }
 
-// Unknown b comes into row b from row j, and leaves all others.
+// Row j, which has unknown b, becomes row b, and b leaves all others.
 fn reduce_column(words: &mut [u64], sums: &mut [u64], b: usize, j: usize)
     requires { ⌜ LentRows (now words) (now sums) × (b < length (now words)) × (j < length (now words)) ⌝ }
     ensures { λ _. ⌜ rows (now (words .exit)) (now (sums .exit)) ≡ columnDone (length (now (words .entry))) b j (rows (now (words .entry)) (now (sums .entry))) ⌝ }

@@ -1,6 +1,5 @@
 // Missing cells that are all cells of one disk or of two: they are mended by the rebuild of the
-// disks, which reads less than their equations do. Q alone is not: its equations take each cell
-// from a row set and a diagonal, and among dirty survivors that is another cell.
+// disks, which needs no equations.
 ghost use mathlib.Core.Path.{_≡_};
 ghost use mathlib.Core.Bool.{true};
 ghost use Prim.Native.Nat.{_+_, _*_, _<_, _≤_};
@@ -38,14 +37,18 @@ fn whole_disk(width: usize, disks: usize, cells: &[usize], from: usize) -> usize
     disks + 2
 }
 
-// A data disk or P: its cells by the row sets.
+// A data disk or P by the row sets, Q by the diagonals.
 fn mend_disk(width: usize, disks: usize, size: usize, cells: &[usize], stripe: &mut [u8]) -> bool
     requires { ⌜ Sized width disks size (now stripe) × ListedCells width disks (now cells) × (length (now cells) ≡ width) ⌝ }
     ensures { λ r. ⌜ WholeMended width disks size (now (cells .entry)) (now (stripe .entry)) (now (stripe .exit)) r ⌝ }
 {
     let disk = whole_disk(width, disks, cells, 0);
-    if disks < disk {
+    if disks + 1 < disk {
         return false;
+    }
+    if disks < disk {
+        stripe_cells::solve_diagonals(width, disks, size, stripe);
+        return true;
     }
     stripe_cells::solve_rows(width, disks, size, disk, stripe);
     true
@@ -68,8 +71,8 @@ fn mend_pair(width: usize, disks: usize, size: usize, cells: &[usize], stripe: &
     true
 }
 
-// Mends the cells of a list if they are all cells of a data disk, of P or of two disks; else the
-// stripe stays as it was.
+// Mends the cells of a list if they are all cells of one disk or of two; else the stripe stays as it
+// was.
 pub fn mend_whole(
     width: usize,
     disks: usize,

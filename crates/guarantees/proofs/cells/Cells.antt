@@ -2,32 +2,37 @@
 -- clean stripes agree in all cells that are not missing.
 -- Where it is accepted, all other bytes stand, what the missing cells held does not matter, and
 -- survivors of a clean stripe bring that one back. Missing cells on two disks are always mended,
--- two whole disks as by the rebuild of the two.
-use mathlib.Core.Path.{_≡_, refl, sym, ap, subst, _∙_}
+-- two whole disks as by the rebuild of the two; one whole disk by its row sets, Q by the diagonals.
+use mathlib.Core.Path.{_≡_, refl, sym, ap, ap₂, subst, _∙_}
 use mathlib.Core.Bool.{Bool, true, false, not}
 use mathlib.Core.List.{List}
 use mathlib.Core.Logic.{_⊎_, ⊎-elim}
-use Prim.Native.Nat.{ℕ, _+_, _*_, _≤_, _<_}
+use Prim.Native.Nat.{ℕ, _+_, _-_, _*_, _≤_, _<_}
+use native.Mathlib.Nat.{mod-lt, mul-le-mul-right}
 use native.Mathlib.Omega.{arith}
 use lib.Dec.{eqb}
 use lib.ListN.{length, getD}
-use borrow.Author.Tests.{eqb-true, eq-eqb, not-false}
+use borrow.Author.Tests.{eqb-true, eq-eqb, le-ltb, not-false}
 use Rattle.mathematics.specs.Choice.{pick, when, firstOf}
 use Rattle.mathematics.specs.Lists.{isIn, allBelow}
 use Rattle.mathematics.proofs.ChoiceLaws.{first-none, when-none, pick-refused}
 use Rattle.mathematics.proofs.Flags.{flag}
 use Rattle.liberation.specs.Limits.{InArray}
-use Rattle.liberation.specs.Sets.{diskAt, shapeRefusal, longRefusal}
+use Rattle.liberation.specs.Sets.{diskAt, rowAt, shapeRefusal, longRefusal}
+use Rattle.liberation.specs.Plans.{allOf, dataPlan, planOf}
+use Rattle.liberation.proofs.SetLaws.{disk-place, place-of}
 use Rattle.liberation.proofs.RefusalLaws.{shape-of}
-use Rattle.liberation.specs.stripes.Stripes.{cellAt, stripeLong, isStripe, clean}
+use Rattle.liberation.specs.stripes.Stripes.{cellAt, columnOf, stripeLong, isStripe, clean, followed, rebuilt}
 use Rattle.liberation.proofs.stripes.SizedLaws.{sized-long}
 use Rattle.liberation.proofs.stripes.Solving.{stripe-of}
 use Rattle.liberation.specs.two_disks.Pairs.{pairSolved}
 use Rattle.rebuild_cells.specs.theory.Mending.{missingCells, mendable, mendedCells, AlikeOff, Determined, TwoClean}
-use Rattle.rebuild_cells.proofs.theory.Marked.{missing-in, missing-distinct, missing-below}
+use Rattle.rebuild_cells.proofs.theory.Marked.{missing-in, missing-distinct, missing-below, missing-run}
 use Rattle.rebuild_cells.proofs.theory.MendLaws.{mended-off, mended-alike, mended-back, mendable-determined, mendable-few}
 use Rattle.rebuild_cells.proofs.theory.Exact.{refused-two, determined-mendable}
 use Rattle.rebuild_cells.proofs.theory.WholeDisks.{disks-mendable, disks-whole}
+use Rattle.rebuild_cells.proofs.theory.OneDisk.{disk-mendable, disk-mended, q-mendable, q-mended}
+use Rattle.rebuild_cells.specs.Listed.{RunFrom}
 use Rattle.refusals.specs.declared.Answer.{Answer}
 use Rattle.rebuild_cells.specs.Says.{lentRefusal, mendRefusal, RebuildCellsSays}
 use Rattle.rebuild_cells.proofs.MendRefusals.{lent-none}
@@ -141,6 +146,60 @@ module _ (p k s : ℕ) (ms t t′ : List ℕ) (r : Answer) (says : RebuildCellsS
         let w = within (lent i) in
         written disks-accepted
         ∙ disks-whole p k a b (w .array .width) (w .array .some) (w .array .disks) ha hb apart (missingCells ms) (w .below) (missing-distinct ms) on all s t (w .stripe)
+
+  -- one whole disk
+  module _ (c : ℕ) (i : Inside (markedStripe p k s ms t)) (hc : c < k + 2) (on : (x : ℕ) → x < p * (k + 2) → diskAt p x ≡ c → getD ms x 0 ≡ 0 → ⊥) (off : (x : ℕ) → x < p * (k + 2) → (diskAt p x ≡ c → ⊥) → getD ms x 0 ≡ 0) where
+    some : 0 < p
+    some = within (lent i) .array .some
+
+    -- its cells are a run
+    whole : (length (missingCells ms) ≡ p) × RunFrom 0 p (c * p) (missingCells ms)
+    whole =
+        let e = lent-none p k s ms t (lent i) .1 in
+        missing-run p (c * p) ms (subst (λ (n : ℕ). c * p + p ≤ n) (sym e) fits)
+        (λ x h l m. on x (subst (λ (n : ℕ). x < n) e h) (disk-in x l m))
+        (λ x h n. off x (subst (λ (n : ℕ). x < n) e h) (λ q. n (disk-low x q) (disk-high x q)))
+      where
+        fits : c * p + p ≤ p * (k + 2)
+        fits = let l : (c + 1) * p ≤ (k + 2) * p = mul-le-mul-right p (omega arith) in omega arith
+
+        disk-in : (x : ℕ) → c * p ≤ x → x < c * p + p → diskAt p x ≡ c
+        disk-in x l m = let z : x ≡ c * p + (x - c * p) = omega arith in ap (diskAt p) z ∙ disk-place p (x - c * p) c (omega arith)
+
+        disk-low : (x : ℕ) → diskAt p x ≡ c → c * p ≤ x
+        disk-low x q = let z : c * p + rowAt p x ≡ x = ap (λ (d : ℕ). d * p + rowAt p x) (sym q) ∙ place-of p x in omega arith
+
+        disk-high : (x : ℕ) → diskAt p x ≡ c → x < c * p + p
+        disk-high x q = let z : c * p + rowAt p x ≡ x = ap (λ (d : ℕ). d * p + rowAt p x) (sym q) ∙ place-of p x in omega (arith, mod-lt x some)
+
+    long : length t ≡ p * (k + 2) * s
+    long = sized-long p k s t (lent-none p k s ms t (lent i) .0)
+
+    -- a data disk or P by the row sets
+    pub disk-rebuilt : c ≤ k → t′ ≡ followed p k s c (allOf p 0 0) t
+    disk-rebuilt l =
+        written (refusal-is (lent i) true (disk-mendable p k c some l (missingCells ms) (whole .0) (whole .1)))
+        ∙ disk-mended p k c some l (missingCells ms) (whole .0) (whole .1) s t long
+
+    -- P as `rebuild_one`
+    pub p-rebuilt : c ≡ k → columnOf p s c t′ ≡ rebuilt p k s c t
+    unfolding rebuilt planOf
+    p-rebuilt e =
+        let z : 0 ≡ c - k = omega arith in
+        ap (columnOf p s c) (disk-rebuilt (omega arith) ∙ ap (λ (n : ℕ). followed p k s c (allOf p n 0) t) z)
+        ∙ ap (λ (b : Bool). columnOf p s c (followed p k s c (pick b (dataPlan p c) (allOf p (c - k) 0)) t)) (sym (le-ltb c k (omega arith)))
+
+    -- and Q
+    pub q-rebuilt : c ≡ k + 1 → columnOf p s c t′ ≡ rebuilt p k s c t
+    unfolding rebuilt planOf
+    q-rebuilt e =
+        let run = subst (λ (d : ℕ). RunFrom 0 p (d * p) (missingCells ms)) e (whole .1) in
+        let z : 1 ≡ c - k = omega arith in
+        ap (columnOf p s c)
+        (written (refusal-is (lent i) true (q-mendable p k some (missingCells ms) (whole .0) run))
+        ∙ q-mended p k some (missingCells ms) (whole .0) run s t long
+        ∙ ap₂ (λ (d n : ℕ). followed p k s d (allOf p n 0) t) (sym e) z)
+        ∙ ap (λ (b : Bool). columnOf p s c (followed p k s c (pick b (dataPlan p c) (allOf p (c - k) 0)) t)) (sym (le-ltb c k (omega arith)))
 
 -- two accepted calls with the same marks, on stripes that agree in the cells that are not missing,
 -- end with the same stripe

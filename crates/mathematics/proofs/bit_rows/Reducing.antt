@@ -10,7 +10,7 @@ use Prim.Native.Nat.{ℕ, zero, suc, _+_, _-_, _^_, _≤_, _<_}
 use native.Mathlib.Omega.{arith}
 use lib.Bits.{bitXor}
 use lib.Dec.{eqb, ltb}
-use lib.ListN.{length, getD, length-set}
+use lib.ListN.{length, getD, set, length-set}
 use lib.Seq.{getD-set-same, getD-set-other}
 use borrow.Author.Tests.{ltb-true, ltb-false, eqb-true, eqb-false, eq-eqb, ne-eqb, lt-ltb, le-ltb}
 use Rattle.mathematics.specs.Choice.{pick}
@@ -19,7 +19,7 @@ use Rattle.mathematics.proofs.Flags.{flag}
 use Rattle.mathematics.proofs.FirstLaws.{first-passes, first-least}
 use Rattle.mathematics.proofs.OrderLaws.{eq-or-ne, lt-or-le}
 use Rattle.mathematics.specs.bit_rows.Parity.{differ, oddTo, bit}
-use Rattle.mathematics.specs.bit_rows.Rows.{Rows, has, plus, rowAdded, rowCleared, clearedFrom, pivot, pivoted, columnDone, Reduced, reduction, reducedFrom}
+use Rattle.mathematics.specs.bit_rows.Rows.{Rows, has, plus, rowAdded, rowCleared, clearedFrom, pivot, exchanged, pivoted, columnDone, Reduced, reduction, reducedFrom}
 use Rattle.mathematics.proofs.bit_rows.ParityLaws.{differ-self, differ-false, differ-none, differ-and, to-ext, to-none, to-add, to-one}
 use Rattle.mathematics.proofs.bit_rows.BitLaws.{bit-xor, bit-power}
 
@@ -32,6 +32,23 @@ plus-own i j ws b h = ap (λ (w : ℕ). bit w b) (getD-set-same ws i (bitXor (ge
 
 plus-other : (i j : ℕ) (ws : List ℕ) (a b : ℕ) → (a ≡ i → ⊥) → bit (getD (plus i j ws) a 0) b ≡ bit (getD ws a 0) b
 plus-other i j ws a b n = ap (λ (w : ℕ). bit w b) (getD-set-other ws i a (bitXor (getD ws i 0) (getD ws j 0)) 0 n)
+
+-- ---- two words exchanged, which may be one
+pub exchange-long : (b j : ℕ) (ws : List ℕ) → length (exchanged b j ws) ≡ length ws
+exchange-long b j ws = length-set (set ws b (getD ws j 0)) j (getD ws b 0) ∙ length-set ws b (getD ws j 0)
+
+pub exchange-second : (b j : ℕ) (ws : List ℕ) → j < length ws → getD (exchanged b j ws) j 0 ≡ getD ws b 0
+exchange-second b j ws h = getD-set-same (set ws b (getD ws j 0)) j (getD ws b 0) 0 (subst (λ (l : ℕ). j < l) (sym (length-set ws b (getD ws j 0))) h)
+
+pub exchange-first : (b j : ℕ) (ws : List ℕ) → b < length ws → j < length ws → getD (exchanged b j ws) b 0 ≡ getD ws j 0
+exchange-first b j ws h l =
+    ⊎-elim
+    (λ e. ap (λ (i : ℕ). getD (exchanged b j ws) i 0) e ∙ exchange-second b j ws l ∙ ap (λ (i : ℕ). getD ws i 0) e)
+    (λ n. getD-set-other (set ws b (getD ws j 0)) j b (getD ws b 0) 0 n ∙ getD-set-same ws b (getD ws j 0) 0 h)
+    (eq-or-ne b j)
+
+pub exchange-other : (b j : ℕ) (ws : List ℕ) (a : ℕ) → (a ≡ b → ⊥) → (a ≡ j → ⊥) → getD (exchanged b j ws) a 0 ≡ getD ws a 0
+exchange-other b j ws a m n = getD-set-other (set ws b (getD ws j 0)) j a (getD ws b 0) 0 n ∙ getD-set-other ws b a (getD ws j 0) 0 m
 
 -- a search does not go back
 pub first-low : (n d : ℕ) (f : ℕ → Bool) → d ≤ firstFrom n d f
@@ -115,32 +132,77 @@ module _ (n m : ℕ) (given : ℕ → ℕ → Bool) where
     alone : (j c : ℕ) → j < n → c < b → has r j c ≡ eqb j c
     own : has r b b ≡ true
 
-  -- row j, the first from b on that has it, added to row b
-  module _ (b j : ℕ) (r : Rows) (d : Derived r) (alone : (a c : ℕ) → a < n → c < b → has r a c ≡ eqb a c) (from : b ≤ j) (hj : j < n) (held : has r j b ≡ true) (first : (j ≡ b → ⊥) → has r b b ≡ false) where
-    moved : (j ≡ b → ⊥) → Ready b (rowAdded b j r)
-    moved q =
+  -- row a of r′ is row `at` of r, and the other way round
+  record Partner (r r′ : Rows) (a : ℕ) : Type 0 where
+    at : ℕ
+    inside : at < n
+    word : getD (r′ .words) a 0 ≡ getD (r .words) at 0
+    sum : getD (r′ .sums) a 0 ≡ getD (r .sums) at 0
+    back : getD (r′ .words) at 0 ≡ getD (r .words) a 0
+
+  -- the same rows in another order
+  order-derived : (r r′ : Rows) → Derived r → length (r′ .words) ≡ n → length (r′ .sums) ≡ n → ((a : ℕ) → a < n → Partner r r′ a) → Derived r′
+  order-derived r r′ d lw ls partner =
+      record {
+        words-long = lw;
+        sums-long = ls;
+        summed = λ a b ha hb. let f = partner a ha in ap (λ (w : ℕ). bit w b) (f .word) ∙ d .summed (f .at) b (f .inside) hb ∙ ap (λ (w : ℕ). oddTo n (λ i. bit w i && given i b)) (sym (f .sum));
+        solves = λ x h. d .solves x (λ a ha. let f = partner a ha in ap (λ (w : ℕ). oddTo m (λ b. bit w b && x b)) (sym (f .back)) ∙ h (f .at) (f .inside));
+      }
+
+  -- row j, the first from b on that has it, exchanged with row b
+  module _ (b j : ℕ) (r : Rows) (d : Derived r) (alone : (a c : ℕ) → a < n → c < b → has r a c ≡ eqb a c) (from : b ≤ j) (hj : j < n) (held : has r j b ≡ true) where
+    hb : b < n
+    hb = omega arith
+
+    words-in : (i : ℕ) → i < n → i < length (r .words)
+    words-in i = subst (λ (l : ℕ). i < l) (sym (d .words-long))
+
+    sums-in : (i : ℕ) → i < n → i < length (r .sums)
+    sums-in i = subst (λ (l : ℕ). i < l) (sym (d .sums-long))
+
+    now-first : getD (pivoted b j r .words) b 0 ≡ getD (r .words) j 0
+    now-first = exchange-first b j (r .words) (words-in b hb) (words-in j hj)
+
+    now-second : getD (pivoted b j r .words) j 0 ≡ getD (r .words) b 0
+    now-second = exchange-second b j (r .words) (words-in j hj)
+
+    partner : (a : ℕ) → a < n → Partner r (pivoted b j r) a
+    partner a ha = ⊎-elim first (λ q. ⊎-elim second (other q) (eq-or-ne a j)) (eq-or-ne a b)
+      where
+        first : a ≡ b → Partner r (pivoted b j r) a
+        first e = subst (Partner r (pivoted b j r)) (sym e) (record { at = j; inside = hj; word = now-first; sum = exchange-first b j (r .sums) (sums-in b hb) (sums-in j hj); back = now-second })
+
+        second : a ≡ j → Partner r (pivoted b j r) a
+        second e = subst (Partner r (pivoted b j r)) (sym e) (record { at = b; inside = hb; word = now-second; sum = exchange-second b j (r .sums) (sums-in j hj); back = now-first })
+
+        other : (a ≡ b → ⊥) → (a ≡ j → ⊥) → Partner r (pivoted b j r) a
+        other q w = let e = exchange-other b j (r .words) a q w in record { at = a; inside = ha; word = e; sum = exchange-other b j (r .sums) a q w; back = e }
+
+    pivot-ready : Ready b (pivoted b j r)
+    pivot-ready =
         record {
-          derived = added-derived r d b j (omega arith) hj q;
-          alone = λ a c l k. ⊎-elim (same a c k) (λ e. plus-other b j (r .words) a c e ∙ alone a c l k) (eq-or-ne a b);
-          own = own-word r d b j (omega arith) hj q b ∙ ap₂ differ (first q) held;
+          derived = order-derived r (pivoted b j r) d (exchange-long b j (r .words) ∙ d .words-long) (exchange-long b j (r .sums) ∙ d .sums-long) partner;
+          alone = λ a c l k. ⊎-elim (first a c k) (λ q. ⊎-elim (second a c k) (λ w. ap (λ (x : ℕ). bit x c) (exchange-other b j (r .words) a q w) ∙ alone a c l k) (eq-or-ne a j)) (eq-or-ne a b);
+          own = ap (λ (x : ℕ). bit x b) now-first ∙ held;
         }
       where
         off : (a c : ℕ) → a < n → c < b → b ≤ a → has r a c ≡ false
         off a c l k h = alone a c l k ∙ ne-eqb a c (λ e. omega arith)
 
-        same : (a c : ℕ) → c < b → a ≡ b → has (rowAdded b j r) a c ≡ eqb a c
-        same a c k e =
-            ap (λ (x : ℕ). has (rowAdded b j r) x c) e
-            ∙ own-word r d b j (omega arith) hj q c
-            ∙ ap₂ differ (off b c (omega arith) k (omega arith)) (off j c hj k from)
+        first : (a c : ℕ) → c < b → a ≡ b → has (pivoted b j r) a c ≡ eqb a c
+        first a c k e =
+            ap (λ (x : ℕ). has (pivoted b j r) x c) e
+            ∙ ap (λ (x : ℕ). bit x c) now-first
+            ∙ off j c hj k from
             ∙ sym (ne-eqb a c (λ w. omega arith))
 
-    pivot-ready : Ready b (pivoted b j r)
-    pivot-ready = go (eqb j b) refl
-      where
-        go : (t : Bool) → eqb j b ≡ t → Ready b (pick t r (rowAdded b j r))
-        go true e = record { derived = d; alone = alone; own = ap (λ (x : ℕ). has r x b) (sym (eqb-true j b e)) ∙ held }
-        go false e = moved (eqb-false j b e)
+        second : (a c : ℕ) → c < b → a ≡ j → has (pivoted b j r) a c ≡ eqb a c
+        second a c k e =
+            ap (λ (x : ℕ). has (pivoted b j r) x c) e
+            ∙ ap (λ (x : ℕ). bit x c) now-second
+            ∙ off b c hb k (omega arith)
+            ∙ sym (ne-eqb a c (λ w. omega arith))
 
   -- row b added to row i, if that has unknown b
   record Cleared (b i : ℕ) (r r′ : Rows) : Type 0 where
@@ -203,11 +265,11 @@ module _ (n m : ℕ) (given : ℕ → ℕ → Bool) where
     derived : Derived r
     alone : Alone n b r
 
-  column-done : (b j : ℕ) (r : Rows) → Done b r → b ≤ j → j < n → has r j b ≡ true → ((j ≡ b → ⊥) → has r b b ≡ false) → Done (suc b) (columnDone n b j r)
-  column-done b j r d from hj held first = record { derived = c .ready .derived; alone = alone }
+  column-done : (b j : ℕ) (r : Rows) → Done b r → b ≤ j → j < n → has r j b ≡ true → Done (suc b) (columnDone n b j r)
+  column-done b j r d from hj held = record { derived = c .ready .derived; alone = alone }
     where
       c : Column b (columnDone n b j r)
-      c = clear-rows n b 0 (pivoted b j r) (omega arith) (omega arith) (pivot-ready b j r (d .derived) (d .alone) from hj held first) (λ a l. absurd (omega arith))
+      c = clear-rows n b 0 (pivoted b j r) (omega arith) (omega arith) (pivot-ready b j r (d .derived) (d .alone) from hj held) (λ a l. absurd (omega arith))
 
       alone : (a e : ℕ) → a < n → e < suc b → has (columnDone n b j r) a e ≡ eqb a e
       alone a e l k = ⊎-elim (λ q. c .ready .alone a e l q) (λ q. let w : e ≡ b = omega arith in ap (has (columnDone n b j r) a) w ∙ c .only a l ∙ ap (eqb a) (sym w)) (lt-or-le e b)
@@ -312,13 +374,7 @@ module _ (n m : ℕ) (given : ℕ → ℕ → Bool) where
     least j from l h = first-least (n - b) b j (λ a. has r a b) from (omega arith) h
 
     on : pivot n b r < n → Done (suc b) (columnDone n b (pivot n b r) r)
-    on l = column-done b (pivot n b r) r d low l (first-passes (n - b) b (λ j. has r j b) (omega (arith, low))) first
-      where
-        first : (pivot n b r ≡ b → ⊥) → has r b b ≡ false
-        first q = ⊎-elim (λ h. absurd (q (meet (least b (omega arith) (omega (arith, low)) h) low))) (λ h. h) (flag (has r b b))
-          where
-            meet : {x y : ℕ} → x ≤ y → y ≤ x → x ≡ y
-            meet u v = omega arith
+    on l = column-done b (pivot n b r) r d low l (first-passes (n - b) b (λ j. has r j b) (omega (arith, low)))
 
     stop : b < m → n ≤ pivot n b r → Dependent
     stop hb l = dependent b r d hb most (λ j from h. ⊎-elim (λ w. absurd (past (least j from h w) h)) (λ w. w) (flag (has r j b)))

@@ -1,7 +1,6 @@
 -- Equations over bits, one a row: bit b of a row's word says that unknown b is in it, and bit i of
 -- its second word that the given equation i was added to make it.
--- They are reduced one unknown after another, and the only step is that one row is added to
--- another.
+-- They are reduced one unknown after another: two rows are exchanged, or one is added to another.
 use mathlib.Core.Bool.{Bool, not, _&&_}
 use mathlib.Core.List.{List}
 use Prim.Native.Nat.{ℕ, zero, suc, _-_}
@@ -42,9 +41,12 @@ clearedFrom (suc n) b i r = clearedFrom n b (suc i) (rowCleared b i r)
 abbrev pub pivot : ℕ → ℕ → Rows → ℕ
 pivot n b r = firstFrom (n - b) b (λ j. has r j b)
 
--- that row, j, is added to row b if it is another one
+-- that row, j, takes the place of row b, and row b its place
+abbrev pub exchanged : ℕ → ℕ → List ℕ → List ℕ
+exchanged b j ws = set (set ws b (getD ws j 0)) j (getD ws b 0)
+
 abbrev pub pivoted : ℕ → ℕ → Rows → Rows
-pivoted b j r = pick (eqb j b) r (rowAdded b j r)
+pivoted b j r = rows (exchanged b j (r .words)) (exchanged b j (r .sums))
 
 -- then row b is the only one with unknown b
 abbrev pub columnDone : ℕ → ℕ → ℕ → Rows → Rows

@@ -1,13 +1,9 @@
 -- `mend_by`: a word that names the cell's row set alone is that set.
 use mathlib.Core.Path.{_∙_}
-use Prim.Native.Nat.{_+_, _*_}
 use native.Mathlib.Nat.{mod-lt}
 use native.Mathlib.Omega.{arith}
 use borrow.Author.Needs.{needs}
-use Rattle.mathematics.proofs.MemberLaws.{in-below}
-use Rattle.rebuild_cells.specs.theory.Mending.{oddCells}
-use Rattle.rebuild_cells.proofs.theory.OddCells.{cells-below}
-use Rattle.rebuild_cells.proofs.RowSteps.{row-ordinary, row-solved}
+use Rattle.rebuild_cells.proofs.SetSteps.{row-ordinary, row-solved}
 use Rattle.rebuild_cells.proofs.nearest.mend_by.Statement.{statement}
 use Rattle.rebuild_cells.proofs.nearest.mend_by.Tie as tie
 
@@ -31,12 +27,6 @@ returns c =
     let a = o .args in
     v .solve .ensures ∙ row-solved (a .width) (a .disks) (a .size) (a .cell) (a .word) (a .stripe .now) (o .pre .0) (i .if1 .taken ∙ f .bit-of .ensures) (o .pre .1)
 
-mend-cell-requires : tie.Need-mend-cell-requires
-mend-cell-requires c κs =
-    let o = c .before .before .before .before in
-    let a = o .args in
-    (o .pre .0, in-below (a .width * (a .disks + 2)) (a .cell) (oddCells (a .width) (a .disks) (a .word)) (cells-below (a .width) (a .disks) (o .pre .0 .array .some) (a .word)) (o .pre .1))
-
 pub mend-by-spec : {M : Type 1} → statement M
 mend-by-spec =
     tie.close
@@ -47,6 +37,6 @@ mend-by-spec =
     solve-requires
     (λ c. search needs)
     returns
-    mend-cell-requires
+    (λ c κs. search needs)
     (λ c. search needs)
     (λ c. search needs))

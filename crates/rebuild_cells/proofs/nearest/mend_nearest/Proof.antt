@@ -25,8 +25,8 @@ stripe c =
     let a = o .args in
     stripe-of (a .width) (a .disks) (a .size) (a .stripe .now) (sized-long (a .width) (a .disks) (a .size) (a .stripe .now) (o .pre .0)) (bytes-all (a .stripe .now) (c .slice-known2 .given))
 
-lightest-requires : tie.Need-lightest-requires Inv-loop μ-loop
-lightest-requires c κs =
+next-unknown-requires : tie.Need-next-unknown-requires Inv-loop μ-loop
+next-unknown-requires c κs =
     let o = c .before .before .before .before .before in
     let e = ap length (o .pre .2) in
     (omega (arith, o .pre .1 .long, o .pre .1 .room), omega (arith, o .pre .1 .long, o .pre .0 .array .widest))
@@ -36,7 +36,7 @@ loop-holds c =
     let k = c .before .before in
     let o = k .before .before .before .before in
     let a = o .args in
-    turn-start (a .width) (a .disks) (a .size) (o .pre .0 .array) (a .cells .now) (a .sums .now) (a .stripe .now) (o .pre .1) (stripe k) (a .near .now) (c .lightest .result) (o .pre .2) (c .lightest .ensures)
+    turn-start (a .width) (a .disks) (a .size) (o .pre .0 .array) (a .cells .now) (a .sums .now) (a .stripe .now) (o .pre .1) (stripe k) (a .near .now) (c .next-unknown .result) (o .pre .2) (c .next-unknown .ensures)
 
 slice-read-word : tie.Need-slice-read-word Inv-loop μ-loop
 slice-read-word c =
@@ -59,8 +59,8 @@ renew-requires c κs =
     let o = i .before .before .before .before .before .before .before .before in
     (omega (arith, o .pre .1 .long, o .pre .1 .room), l .inv .near-long, omega (arith, o .pre .1 .long, o .pre .0 .array .widest), omega arith)
 
-lightest-requires-2 : tie.Need-lightest-requires-2 Inv-loop μ-loop
-lightest-requires-2 c κs =
+next-unknown-requires-2 : tie.Need-next-unknown-requires-2 Inv-loop μ-loop
+next-unknown-requires-2 c κs =
     let v = c .before .before .before in
     let i = v .before .before .before .before .before .before .before .before .before in
     let l = i .before .loop in
@@ -90,7 +90,7 @@ loop-again c =
     let o = k .before .before .before .before in
     let a = o .args in
     turn-next (a .width) (a .disks) (a .size) (o .pre .0 .array) (a .cells .now) (a .sums .now) (a .stripe .now) (o .pre .1) (stripe k) (l .near) (l .stripe) (l .left) (l .b) (f .bit-of .result) (l .inv) (omega arith) (f .bit-of .ensures)
-    (v .renew .last .1 .0) (m .mend-by .last .1 .1 .1 .1 .1 .0) (c .lightest2 .result) (m .mend-by .ensures) (m .mend-by .kept .1 .1 .1 .1 .1 .0) (v .renew .ensures) (v .renew .kept .1 .0) (c .lightest2 .ensures)
+    (v .renew .last .1 .0) (m .mend-by .last .1 .1 .1 .1 .1 .0) (c .next-unknown2 .result) (m .mend-by .ensures) (m .mend-by .kept .1 .1 .1 .1 .1 .0) (v .renew .ensures) (v .renew .kept .1 .0) (c .next-unknown2 .ensures)
 
 returns : tie.Need-returns Inv-loop μ-loop
 returns c =
@@ -106,7 +106,7 @@ mend-nearest-spec =
     (tie.spec
     Inv-loop
     μ-loop
-    lightest-requires
+    next-unknown-requires
     loop-holds
     (λ c. omega (arith, c .before .before .before .before .before .before .before .before .pre .1 .listed .few))
     (λ c. omega arith)
@@ -115,7 +115,7 @@ mend-nearest-spec =
     mend-by-requires
     (λ c κs. omega (arith, c .before .before .before .before .before .before .before .before .before .before .before .before .before .before .pre .1 .listed .few))
     renew-requires
-    lightest-requires-2
+    next-unknown-requires-2
     loop-less
     loop-again
     (λ c. c .before .loop .inv .near-long ∙ sym (ap length (c .before .before .before .before .before .before .before .before .pre .2)))

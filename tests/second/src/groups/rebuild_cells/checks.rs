@@ -5,6 +5,7 @@ use super::calls::rebuild_cells;
 use super::determined::determined;
 use super::model::{self, missing_cells};
 use super::patterns::pattern;
+use crate::groups::rebuild_one::calls::rebuild_one;
 use crate::groups::rebuild_two::calls::rebuild_two;
 use crate::harness::answer::{Answer, ACCEPTED};
 use crate::harness::model::{
@@ -28,6 +29,7 @@ pub fn run(setting: &mut Setting, group: &mut Group) {
             on_noise(group, random, shape, &marks, &mut seen);
             on_clean(group, random, shape, &marks);
         }
+        one_disk(group, random, Shape::new(p, k, 3));
         whole_disks(group, random, Shape::new(p, k, 3));
     }
     for (p, k) in arrays::some() {
@@ -114,6 +116,24 @@ fn every_pattern(group: &mut Group, random: &mut Random, shape: Shape, seen: &mu
         group.same(|| call("the library"), !within, accepted);
         on_noise(group, random, shape, &marks, seen);
         on_clean(group, random, shape, &marks);
+    }
+}
+
+/// Each whole disk among dirty survivors; P and Q come as the rebuild of one gives them.
+fn one_disk(group: &mut Group, random: &mut Random, shape: Shape) {
+    let p = shape.width;
+    for disk in shape.all_disks() {
+        let mut marks = vec![0; p * (shape.disks + 2)];
+        marks[disk * p..(disk + 1) * p].fill(1);
+        let mut stripe = Lent::noise(stripe_length(shape), random);
+        let mut column = vec![0; column_length(shape)];
+        rebuild_one(shape, disk, stripe.part(), &mut column);
+        let got = same_mend(group, shape, &mut Lent::of(&marks, random), &mut stripe);
+        let call = || format!("rebuild_cells({shape:?}) of disk {disk}");
+        group.same(call, ACCEPTED, got);
+        if disk >= shape.disks {
+            group.same_bytes(call, &column, &stripe.part()[disk_place(shape, disk)]);
+        }
     }
 }
 

@@ -52,8 +52,8 @@ fn mend(shape: Shape, missing: &[Cell], stripe: &mut [u8]) {
     }
 }
 
-/// The rows, one for each set in their order: for cell after cell, the row of its number is given the cell by the first
-/// one from there on that has it, and is then added to every other row that has it.
+/// The rows, one for each set in their order: for cell after cell, the row of its number changes places with the first
+/// one from there on that has the cell, and is then added to every other row that has it.
 fn solving_rows(p: usize, k: usize, missing: &[Cell]) -> Vec<Row> {
     let row = |set: usize| {
         let held = set_cells(p, k, set / p, set % p);
@@ -64,10 +64,7 @@ fn solving_rows(p: usize, k: usize, missing: &[Cell]) -> Vec<Row> {
     for b in 0..missing.len() {
         let first = (b..2 * p).find(|place| rows[*place].cells[b]);
         let first = first.expect("determined cells are in some set that is left");
-        let other = rows[first].clone();
-        if first != b {
-            rows[b].add(&other);
-        }
+        rows.swap(b, first);
         let own = rows[b].clone();
         for place in (0..2 * p).filter(|place| *place != b) {
             if rows[place].cells[b] {
