@@ -125,7 +125,7 @@ pub fn sums(shape: Shape, marks: &[u8]) -> Vec<Sum> {
     cells.iter().zip(&places).map(sum).collect()
 }
 
-/// Adds sums to one another by the library's rule (docs/SCOPE.md), until each missing cell that can
+/// Exchanges and adds sums by the library's rule (docs/SCOPE.md), until each missing cell that can
 /// be is in one sum alone; which sum that is.
 fn reduce(lines: &mut [Line], cells: usize) -> Vec<Option<usize>> {
     let (mut places, mut done) = (vec![None; cells], 0);
@@ -133,10 +133,7 @@ fn reduce(lines: &mut [Line], cells: usize) -> Vec<Option<usize>> {
         let Some(found) = (done..lines.len()).find(|line| lines[*line].missing[cell]) else {
             continue;
         };
-        if found != done {
-            let more = lines[found].clone();
-            lines[done].add(&more);
-        }
+        lines.swap(found, done);
         let own = lines[done].clone();
         let others = lines.iter_mut().enumerate().filter(|(other, _)| *other != done);
         others.filter(|(_, line)| line.missing[cell]).for_each(|(_, line)| line.add(&own));
