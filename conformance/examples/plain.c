@@ -121,8 +121,8 @@ static int eliminate(struct sum *sums, size_t count, size_t unknowns, size_t s)
             n++;
         if (n == count)
             return 23;
-        if (n != b)
-            add_sum(&sums[b], &sums[n], s);
+        struct sum found = sums[n];
+        sums[n] = sums[b], sums[b] = found;
         for (n = 0; n < count; n++)
             if (n != b && sums[n].missing >> b & 1)
                 add_sum(&sums[n], &sums[b], s);
