@@ -16,9 +16,9 @@ type Rebuild = fn(Shape, usize, &[u8], &mut [u8]) -> Answer;
 
 // The library's calls, and the model's, so that what Jerasure made is compared with both.
 const ENCODES: [(&str, Encode); 2] =
-    [("encode_stripe", encode_stripe), ("the model's encode", stripes::model::encode_stripe)];
+    [("encode_stripe", encode_stripe), ("the model's encode", encode::model::encode_stripe)];
 const CHECKS: [(&str, Check); 2] =
-    [("check_stripe", check_stripe), ("the model's check", stripes::model::check_stripe)];
+    [("check_stripe", check_stripe), ("the model's check", encode::model::check_stripe)];
 const REBUILDS: [(&str, Rebuild); 2] =
     [("rebuild_one", rebuild_one), ("the model's rebuild", rebuild_one::model::rebuild_one)];
 
