@@ -106,7 +106,7 @@ CHECKS = [
     (lambda text: made_by("docs/page.py", text.encode()), TOP / "docs/index.html", "docs/page.py >docs/index.html", without("<option ")),
     *([(axioms, STATEMENTS, "say in docs/statements.py what the crate takes for granted",
         lambda text: text.replace("axioms=0", "axioms=1"))] if LOGS else []),
-    (numbered, DECISIONS, "number the entries anew, from 1 on", lambda text: text + "\n- **An entry.** Without a number.\n"),
+    (numbered, DECISIONS, r"""perl -pi -e 's/^(?:\d+\.|-) (?=\*\*)/++$n . ". "/e' docs/DECISIONS.md""", lambda text: text + "\n- **An entry.** Without a number.\n"),
     (few_words, TOP / "README.md", "cut what does not serve, in any of them", lambda text: text * 30),
     (crate_rows, ARCHITECTURE, "write the table anew from crates.txt and the heads of the crates", without(r"\| \d+ \| `")),
     (crate_rows, ARCHITECTURE, "", lambda text: re.sub(r"^\| \d+ \| `", "| 0 | `", text, count=1, flags=re.M)),
