@@ -36,8 +36,8 @@ named := $(if $(filter command%,$(origin LIB)),$(abspath $(LIB)),$(file <build/o
 standing := $(if $(named),$(filter $(realpath build/libcuzhaveli.a),$(realpath $(named))))
 ready := $(if $(standing),,$(named))
 
-plain_fast = build/libcuzhaveli_fast.a
-fast := $(if $(ready),$(patsubst $(dir $(ready))%,build/%,$(wildcard $(dir $(ready))libcuzhaveli_fast.a)),$(if $(standing),$(wildcard $(plain_fast)),$(plain_fast)))
+fast_archive = build/libcuzhaveli_fast.a
+fast := $(if $(ready),$(patsubst $(dir $(ready))%,build/%,$(wildcard $(dir $(ready))libcuzhaveli_fast.a)),$(if $(standing),$(wildcard $(fast_archive)),$(fast_archive)))
 archives = build/libcuzhaveli.a build/libcuzhaveli_plans.a $(fast)
 shared = build/libcuzhaveli.so.1
 tool = $(if $(shell command -v cargo),build/cuzhaveli)
@@ -64,10 +64,10 @@ ifneq ($(ready),)
 # What differs from the ready archives is copied. Where the fast one comes or goes, the plain one is taken anew: its date is
 # what cargo looks at.
 same := $(foreach one,$(archives),$(if $(shell cmp -s "$(dir $(ready))$(notdir $(one))" $(one) && echo same),$(one)))
-$(filter-out $(same),$(archives)) $(if $(filter-out x$(fast),x$(wildcard $(plain_fast))),build/libcuzhaveli.a): FORCE
+$(filter-out $(same),$(archives)) $(if $(filter-out x$(fast),x$(wildcard $(fast_archive))),build/libcuzhaveli.a): FORCE
 build/lib%.a: | build/origin
 	@[ -f "$(dir $(ready))lib$*.a" ] || { echo "make: the ready archive is $(ready), and there is no $(dir $(ready))lib$*.a; give the path of libcuzhaveli.a, with libcuzhaveli_plans.a beside it: make LIB=FILE, or LIB= for the kit" >&2; exit 1; }
-	@$(if $(fast),,rm -f $(plain_fast))
+	@$(if $(fast),,rm -f $(fast_archive))
 	@cp "$(dir $(ready))lib$*.a" $@
 build/origin: $(if $(filter $(ready),$(file <build/origin)),,FORCE)
 	@mkdir -p build
