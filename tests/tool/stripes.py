@@ -187,14 +187,15 @@ WRONG = [(["encode", "--disk", 1], 2, "--disk is not for encode; leave it out"),
 
 def wrong_words(setting):
     """Options that cannot be: told by their name before anything is read, and nothing is written."""
-    reader, writer = os.pipe()  # an input that never comes
-    for words, status, answer in WRONG:
-        done = setting.call("stripe", "-p", 5, "-k", 3, "-s", 2, *words, stdin=reader, status=status)
-        expect(answer in done.err.decode() and done.out == b"", f"{answer!r} expected: {done.told()}")
-    for numbers, refusal in ((["-p", 9], 1), (["-p", 5, "-k", 6], 13), (["-p", 5, "-s", 0], 2), (["-p", 5, "-s", "5K"], 2), (["-p", 5, "-s", "16777215T"], 2)):
-        done = setting.call("stripe", "encode", *numbers, stdin=reader, status=3)
-        expect(f"(refusal {refusal})" in done.err.decode() and done.out == b"", done.told())
-    os.close(reader), os.close(writer)
+    path = setting.new()
+    path.write_bytes(bytes(4 * 50))  # which another program than ours would read
+    numbers = [(["encode", "-p", p, "-k", k, "-s", s], 3, f"(refusal {refusal})")
+               for p, k, s, refusal in ((9, 3, 2, 1), (5, 6, 2, 13), (5, 3, 0, 2), (5, 3, "5K", 2), (5, 3, "16777215T", 2))]
+    with open(path, "rb") as file:
+        for words, status, answer in [*((["-p", 5, "-k", 3, "-s", 2, *words], status, answer) for words, status, answer in WRONG), *numbers]:
+            done = setting.call("stripe", *words, stdin=file, status=status)
+            expect(answer in done.err.decode() and done.out == b"", f"{answer!r} expected: {done.told()}")
+            expect(os.lseek(file.fileno(), 0, os.SEEK_CUR) == 0, f"something was read: {done.told()}")
     text = setting.new()
     for content, status in ((b"0.0 P.1\r\n2.2,\t1.4\n", 0), (b"", 2), (b"0.0\xff", 2), (b"0.0 " * 20_000, 2), (b"# a list\n0.0", 2)):
         text.write_bytes(content)
