@@ -76,7 +76,7 @@ $(shared): $(or $(fast),build/libcuzhaveli.a) dispatch/shared.sh include/cuzhave
 	@dispatch/shared.sh $< build
 	@echo "make: wrote $@"
 
-build/cuzhaveli: build/libcuzhaveli.a $(fast) $(shell find rust/cuzhaveli rust/tool -name '*.rs' -o -name Cargo.toml)
+build/cuzhaveli: build/libcuzhaveli.a $(fast) $(shell find rust/cuzhaveli rust/tool -name '*.rs' -o -name '*.man' -o -name Cargo.toml)
 	@command -v cargo >/dev/null || { echo "make: the command cuzhaveli is built by cargo, which is not on PATH; install Rust 1.89 or newer" >&2; exit 1; }
 	@CUZHAVELI_LIB_DIR="$(CURDIR)/build" CARGO_TARGET_DIR="$(CURDIR)/build/tool" cargo build -q --release --offline --manifest-path rust/tool/Cargo.toml
 	@cp build/tool/release/cuzhaveli $@
