@@ -1,122 +1,15 @@
-"""`stripe` on raw stripes, held to the vectors and to a plain code in Python; plans as texts."""
+"""`stripe` on raw stripes, held to the vectors and to a plain code in Python."""
 
 import collections
-import functools
 import json
-import operator
 import os
 import random
-import re
 import resource
 import select
 import subprocess
 
-from harness import TOP, expect, noise
-
-class Code:
-    """A plain Liberation code: a stripe is a list of numbers, that of row i on disk c at place c * p + i."""
-
-    def __init__(self, p, k, s=1):
-        self.p, self.k, self.s, self.bytes = p, k, s, (k + 2) * p * s
-        self.sets = [self.set(n) for n in range(2 * p)]
-        self.options = ["-p", p, "-k", k, "-s", s]
-
-    def set(self, n):
-        """The cells of row set n, or of diagonal set n - p; its parity cell is the last."""
-        i, extra = n % self.p, self.p - 2 * n % self.p
-        cells = [c * self.p + (i if n < self.p else (i + c) % self.p) for c in range(self.k)]
-        if n > self.p and extra < self.k:
-            cells.append(extra * self.p + self.p - 1 - i)
-        return cells + [(self.k + n // self.p) * self.p + i]
-
-    def name(self, n):
-        return f"{'RD'[n // self.p]} {n % self.p}"
-
-    def cells(self, data):
-        return [int.from_bytes(data[at:at + self.s], "big") for at in range(0, len(data), self.s)]
-
-    def data(self, cells):
-        return b"".join(cell.to_bytes(self.s, "big") for cell in cells)
-
-    def total(self, cells, places):
-        return functools.reduce(operator.xor, (cells[place] for place in places), 0)
-
-    def dirty(self, data):
-        cells = self.cells(data)
-        return [self.name(n) for n, places in enumerate(self.sets) if self.total(cells, places)]
-
-    def encoded(self, data):
-        cells = self.cells(data)
-        for *others, parity in self.sets:
-            cells[parity] = self.total(cells, others)
-        return self.data(cells)
-
-    def random(self, count, seed=1):
-        """Clean stripes."""
-        return [self.encoded(noise(self.bytes, f"{seed}-{number}")) for number in range(count)]
-
-    def column(self, disk):
-        return range(disk * self.p, (disk + 1) * self.p)
-
-    def spoiled(self, data, places, seed=2):
-        """Other bytes in these cells."""
-        cells, other = self.cells(data), random.Random(seed)
-        for place in places:
-            cells[place] ^= other.randrange(1, 1 << 8 * self.s)
-        return self.data(cells)
-
-    def updated(self, data, place, new):
-        cells = self.cells(data)
-        changed = cells[place] ^ int.from_bytes(new, "big")
-        for touched in {place, *(places[-1] for places in self.sets if place in places)}:
-            cells[touched] ^= changed
-        return self.data(cells)
-
-    def determined(self, missing):
-        """The missing cells that the other cells determine, each alone."""
-        rows = []
-        for places in self.sets:
-            row = set(places) & set(missing)
-            for pivot, other in rows:
-                if pivot in row:
-                    row ^= other
-            if row:
-                pivot = min(row)
-                rows = [(p, other ^ row if pivot in other else other) for p, other in rows] + [(pivot, row)]
-        return {pivot for pivot, row in rows if len(row) == 1}
-
-    def called(self, setting, action, *words, input, status=0):
-        """What an action makes of these stripes."""
-        return setting.call("stripe", action, *self.options, *words, input=b"".join(input), status=status)
-
-
-def same(done, wanted, what):
-    wanted = b"".join(wanted)
-    place = next((n for n, (a, b) in enumerate(zip(done.out, wanted)) if a != b), min(len(done.out), len(wanted)))
-    expect(done.out == wanted, f"{what}: {len(done.out)} bytes of {len(wanted)}, the first other one is {place}; {done.err[:300]!r}")
-
-
-def xored(stripes):
-    return functools.reduce(operator.xor, (int.from_bytes(one, "big") for one in stripes)).to_bytes(len(stripes[0]), "big")
-
-
-def listed(name):
-    """The lines of a file of vectors by array: the array, and the words of each line."""
-    code, lines = None, []
-    for line in (TOP / "vectors" / name).read_text().splitlines():
-        word, *words = line.split()
-        if word == "array":
-            if code:
-                yield code, lines
-            code, lines = Code(*map(int, words)), []
-        elif word != "#":
-            lines.append((word, words))
-    yield code, lines
-
-
-def place_of(code, cell):
-    disk, row = cell.split(".")
-    return int(disk) * code.p + int(row)
+from harness import expect, noise
+from plain_code import Code, listed, place_of, same, xored
 
 
 def stripe_vectors(setting):
@@ -294,14 +187,15 @@ WRONG = [(["encode", "--disk", 1], 2, "--disk is not for encode; leave it out"),
 
 def wrong_words(setting):
     """Options that cannot be: told by their name before anything is read, and nothing is written."""
-    reader, writer = os.pipe()  # an input that never comes
-    for words, status, answer in WRONG:
-        done = setting.call("stripe", "-p", 5, "-k", 3, "-s", 2, *words, stdin=reader, status=status)
-        expect(answer in done.err.decode() and done.out == b"", f"{answer!r} expected: {done.told()}")
-    for numbers, refusal in ((["-p", 9], 1), (["-p", 5, "-k", 6], 13), (["-p", 5, "-s", 0], 2), (["-p", 5, "-s", "5K"], 2), (["-p", 5, "-s", "16777215T"], 2)):
-        done = setting.call("stripe", "encode", *numbers, stdin=reader, status=3)
-        expect(f"(refusal {refusal})" in done.err.decode() and done.out == b"", done.told())
-    os.close(reader), os.close(writer)
+    path = setting.new()
+    path.write_bytes(bytes(4 * 50))  # which another program than ours would read
+    numbers = [(["encode", "-p", p, "-k", k, "-s", s], 3, f"(refusal {refusal})")
+               for p, k, s, refusal in ((9, 3, 2, 1), (5, 6, 2, 13), (5, 3, 0, 2), (5, 3, "5K", 2), (5, 3, "16777215T", 2))]
+    with open(path, "rb") as file:
+        for words, status, answer in [*((["-p", 5, "-k", 3, "-s", 2, *words], status, answer) for words, status, answer in WRONG), *numbers]:
+            done = setting.call("stripe", *words, stdin=file, status=status)
+            expect(answer in done.err.decode() and done.out == b"", f"{answer!r} expected: {done.told()}")
+            expect(os.lseek(file.fileno(), 0, os.SEEK_CUR) == 0, f"something was read: {done.told()}")
     text = setting.new()
     for content, status in ((b"0.0 P.1\r\n2.2,\t1.4\n", 0), (b"", 2), (b"0.0\xff", 2), (b"0.0 " * 20_000, 2), (b"# a list\n0.0", 2)):
         text.write_bytes(content)
@@ -358,60 +252,4 @@ def raw_pipes(setting):
     return f"{5 * len(FILTERS) + 3} calls"
 
 
-def drawn_cells(setting):
-    """--draw: what is missing, what is read, and sets that hold of the missing cells just the one that they bring back."""
-    other, count = random.Random(5), collections.Counter()
-    for p, k in [(3, 2), (3, 3), (5, 5), (7, 4), (13, 13), (31, 31), (31, 17)]:
-        code = Code(p, k, 1)
-        some = [other.sample(range(p * (k + 2)), size) for size in (1, 3, p, p + 2, 2 * p)]
-        some += [[*code.column(0)], [*code.column(1), *code.column(k + 1)], [*code.column(0), p + 1, 2 * p], [0, k * p, (k + 1) * p]]
-        for missing in map(sorted, some):
-            words = ",".join(f"{place // p}.{place % p}" for place in missing)
-            there = code.determined(missing)
-            status = 0 if there == set(missing) else 3
-            call = ["stripe", "rebuild-cells", "-p", p, "-k", k, "--missing", words, "--draw"]
-            told = setting.call(*call, "--json", status=status, stdin=subprocess.DEVNULL).figures()
-            expect([one["disk"] * p + one["row"] for one in told["missing"]] == missing and told["determined"] == (status == 0), f"{call}: {told}")
-            read = set()
-            for place, one in zip(missing, told["missing"]):
-                cells = set()
-                for name in one["sets"]:
-                    kind, number = name.split()
-                    cells ^= set(code.sets[int(number) + (p if kind == "D" else 0)])
-                expect(cells & set(missing) == ({place} if place in there else set()), f"{call}: {one} holds {cells}")
-                read |= cells - {place}
-            expect(told["read"] == len(read), f"{call}: {told['read']} read, not {len(read)}")
-            text = setting.call(*call, status=status, stdin=subprocess.DEVNULL).out.decode()
-            marks = [row.split()[1:k + 3] for row in text.splitlines()[3:3 + p]]
-            wanted = [["?x"[place in there] if place in missing else ".o"[place in read] for place in range(row, p * (k + 2), p)] for row in range(p)]
-            expect(marks == wanted, f"{call} draws\n{text}")
-            lines = re.findall(r"^  ([\dPQ]+)\.(\d+) +(?:R|D|not)", text, re.M)
-            expect([{"P": k, "Q": k + 1}.get(disk) or int(disk) for disk, _ in lines] == [place // p for place in missing], f"{call} draws\n{text}")
-            count[status] += 1
-    expect(count[0] > 20 and count[3] > 8, f"too few of a sort: {count}")
-    return f"{count[0]} that come back, {count[3]} that do not"
-
-
-def plans_as_text(setting):
-    """plan --text is accepted by judge, with the reads that the vectors name: every array, own, balanced and relief."""
-    count = 0
-    for number, (code, lines) in enumerate(listed("lists.txt")):
-        reads = {(word, int(words[0])): int(words[1]) for word, words in lines}
-        for lost in range(code.k + 2) if code.p == 5 else [7 * number % code.k, code.k + number % 2]:
-            plans = [("own", []), ("balanced", ["--balanced"]), ("relief", ["--relieve", (lost + 1) % code.k])]
-            for name, options in plans if code.p == 5 else plans[number % 3:number % 3 + 1]:
-                shape = ["-p", code.p, "-k", code.k, "-d", lost]
-                text = setting.call("plan", *shape, *options, "--text", status=0).out
-                expect(re.fullmatch(rb"row,set,number\n(\d+,[RD],\d+\n){%d}" % code.p, text), f"{shape} {options}: {text}")
-                if code.p == 5:
-                    steps = [(step["row"], step["set"], step["number"]) for step in setting.told("plan", *shape, *options)["steps"]]
-                    expect(text.decode() == "row,set,number\n" + "".join(f"{row},{kind},{of}\n" for row, kind, of in steps), f"{shape} {options}: {text}, not {steps}")
-                judged = setting.told("judge", *shape, "-", input=text)
-                wanted = reads.get((name, lost), reads.get(("own", lost)) if lost >= code.k else judged["reads"])
-                expect(judged["accepted"] and judged["reads"] == wanted, f"{shape} {options}: {judged.told()}, not {wanted}")
-                count += 1
-    setting.call("plan", "-p", 5, "-d", 1, "--text", "--svg", status=2)
-    return f"{count} plans of {number + 1} arrays"
-
-
-CHECKS = [stripe_vectors, many_stripes, servers, short_input, wrong_words, raw_pipes, drawn_cells, plans_as_text]
+CHECKS = [stripe_vectors, many_stripes, servers, short_input, wrong_words, raw_pipes]
