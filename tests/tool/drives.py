@@ -193,6 +193,13 @@ def drives_in_use(setting, loops):
                 done = setting.call(*words, status=4)
                 expect(b"has this drive" in done.err, done.told())
             setting.call("rebuild", images.folder, status=4)
+            folder, film = setting.new(), setting.new()
+            folder.mkdir()
+            film.write_bytes(FILM)
+            (folder / "disk-02.img").symlink_to(drive)
+            for named in ([], ["--overwrite", drive]):
+                done = setting.call("encode", "-p", 3, *named, film, folder, status=4)
+                expect(b"has this drive" in done.err and len(list(folder.iterdir())) == 1, done.told())
         finally:
             subprocess.run(["umount", mount], check=True)
         subprocess.run(["mount", drive, mount], check=True)

@@ -47,8 +47,8 @@ def left_of_disks(setting):
     spoil(images, 3, 2, *range(images.p))
     done = setting.told("rebuild", images.folder, status=6)
     expect(done["beyond"] == [{"stripe": 4, "count": 2, "disks": [1, 2, 3]}] and done["gaps"] == 2, done.told())
-    expect(images.part(1).read_bytes()[images.block(0):images.block(0) + 8] == good[1][images.block(0):images.block(0) + 8], "a part was spoiled")
     expect(images.part(1).exists() and images.part(2).exists() and not images.path(1).exists(), "an image with a gap got its name")
+    expect(images.part(1).read_bytes()[images.block(0):images.block(0) + 8] == good[1][images.block(0):images.block(0) + 8], "a part was spoiled")
     images.path(3).write_bytes(good[3])
     setting.call("rebuild", images.folder, status=0)
     setting.call("repair", images.folder, status=0)
@@ -94,6 +94,11 @@ def named_drives(setting, loops):
     expect((places, status) == ([], 6) and content(drive) == good[1], f"beyond repair: {places}, status {status}")
     expect(images.part(2).exists() and not images.path(2).exists(), "an image with a gap got its name")
     setting.call("decode", images.folder, setting.new(), status=6)
+    # nor is the film written over what is left of a disk
+    put(drive, 0, images.label(1, "part"))
+    done = setting.call("decode", "--overwrite", drive, images.folder, drive, status=5)
+    expect(b"lead to one drive" in done.err and content(drive)[LABEL:] == good[1][LABEL:], done.told())
+    put(drive, 0, good[1][:LABEL])
     # a bad piece of the drive: it alone is written, between mark and labels
     images.write({3: good[3], 4: good[4]})
     images.part(2).unlink()
@@ -122,15 +127,16 @@ def tested_first(setting, loops):
     expect(images.state() == before and content(drive, LABEL) == bytes(LABEL), f"written before a drive was refused: {done.told()}")
     setting.call("repair", "--overwrite", drive, images.folder, status=0)
     expect(content(drive) == good[2] and images.path(0).read_bytes() == good[0], "other images")
-    for first, second, status, named in ((2, 3, 4, [short]), (3, 2, 4, [short]), (2, 3, 5, []), (3, 2, 5, [])):
-        for disk in (2, 3):
-            images.path(disk).unlink()
-        linked(images, first, drive)
-        put(drive, 0, images.label(first))
-        linked(images, second, short)
-        words = itertools.chain.from_iterable(("--overwrite", name) for name in named)
-        done = setting.call("rebuild", "--disk", first, *words, images.folder, status=status)
-        expect(content(drive, LABEL) == images.label(first), f"marked before another drive was refused: {done.told()}")
+    for first, second in ((2, 3), (3, 2)):
+        for named, status in (([drive, short], 4), ([drive], 5)):
+            for disk in (2, 3):
+                images.path(disk).unlink()
+            linked(images, first, drive)
+            put(drive, 0, b"precious".ljust(images.image_bytes(), b"\0"))
+            linked(images, second, short)
+            words = itertools.chain.from_iterable(("--overwrite", name) for name in named)
+            done = setting.call("rebuild", *words, images.folder, status=status)
+            expect(content(drive, 8) == b"precious", f"marked before another drive was refused: {done.told()}")
     for disk in (2, 3):
         images.path(disk).unlink()
     linked(images, 3, short)

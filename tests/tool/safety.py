@@ -227,6 +227,10 @@ def exchanged(setting, moment, path, *words):
     return traced.status
 
 
+def held(path):
+    return path.read_bytes() if path.exists() else None
+
+
 def exchanged_parts(setting):
     """A part that another program exchanges gets no name; at the last moment it may, and that is told. It is not removed."""
     if not can_trace(setting):
@@ -238,7 +242,7 @@ def exchanged_parts(setting):
         status = exchanged(setting, moment, images.part(1), "rebuild", images.folder)
         expect(status == 4, f"rebuild, exchanged at {moment}: status {status}")
         named = images.path(1) if moment == "rename" else images.part(1)
-        expect(named.read_bytes() == b"not ours" and images.path(1).exists() == (moment == "rename"), f"rebuild, exchanged at {moment}")
+        expect(held(named) == b"not ours" and images.path(1).exists() == (moment == "rename"), f"rebuild, exchanged at {moment}")
         named.unlink()
         images.part(1).with_suffix(".aside").unlink()
         setting.call("rebuild", images.folder, status=0)
@@ -247,7 +251,7 @@ def exchanged_parts(setting):
         part = out.with_name(out.name + ".part")
         status = exchanged(setting, moment, part, "decode", images.folder, out)
         expect(status == 4 and out.exists() == (moment == "rename"), f"decode, exchanged at {moment}: status {status}")
-        expect((out if moment == "rename" else part).read_bytes() == b"not ours", f"decode, exchanged at {moment}: another's file is gone")
+        expect(held(out if moment == "rename" else part) == b"not ours", f"decode, exchanged at {moment}: another's file is gone")
     return "4 exchanges"
 
 

@@ -250,6 +250,12 @@ impl Set {
         images.filter_map(|image| Some((&*image.path, image.drive?))).collect()
     }
 
+    /// The drives that may be read: what is left of lost disks too.
+    pub fn sources(&self) -> Vec<(&Path, u64)> {
+        let left = self.remnants().filter_map(|(_, image)| Some((&*image.path, image.drive?)));
+        self.drives().into_iter().chain(left).collect()
+    }
+
     /// How many reads are worth having under way: without the page cache the kernel reads nothing
     /// ahead, and a device of its own has one waiting while another is served.
     pub fn threads(&self) -> usize {

@@ -90,7 +90,7 @@ fn run(given: &Given) -> Result<(), Fault> {
     say::notes(&set);
     let length = set.label.geometry.length;
     let name = if to_output { OsStr::new("-") } else { &given.operands[1] };
-    let target = Target::open(name, &given.overwrite()?, length, &set.drives())?;
+    let target = Target::open(name, &given.overwrite()?, length, &set.sources())?;
     target.says_stopped("decode");
     let account = deliver(&set, target, "decode".into(), given.flag("-q"))?;
     if to_output {
@@ -191,8 +191,8 @@ impl Target {
             return Ok(Target::Stream(file, "standard output".into()));
         }
         if let Some(drive) = drive_at(path) {
-            apart(path, drive, drives)?;
             let mut output = Output::drive(path, named, &[])?;
+            apart(path, drive, drives)?;
             output.set_len(length)?;
             return Ok(Target::Output(output));
         }
