@@ -1,7 +1,7 @@
 #!/usr/bin/env python3
 """Holds the documents to the crates: docs/layers.svg and docs/STATEMENTS.md are what their scripts make, with the axioms that
-`rt ci` printed; docs/ARCHITECTURE.md has a row for each crate, with its layer, and each public function once; and what the
-documents cite is there (citations.py).
+`rt ci` printed, and so are the pictures of drives; docs/ARCHITECTURE.md has a row for each crate, with its layer, and each
+public function once; and what the documents cite is there (citations.py).
 
 Usage: tests/interface/documents.py
 Each check is also given a wrong text, which it must refuse. Exit status 1 if something differs.
@@ -20,6 +20,7 @@ import statements  # noqa: E402
 TOP = source.TOP
 ARCHITECTURE = TOP / "docs/ARCHITECTURE.md"
 STATEMENTS = TOP / "docs/STATEMENTS.md"
+DRIVES = sorted((TOP / "bench/results").glob("*-drives.txt"))
 LOGS = sorted((TOP / "target/log").glob("*.say"))
 
 
@@ -50,9 +51,9 @@ def functions_once(text):
             yield f"{crate}::{name} is no public function"
 
 
-def made_by(script, given):
+def made_by(script, given, *words):
     """A file is what its script makes."""
-    made = subprocess.run([sys.executable, "-B", TOP / script], capture_output=True, check=True).stdout
+    made = subprocess.run([sys.executable, "-B", TOP / script, *words], capture_output=True, check=True).stdout
     if made != given:
         yield f"it is not what {script} makes"
 
@@ -77,6 +78,8 @@ def without(row):
 CHECKS = [
     (lambda text: made_by("docs/layers.py", text.encode()), TOP / "docs/layers.svg", "docs/layers.py >docs/layers.svg", without("<line ")),
     (lambda text: made_by("docs/statements.py", text.encode()), STATEMENTS, "docs/statements.py >docs/STATEMENTS.md", without("pub ")),
+    *((lambda text, results=results: made_by("bench/drives/plot.py", text.encode(), results), results.with_suffix(".svg"),
+       "bench/drives/plot.py NAME.txt >NAME.svg", without("<line ")) for results in DRIVES),
     *([(axioms, STATEMENTS, "say in docs/statements.py what the crate takes for granted",
         lambda text: text.replace("axioms=0", "axioms=1"))] if LOGS else []),
     (crate_rows, ARCHITECTURE, "write the table anew from crates.txt and the heads of the crates", without(r"\| \d+ \| `")),
