@@ -37,6 +37,11 @@ pub enum Flaw {
     Read,
 }
 
+/// About the most memory for checksum blocks that are read side by side, and the threads that do so
+/// whatever they take.
+const BLOCKS_AT_ONCE: usize = 4 << 20;
+const LEAST_THREADS: usize = 4;
+
 /// A piece of an image that is there and bad.
 #[derive(Clone, Copy, Debug, PartialEq, Eq)]
 pub struct Bad {
@@ -64,11 +69,6 @@ impl Beyond {
         }
     }
 }
-
-/// About the most memory for checksum blocks that are read side by side, and the threads that do so
-/// whatever they take.
-const BLOCKS_AT_ONCE: usize = 4 << 20;
-const LEAST_THREADS: usize = 4;
 
 /// A cell that cannot be read, in a piece of which others can: row, disk and place in the batch.
 type Hole = (usize, usize, usize);
