@@ -21,6 +21,7 @@
 #include <stdlib.h>
 #include <string.h>
 #include <sys/mman.h>
+#include <sys/mount.h>
 #include <sys/stat.h>
 #include <time.h>
 #include <unistd.h>
@@ -31,9 +32,8 @@ enum { MOST_DRIVES = 64, MOST_READS = 1 << 16 };
 static const double KEPT = 1e6;
 
 struct drive {
-    char name[256];
+    char name[256], mount[4096];
     struct fuse_session *session;
-    pthread_t thread;
     const char *bytes;
     size_t length;
     double rate;    /* bytes a second */
@@ -174,7 +174,7 @@ static const struct fuse_lowlevel_ops CALLS = {
 static void add(const char *folder, const char *mounts, const char *name, double rate)
 {
     struct drive *drive = &drives[count++];
-    char path[4096], *words[] = {"drives", "-o", "ro,fsname=drives"};
+    char path[sizeof drive->mount], *words[] = {"drives", "-o", "ro,fsname=drives"};
     struct fuse_args args = FUSE_ARGS_INIT(3, words);
     struct stat stat;
     snprintf(path, sizeof path, "%s/%s", folder, name);
@@ -188,10 +188,10 @@ static void add(const char *folder, const char *mounts, const char *name, double
     if (drive->bytes == MAP_FAILED)
         fail(path);
     close(file);
-    snprintf(path, sizeof path, "%s/%s", mounts, name);
+    snprintf(drive->mount, sizeof drive->mount, "%s/%s", mounts, name);
     drive->session = fuse_session_new(&args, &CALLS, sizeof CALLS, drive);
-    if (drive->session == NULL || fuse_session_mount(drive->session, path) != 0)
-        fail(path);
+    if (drive->session == NULL || fuse_session_mount(drive->session, drive->mount) != 0)
+        fail(drive->mount);
 }
 
 static void add_all(const char *folder, const char *mounts, double rate)
@@ -218,6 +218,13 @@ static bool set_rate(const char *word)
     return false;
 }
 
+/* At the end, whatever it is; the loops end with the program. */
+static void unmount_all(void)
+{
+    for (size_t i = 0; i < count; i++)
+        umount2(drives[i].mount, MNT_DETACH);
+}
+
 static void *loop(void *drive)
 {
     fuse_session_loop(((struct drive *)drive)->session);
@@ -235,19 +242,14 @@ static int serve(const sigset_t *end)
     pthread_cond_init(&sooner, &monotonic);
     bool begun = pthread_create(&thread, NULL, answer, NULL) == 0;
     for (size_t i = 0; i < count && begun; i++)
-        begun = pthread_create(&drives[i].thread, NULL, loop, &drives[i]) == 0;
+        begun = pthread_create(&thread, NULL, loop, &drives[i]) == 0;
     if (begun) {
         puts("mounted");
         fflush(stdout);
         sigwait(end, &number);
     }
     for (size_t i = 0; i < count; i++)
-        fuse_session_unmount(drives[i].session); /* which ends its loop */
-    for (size_t i = 0; i < count && begun; i++) {
-        struct drive *drive = &drives[i];
-        pthread_join(drive->thread, NULL);
-        printf("%s %llu %llu %.6f\n", drive->name, drive->read, drive->reads, drive->busy);
-    }
+        printf("%s %llu %llu %.6f\n", drives[i].name, drives[i].read, drives[i].reads, drives[i].busy);
     return begun ? 0 : 1;
 }
 
@@ -262,11 +264,12 @@ int main(int argc, char **argv)
     sigaddset(&end, SIGTERM);
     sigaddset(&end, SIGINT);
     pthread_sigmask(SIG_BLOCK, &end, NULL);
+    atexit(unmount_all);
     add_all(argv[1], argv[2], atof(argv[3]));
     for (int i = 4; i < argc; i++)
         if (!set_rate(argv[i])) {
             fprintf(stderr, "drives: %s: no such drive, or no rate\n", argv[i]);
-            kill(getpid(), SIGTERM); /* all are unmounted first */
+            return 2;
         }
     return serve(&end);
 }

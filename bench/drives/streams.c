@@ -153,6 +153,8 @@ static void open_drives(const char *mount)
     char path[4096];
     struct stat stat;
     for (long disk = 0; disk <= disks; disk++) {
+        if (disk == lost)
+            continue;
         snprintf(path, sizeof path, "%s/disk-%02ld.img", mount, disk);
         if ((files[disk] = open(path, O_RDONLY | O_DIRECT)) < 0 || fstat(files[disk], &stat) != 0)
             fail(path);

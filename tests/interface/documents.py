@@ -1,6 +1,6 @@
 #!/usr/bin/env python3
 """Holds the documents to the crates: docs/layers.svg, docs/STATEMENTS.md and docs/index.html are what their scripts make, with
-the axioms that `rt ci` printed; docs/ARCHITECTURE.md has a row for each crate, with its layer, and each public function once; what the
+the axioms that `rt ci` printed, and so are the pictures of drives; docs/ARCHITECTURE.md has a row for each crate, with its layer, and each public function once; what the
 documents cite is there (citations.py); the entries of docs/DECISIONS.md are numbered; and all are short enough to be read.
 
 Usage: tests/interface/documents.py
@@ -21,6 +21,7 @@ TOP = source.TOP
 ARCHITECTURE = TOP / "docs/ARCHITECTURE.md"
 STATEMENTS = TOP / "docs/STATEMENTS.md"
 DECISIONS = TOP / "docs/DECISIONS.md"
+DRIVES = sorted((TOP / "bench/results").glob("*-drives.txt"))
 LOGS = sorted((TOP / "target/log").glob("*.say"))
 # README.md, docs/*.md but those that follow documents 01 and 02 or the crates line by line, and the manual pages, together
 LONG = {"SCOPE.md", "COVERAGE.md", "STATEMENTS.md"}
@@ -54,9 +55,9 @@ def functions_once(text):
             yield f"{crate}::{name} is no public function"
 
 
-def made_by(script, given):
+def made_by(script, given, *words):
     """A file is what its script makes."""
-    made = subprocess.run([sys.executable, "-B", TOP / script], capture_output=True, check=True).stdout
+    made = subprocess.run([sys.executable, "-B", TOP / script, *words], capture_output=True, check=True).stdout
     if made != given:
         yield f"it is not what {script} makes"
 
@@ -104,6 +105,8 @@ CHECKS = [
     (lambda text: made_by("docs/layers.py", text.encode()), TOP / "docs/layers.svg", "docs/layers.py >docs/layers.svg", without("<line ")),
     (lambda text: made_by("docs/statements.py", text.encode()), STATEMENTS, "docs/statements.py >docs/STATEMENTS.md", without("pub ")),
     (lambda text: made_by("docs/page.py", text.encode()), TOP / "docs/index.html", "docs/page.py >docs/index.html", without("<option ")),
+    *((lambda text, results=results: made_by("bench/drives/plot.py", text.encode(), results), results.with_suffix(".svg"),
+       "bench/drives/plot.py NAME.txt >NAME.svg", without("<line ")) for results in DRIVES),
     *([(axioms, STATEMENTS, "say in docs/statements.py what the crate takes for granted",
         lambda text: text.replace("axioms=0", "axioms=1"))] if LOGS else []),
     (numbered, DECISIONS, r"""perl -pi -e 's/^(?:\d+\.|-) (?=\*\*)/++$n . ". "/e' docs/DECISIONS.md""", lambda text: text + "\n- **An entry.** Without a number.\n"),

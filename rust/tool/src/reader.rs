@@ -42,6 +42,11 @@ pub enum Flaw {
     Read,
 }
 
+/// About the most memory for checksum blocks that are read side by side, and the threads that do so
+/// whatever they take.
+const BLOCKS_AT_ONCE: usize = 4 << 20;
+const LEAST_THREADS: usize = 4;
+
 /// A piece of an image that is there and bad.
 #[derive(Clone, Copy, Debug, PartialEq, Eq)]
 pub struct Bad {
@@ -69,11 +74,6 @@ impl Beyond {
         }
     }
 }
-
-/// About the most memory for checksum blocks that are read side by side, and the threads that do so
-/// whatever they take.
-const BLOCKS_AT_ONCE: usize = 4 << 20;
-const LEAST_THREADS: usize = 4;
 
 pub struct Reader<'a> {
     set: &'a Set,
