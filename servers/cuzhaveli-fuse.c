@@ -241,7 +241,7 @@ static int usage(void)
     fprintf(stderr, "usage: cuzhaveli-fuse STORE POINT [-f] [-o OPTIONS]\n"
                     "  -f                stay in the foreground\n"
                     "  -o allow_other    other users may read\n"
-                    "  -o cache=BYTES    units in memory, 64 MiB if it is not given\n");
+                    "  -o cache=BYTES    units in memory, 32 MiB if it is not given\n");
     return 2;
 }
 

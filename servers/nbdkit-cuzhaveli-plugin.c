@@ -3,7 +3,7 @@
  *
  *   nbdkit cuzhaveli dir=DIR                                  the film of a folder of images
  *   nbdkit cuzhaveli store=STORE package=PACKAGE file=FILE    a file of a package of a store
- *   cache=SIZE                                                units in memory, 64M if it is not given
+ *   cache=SIZE                                                units in memory, 32M if it is not given
  *
  * This file moves bytes between nbdkit and cuzhaveli_play.h, which verifies and mends. */
 #define NBDKIT_API_VERSION 2
@@ -127,7 +127,7 @@ static struct nbdkit_plugin plugin = {
     .config_complete = film_config_complete,
     .config_help = "dir=DIR                                 the film of a folder of images\n"
                    "store=STORE package=PACKAGE file=FILE   a file of a package of a store\n"
-                   "cache=SIZE                              units in memory, 64M if it is not given",
+                   "cache=SIZE                              units in memory, 32M if it is not given",
     .get_ready = film_get_ready,
     .unload = film_unload,
     .open = film_open,

@@ -18,7 +18,7 @@ extern "C" {
 /* Why the last call of this thread failed, until its next one. */
 const char *cuzhaveli_play_why(void);
 
-/* Before all others: the bytes of film that are kept in memory at most, of all films together; 64 MiB if it is not called. Two
+/* Before all others: the bytes of film that are kept in memory at most, of all films together; 32 MiB if it is not called. Two
  * units of the largest are kept in any case (k + 2 times p times 32 KiB each, usually). Answers the limit that holds. */
 uint64_t cuzhaveli_play_limit(uint64_t bytes);
 

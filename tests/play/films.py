@@ -18,7 +18,7 @@ EINVAL = 22
 class Player:
     """A film that the program `player` has open."""
 
-    def __init__(self, setting, film, *place, limit=64 << 20):
+    def __init__(self, setting, film, *place, limit=32 << 20):
         words = [str(setting.program.with_name("player")), str(film), str(limit), *map(str, place)]
         self.child = subprocess.Popen(words, stdin=subprocess.PIPE, stdout=subprocess.PIPE, stderr=subprocess.PIPE, text=True)
         self.opened = self.child.stdout.readline()

@@ -14,7 +14,7 @@ use crate::film::Film;
 use crate::open;
 
 /// Numbers of errors as Linux has them.
-pub(crate) const NO_ENTRY: c_int = 2;
+const NO_ENTRY: c_int = 2;
 const INPUT_OUTPUT: c_int = 5;
 const INVALID: c_int = 22;
 
@@ -81,10 +81,9 @@ pub extern "C" fn cuzhaveli_play_why() -> *const c_char {
     catch_unwind(text).unwrap_or(c"".as_ptr())
 }
 
-/// # Safety
-/// Any number will do.
+/// Sets the limit of units in memory, if none is set; answers the one that holds.
 #[no_mangle]
-pub unsafe extern "C" fn cuzhaveli_play_limit(bytes: u64) -> u64 {
+pub extern "C" fn cuzhaveli_play_limit(bytes: u64) -> u64 {
     let set = || CACHE.get_or_init(|| Arc::new(Cache::new(bytes))).limit();
     catch_unwind(set).unwrap_or(0)
 }

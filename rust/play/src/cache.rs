@@ -6,7 +6,7 @@ use std::sync::{Arc, Condvar, Mutex, MutexGuard, PoisonError, RwLock};
 use crate::unit::Unit;
 
 /// The usual limit in bytes.
-pub const LIMIT: u64 = 64 << 20;
+pub const LIMIT: u64 = 32 << 20;
 /// So many of the largest units are kept whatever the limit is: one is played, the next is loaded.
 const LEAST: u64 = 2;
 /// No more units are kept, however small they are: each has some memory beside its cells.

@@ -27,7 +27,7 @@ impl Loaded {
         // Sound: the set does not move, being behind the `Arc` that is kept beside the reader and
         // dropped after it; no reference to it leaves this struct.
         let set: &'static Set = unsafe { &*(&raw const version.set) };
-        Loaded { reader: Reader::new(set, 1, Pace::new(None)), version, unit }
+        Loaded { reader: Reader::new(set, 1, Pace::new(None)).alone(), version, unit }
     }
 
     fn begin_anew(&mut self) -> &mut Loaded {

@@ -1,6 +1,5 @@
 //! The film of a set: any bytes of it, or all in order.
 
-use std::collections::BTreeSet;
 use std::ops::Range;
 
 use crate::cells::Cells;
@@ -68,10 +67,12 @@ impl<'a> Film<'a> {
 pub fn pieces(geometry: Geometry, at: u64, len: u64) -> impl Iterator<Item = (usize, usize)> {
     let (width, size) = (geometry.shape.width() as u64, geometry.shape.cell_size() as u64);
     let all = geometry.shape.disks() as u64 * width;
-    // Over a whole stripe every piece is met.
+    // Over a whole stripe every piece is met; what goes on in the next one begins at 0.
     let (first, end) = (at / size, (at + len).div_ceil(size));
-    let numbers: BTreeSet<u64> = (first..end.min(first + all)).map(|cell| cell % all).collect();
-    numbers.into_iter().map(move |number| ((number / width) as usize, (number % width) as usize))
+    let start = first % all;
+    let stop = start + (end - first).min(all);
+    let numbers = (0..stop.saturating_sub(all)).chain(start..stop.min(all));
+    numbers.map(move |number| ((number / width) as usize, (number % width) as usize))
 }
 
 /// Copies film of the unit that is in memory, from a byte of it on.

@@ -116,6 +116,12 @@ impl<'a> Reader<'a> {
         }
     }
 
+    /// The same without threads of its own: others read beside it.
+    pub fn alone(mut self) -> Reader<'a> {
+        self.bounces.truncate(1);
+        self
+    }
+
     pub fn geometry(&self) -> Geometry {
         self.geometry
     }

@@ -45,7 +45,7 @@ pub const COMMAND: Command = Command {
         Use::May(&Use::Opt(&Opt {
             name: "--cache",
             value: Some(("BYTES", Kind::Number)),
-            about: "keep no more than BYTES of units in memory, but two units; 64M if it is not given",
+            about: "keep no more than BYTES of units in memory, but two units; 32M if it is not given",
         })),
         Use::May(&Use::Opt(&Opt {
             name: "--foreground",
