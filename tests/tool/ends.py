@@ -223,7 +223,7 @@ def progress(setting):
     column = images.p * images.s * images.stripes
     film = setting.new()
     film.write_bytes(noise(100))
-    slow = {"rebuild": ["--disk", 1, "--rate", 3 * column], "check": ["--rate", 7 * column], "repair": ["--rate", 7 * column]}
+    slow = {"rebuild": ["--disk", 1, "--rate", column // 2], "check": ["--rate", column * 2 // 3], "repair": ["--rate", column * 2 // 3]}
     bar = rb"\[#*\.*\] +\d+ %  [\d.]+ (bytes|[KMG]iB)/s  \d+:\d\d left"
     for name, options in slow.items():
         for quiet, wanted in (([], True), (["-q"], False)) if name == "check" else (([], True),):

@@ -69,7 +69,7 @@ def objects(setting):
             expect(list(told) == wanted, f"{words}: the object has {list(told)}, the manual {wanted}")
             seen.add(words[0])
     names = {line.split()[0] for line in synopsis()}
-    expect(seen == {name for name in names if fields(name) or fields(name, "verdict")} == names - {"help"}, f"objects of {seen} were looked at, of {names}")
+    expect(seen == {name for name in names if fields(name) or fields(name, "verdict")} == names - {"help", "mount"}, f"objects of {seen} were looked at, of {names}")
     images = setting.encoded(noise(9000), 5, s=64)
     setting.call("decode", "--json", images.folder, "-", status=2)
     plan = setting.told("plan", "-p", 5, "-d", 1).figures()

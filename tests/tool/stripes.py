@@ -149,7 +149,7 @@ def short_input(setting):
             whole, left = divmod(length, record)
             told = code.called(setting, action, *words, input=[bytes(length)], status=3)
             same(told, [done * whole], f"{action} of {length} bytes")
-            answer = f"stripe {whole} at byte {whole * record}: {left} of {record} bytes, a slice has another length"
+            answer = f"stripe {whole} at byte {whole * record}: {left} of {record} bytes, a length is another than the one required"
             expect(answer in told.err.decode() and b"(refusal 5)" in told.err, f"{answer!r} expected: {told.told()}")
             count += 1
     clean = code.random(3)
