@@ -1,6 +1,7 @@
 #!/bin/bash
-# code.sh SOURCE LIB: in the chroot. Builds the plugin and the driver, runs the driver, installs the plugin for this Ceph
-# and compares its chunks with those of jerasure's liberation, every loss of one and two decoded by Ceph's own tool.
+# code.sh SOURCE LIB [drive]: in the chroot. Builds the plugin and the driver and runs that; then, without the third word,
+# installs the plugin for this Ceph and compares its chunks with those of jerasure's liberation, and has Ceph's own tool
+# decode losses of one and two.
 set -eu
 source=$1 lib=$2 tree=/src/tree plugins=/usr/lib/x86_64-linux-gnu/ceph/erasure-code
 work=$(mktemp -d); trap 'rm -rf "$work"' EXIT
@@ -9,6 +10,7 @@ work=$(mktemp -d); trap 'rm -rf "$work"' EXIT
 g++ -std=c++20 -O2 -DHAVE_CONFIG_H -D__CEPH__ -D_REENTRANT -I"$work" -isystem $tree/src "$source/ceph/test/drive.cc" \
   $tree/src/osd/ECUtil.cc -rdynamic -L"${plugins%/*}" -l:libceph-common.so.2 -Wl,-rpath,"${plugins%/*}" -ldl -o "$work/drive"
 "$work/drive" "$work/libec_cuzhaveli.so"
+[ $# = 2 ] || exit 0
 install -m 644 "$work/libec_cuzhaveli.so" "$plugins/"
 
 cd "$work"

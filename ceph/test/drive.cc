@@ -3,6 +3,7 @@
 // both ways to read; every pair of losses; profiles and arguments that must be refused. Prints the share that is read.
 // usage: drive libec_cuzhaveli.so
 #include <dlfcn.h>
+#include <sys/resource.h>
 #include <cstdio>
 #include <cstdlib>
 #include <iostream>
@@ -118,6 +119,18 @@ struct Pool {
   }
 };
 
+// For each k the width whose partial reads are the least, and their share of k whole chunks.
+static map<int, std::pair<double, int>> best;
+
+static void compare_widths(int p, int k, size_t most)
+{
+  double share = (double)most / k / p;
+  if (!best.count(k) || share < best[k].first)
+    best[k] = {share, p};
+  if (k == p)
+    printf("%d, %d, %zu of %d, %.3f\n", p, k + 1, most / (k + 1), p, share);
+}
+
 static void refused(const ErasureCodeProfile &profile, const string &message)
 {
   ErasureCodeInterfaceRef code;
@@ -128,6 +141,35 @@ static void refused(const ErasureCodeProfile &profile, const string &message)
     printf("drive: a profile was answered by %d: %s(expected: %s)\n", r, ss.str().c_str(), message.c_str());
     exit(1);
   }
+}
+
+// Without memory a call answers a number: nothing is thrown across the interface.
+static void without_memory()
+{
+  Pool pool(5, 5, 64, "whole");
+  bufferlist in;
+  in.append(buffer::create(pool.chunk * 200000));
+  rlimit before{}, tight{1, RLIM_INFINITY}; // what is mapped stays
+  MUST(getrlimit(RLIMIT_AS, &before) == 0);
+  tight.rlim_max = before.rlim_max;
+  map<int, bufferlist> out;
+  MUST(setrlimit(RLIMIT_AS, &tight) == 0);
+  int r = pool.code->encode(pool.all, in, &out);
+  MUST(setrlimit(RLIMIT_AS, &before) == 0);
+  MUST(r < 0);
+}
+
+static void defaults()
+{
+  ErasureCodeInterfaceRef code;
+  ErasureCodeProfile profile{{"k", "8"}};
+  MUST(plugin->factory("", profile, &code, &std::cerr) == 0);
+  MUST(profile["reads"] == "whole" && profile["w"] == "11" && profile["m"] == "2" && profile["cell"] == "4096");
+  MUST(code->get_chunk_size(1) == 11 * 4096 && code->get_chunk_size(8 * 11 * 4096 + 1) == 2 * 11 * 4096);
+  Ranges least, eight;
+  for (int d = 1; d <= 8; d++)
+    eight[d] = {{0, 11}};
+  MUST(code->minimum_to_decode({0}, {1, 2, 3, 4, 5, 6, 7, 8, 9}, &least) == 0 && least == eight); // whole, and not Q
 }
 
 static void refusals()
@@ -169,7 +211,9 @@ int main(int, char **argv)
   if (!so) { puts(dlerror()); return 1; }
   char name[] = "cuzhaveli";
   MUST(((int (*)(char *, char *))dlsym(so, "__erasure_code_init"))(name, name) == 0 && plugin);
+  defaults();
   refusals();
+  without_memory();
   puts("k = w, helpers, sub-chunks read of each, a lost data chunk's reads over k whole chunks");
   for (int p : WIDTHS)
     for (int k = 2; k <= p; k++)
@@ -187,8 +231,10 @@ int main(int, char **argv)
         }
         if (p <= 7 || (k == p && cell == 64))
           whole.pairs(), partial.pairs();
-        if (k == p && cell == 64)
-          printf("%d, %d, %zu of %d, %.3f\n", p, k + 1, most / (k + 1), p, (double)most / k / p);
+        if (cell == 64)
+          compare_widths(p, k, most);
       }
-  printf("drive: %ld rebuilds alike, refusals as they should be\n", rebuilds);
+  for (auto &[k, one] : best)
+    printf("%sk %d, w %d: %.3f", k == 2 ? "least reads: " : "; ", k, one.second, one.first);
+  printf("\ndrive: %ld rebuilds alike, refusals as they should be\n", rebuilds);
 }
