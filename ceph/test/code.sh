@@ -5,11 +5,12 @@
 set -eu
 source=$1 lib=$2 tree=/src/tree plugins=/usr/lib/x86_64-linux-gnu/ceph/erasure-code
 work=$(mktemp -d); trap 'rm -rf "$work"' EXIT
+drive=$work/drive; [ $# = 2 ] || drive=$source/drive # which variants keep
 "$source/ceph/build.sh" $tree "$lib" "$work/libec_cuzhaveli.so"
 : >"$work/acconfig.h"
-g++ -std=c++20 -O2 -DHAVE_CONFIG_H -D__CEPH__ -D_REENTRANT -I"$work" -isystem $tree/src "$source/ceph/test/drive.cc" \
-  $tree/src/osd/ECUtil.cc -rdynamic -L"${plugins%/*}" -l:libceph-common.so.2 -Wl,-rpath,"${plugins%/*}" -ldl -o "$work/drive"
-"$work/drive" "$work/libec_cuzhaveli.so"
+[ -x "$drive" ] || g++ -std=c++20 -O2 -DHAVE_CONFIG_H -D__CEPH__ -D_REENTRANT -I"$work" -isystem $tree/src "$source/ceph/test/drive.cc" \
+  $tree/src/osd/ECUtil.cc -rdynamic -L"${plugins%/*}" -l:libceph-common.so.2 -Wl,-rpath,"${plugins%/*}" -ldl -o "$drive"
+"$drive" "$work/libec_cuzhaveli.so"
 [ $# = 2 ] || exit 0
 install -m 644 "$work/libec_cuzhaveli.so" "$plugins/"
 

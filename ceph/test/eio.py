@@ -49,7 +49,7 @@ def client_read(pool):
 
 
 def survives(cluster, make, name, reads, option):
-    """The rebuild ends well and no OSD stops. Gives what a client's read meanwhile got."""
+    """The rebuild ends well and no OSD stops. Gives what a client's read meanwhile got, and whether the EIO is gone."""
     pool = prepared(cluster, make, name, reads, option)
     got, met = client_read(pool), errors_of(cluster, pool.ring[BAD])
     cluster.flags(False)
@@ -57,11 +57,13 @@ def survives(cluster, make, name, reads, option):
     if errors_of(cluster, pool.ring[BAD]) == met:
         raise Failed(f'{name}: the rebuild met no EIO')
     set_option(cluster, False)
+    met = errors_of(cluster, pool.ring[BAD])
     pool.check('after a rebuild that met an EIO')
+    mended = errors_of(cluster, pool.ring[BAD]) == met
     if cluster.stopped():
         raise Failed(f'{name}: OSDs {cluster.stopped()} stopped')
     pool.close()
-    return got
+    return got, mended
 
 
 def trap(cluster, make, name, reads):

@@ -152,8 +152,9 @@ def with_eio(cluster):
     """The default bears an EIO of a helper; partial reads do with Ceph's option, at the price of clients' reads."""
     for name, reads, option, means in (('whole', {}, False, 'the bytes'),
                                        ('partial', {'reads': 'partial'}, True, 'EIO')):
-        got = eio.survives(cluster, Pool, f'eio-{name}', reads, option)
-        say(f'EIO of a helper, {name} reads, {eio.OPTION} {option}: rebuilt, no OSD stopped; a client reads {got}')
+        got, mended = eio.survives(cluster, Pool, f'eio-{name}', reads, option)
+        say(f'EIO of a helper, {name} reads, {eio.OPTION} {option}: rebuilt, no OSD stopped, a client reads {got}; '
+            f'the bad shard is {"mended" if mended else "left bad"}')
         if got != means:
             raise Failed(f'docs/CEPH.md says that a client reads {means}')
 
