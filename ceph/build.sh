@@ -11,6 +11,6 @@ runs=$(ceph --version | cut -d' ' -f3)
 [ "$runs" = "$version" ] || { echo "build.sh: the source is Ceph $version, the ceph that runs is $runs" >&2; exit 1; }
 sed -e "s/@CEPH_GIT_VER@/$hash/; s/@CEPH_GIT_NICE_VER@/$version/; /CEPH_RELEASE/d" "$tree/src/ceph_ver.h.in.cmake" \
   >"$gen/ceph_ver.h"
-flags="-std=c++20 -O2 -fPIC -DHAVE_CONFIG_H -D__CEPH__ -D_REENTRANT -D_THREAD_SAFE -D__STDC_FORMAT_MACROS"
+flags="-std=c++20 ${CXXFLAGS:--O2} -fPIC -DHAVE_CONFIG_H -D__CEPH__ -D_REENTRANT -D_THREAD_SAFE -D__STDC_FORMAT_MACROS"
 g++ $flags -Wall -Wextra -Werror -shared -fvisibility=hidden -I"$gen" -isystem "$tree/src" -I"$here/../include" \
   "$here/ErasureCodeCuzhaveli.cc" "$lib" -Wl,--exclude-libs,ALL -o "$out"

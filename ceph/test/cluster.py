@@ -166,6 +166,12 @@ class Cluster:
             total += store['buffer_hit_bytes'] + store['buffer_miss_bytes']
         return total
 
+    def counted(self, osds):
+        """What the OSDs have read, and the epoch of the cluster's map, once all of them have it."""
+        epoch = self.command('osd dump')['epoch']
+        wait('the newest map', lambda: all(self.tell(osd, 'status')['newest_map'] >= epoch for osd in osds))
+        return self.bytes_read(osds), epoch
+
     # pools
 
     def make_pool(self, name, k, profile):

@@ -170,6 +170,13 @@ static void defaults()
   for (int d = 1; d <= 8; d++)
     eight[d] = {{0, 11}};
   MUST(code->minimum_to_decode({0}, {1, 2, 3, 4, 5, 6, 7, 8, 9}, &least) == 0 && least == eight); // whole, and not Q
+  string text(100, 'x'), nothing(11 * 4096, '\0'), first = text + nothing.substr(100);
+  bufferlist film; // shorter than a chunk: filled up with zeros, so P is the first chunk
+  film.append(text);
+  map<int, bufferlist> chunks;
+  MUST(code->encode({0, 1, 7, 8}, film, &chunks) == 0 && chunks.size() == 4);
+  MUST(chunks[0].to_str() == first && chunks[1].to_str() == nothing && chunks[7].to_str() == nothing);
+  MUST(chunks[8].to_str() == first);
 }
 
 static void refusals()

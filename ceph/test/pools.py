@@ -71,7 +71,8 @@ def degrade(pool, lost, other):
 
 
 def rebuild(pool, lost):
-    """The OSD of that shard gets an empty drive; gives the bytes read to rebuild a shard over the bytes of a shard."""
+    """The OSD of that shard gets an empty drive; gives the bytes read to rebuild a shard over the bytes of a shard. What
+    OSDs read of their own maps is taken off: so much for a change of the map as for changes that mean nothing."""
     cluster = pool.cluster
     x = pool.ring[lost]
     if cluster.osds[x].poll() is None:
@@ -79,10 +80,15 @@ def rebuild(pool, lost):
     cluster.new_drives([x])
     cluster.wait_state(pool.pg, 'active', 'degraded')
     helpers = [osd for osd, child in cluster.osds.items() if osd != x and child.poll() is None]
-    before = cluster.bytes_read(helpers)
+    start = cluster.counted(helpers)
+    for change in ('osd set', 'osd unset') * 2:
+        cluster.command(change, key='nosnaptrim')
+    idle = cluster.counted(helpers)
     cluster.flags(False)
     cluster.wait_state(pool.pg, 'active', 'clean')
-    return (cluster.bytes_read(helpers) - before) / (pool.shard * len(pool.objects))
+    end = cluster.counted(helpers)
+    of_maps = (idle[0] - start[0]) / (idle[1] - start[1]) * (end[1] - idle[1])
+    return (end[0] - idle[0] - of_maps) / (pool.shard * len(pool.objects))
 
 
 def deep_scrub(pool):
