@@ -17,6 +17,7 @@ OBJECTS = 8
 OBJECT_BYTES = 8 << 20  # about so many, in whole stripes
 PAPER = {5: '24.0', 7: '24.4', 11: '24.9'}  # % saved, document 000
 PAPER_CELLS = {8: '24.8', 32: '24.8', 136: '24.8'}  # KiB of a cell, k = 11
+TOLERANCE = 0.03  # of what is counted, which has a few reads of other things in it
 start = time.monotonic()
 
 
@@ -29,6 +30,14 @@ def chunk_size(profile, k):
     text = ','.join(f'{a}={b}' for a, b in {'k': k, 'm': 2, **profile}.items())
     out = subprocess.run(['ceph-erasure-code-tool', 'calc-chunk-size', text, str(k)], capture_output=True, text=True)
     return int(out.stdout.split()[-1])
+
+
+def hold(name, k, read):
+    """The shards read for a lost data shard must be those that the code reads."""
+    busiest = -(-(3 * k - 1) // 4)
+    wanted = {'jerasure': k, 'whole': k, 'clay': (k + 1) / 2, 'partial': (k + 1) * busiest / k}[name]
+    if abs(read / wanted - 1) > TOLERANCE:
+        raise Failed(f'{name}, k {k}: {read:.3f} shards read for a lost data shard, not {wanted:.3f}')
 
 
 class Pool:
@@ -138,6 +147,7 @@ def by_codes(cluster, k):
     read = {}
     for number, (name, profile, unit, ours) in enumerate(profiles(k)):
         read[name] = try_pool(cluster, f'{name}{k}', k, profile, unit, 1 + number, ours)
+        hold(name, k, read[name])
     row = [f'{read[name]:.1f}' for name in ('jerasure', 'whole', 'partial', 'clay')]
     saved = 100 * (1 - read['partial'] / read['jerasure'])
     return f'| {k} | ' + ' | '.join(row) + f' | {saved:.1f} % | {PAPER[k]} % |'
@@ -151,6 +161,7 @@ def by_cells(cluster, k, kib):
     pool.check('after the rebuild')
     pool.close()
     say(f'k {k}, cells of {kib} KiB: {read:.3f} shards read')
+    hold('partial', k, read)
     return f'| {kib} KiB | {read:.1f} | {100 * (1 - read / k):.1f} % | {PAPER_CELLS[kib]} % |'
 
 
