@@ -19,6 +19,8 @@
 #   make conformance IMPL=FILE   compares your code, a .c, .a or .so that offers functions of conformance/yours.h, with the library;
 #                                IMPL_CFLAGS= IMPL_LIBS= what it needs, OPTIONS= options of the runner (docs/TEST-YOURS.md); that
 #                                kit and the vectors are installed in share/cuzhaveli
+#   make ceph-test CEPH_DIR=     tests the plugin for Ceph, as root, in a Debian 13 chroot in CEPH_DIR, build/ceph if not given
+#                                (docs/CEPH.md); outside the gate
 #   make clean                   removes build/
 
 VERSION = 1.0.0
@@ -207,6 +209,12 @@ install-servers: $(servers)
 uninstall: uninstall-servers
 uninstall-servers:
 	rm -f "$(DESTDIR)$(PREFIX)/bin/cuzhaveli-fuse" "$(DESTDIR)$(NBDKIT_PLUGINS)/nbdkit-cuzhaveli-plugin.so"
+
+# The plugin for Ceph, in a chroot that is made once.
+CEPH_DIR = build/ceph
+.PHONY: ceph-test
+ceph-test: $(or $(fast),build/libcuzhaveli.a)
+	@ceph/test/run $(CEPH_DIR) $<
 
 clean:
 	rm -rf build
