@@ -1,3 +1,4 @@
+// SPDX-License-Identifier: Apache-2.0
 // A plugin for Ceph's erasure-coded pools over libcuzhaveli.a, compiled against the headers of the very Ceph that loads
 // it. docs/CEPH.md tells how to build and use it, what is proved, and why reads are whole unless the profile asks.
 //
