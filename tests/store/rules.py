@@ -139,7 +139,8 @@ def new_disks(setting):
     good, old = shelf.state(), shelf.drives[1]
     shelf.drives[1] = shelf.drive()
     view = shelf.view()
-    shelf.call("rebuild", view, status=0)
+    done = shelf.call("rebuild", view, status=1)
+    expect(b"disk 1 still to be rebuilt" in done.err and b"--new DISK" in done.err, done.told())
     expect(not any(shelf.drives[1].iterdir()), "an empty folder was written that was not named")
     (shelf.drives[1] / "mine").write_bytes(b"mine")
     done = shelf.call("rebuild", "--new", 1, view, status=4)

@@ -77,7 +77,9 @@ fn run(given: &Given) -> Result<(), Fault> {
             Err(Fault::Images("none of these is a store of which a disk is there".into()))
         }
         (0, 0) => Ok(()),
-        (0, _) => Err(Fault::No("rebuild: cuzhaveli rebuild STORE".into())),
+        (0, _) => Err(Fault::No(
+            "rebuild: cuzhaveli rebuild STORE, for a new, empty disk with --new DISK".into(),
+        )),
         _ => Err(Fault::Images("stores past saving, unless disks come back: mount them".into())),
     }
 }

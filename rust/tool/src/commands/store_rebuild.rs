@@ -66,6 +66,7 @@ pub fn run(given: &Given) -> Result<(), Fault> {
     let done = change.commit(store.catalogue.packages.clone())?;
     let cents = cents(given, rates, total.read)?;
     let (text, beyond) = (total.text("Rebuilt", given, cents), total.beyond.len());
+    let lacking = (!done.0.lack.is_empty()).then(|| done.0.lacking());
     acknowledge(given, done, total.object(beyond == 0, cents), text)?;
     if beyond > 0 {
         return Err(Fault::Beyond(format!(
@@ -74,7 +75,14 @@ pub fn run(given: &Given) -> Result<(), Fault> {
             folder.display()
         )));
     }
-    Ok(())
+    match lacking {
+        None => Ok(()),
+        Some(disks) => Err(Fault::No(format!(
+            "{}: {disks} still to be rebuilt: mount it, or name a new, empty one: \
+             cuzhaveli rebuild --new DISK {0}",
+            folder.display()
+        ))),
+    }
 }
 
 /// The price of bytes that were read, if there are rates.
