@@ -18,9 +18,10 @@ def manual_text(path):
 
 
 def synopsis():
-    """The lines of the manual's synopsis, without the program's name."""
-    text = manual_text(TOP / "docs/cuzhaveli.1").split(".SH SYNOPSIS\n.nf\n")[1].split(".fi")[0]
-    return [line.removeprefix("cuzhaveli ") for line in text.splitlines()]
+    """The synopsis of each command that the manual lists, from its own page, without the program's name."""
+    names = re.findall(r"^\.B cuzhaveli-(\w+)\(1\)$", manual_text(TOP / "docs/cuzhaveli.1"), re.M)
+    pages = (manual_text(TOP / f"docs/cuzhaveli-{name}.1") for name in names)
+    return [page.split(".SH SYNOPSIS\n.nf\ncuzhaveli ")[1].split("\n.fi")[0] for page in pages]
 
 
 def one_table(setting):

@@ -26,29 +26,29 @@ complete -c cuzhaveli -n '__fish_seen_subcommand_from create' -s k -x -a '' -d '
 complete -c cuzhaveli -n '__fish_seen_subcommand_from create' -s s -x -a '' -d 'the bytes of a cell, 1 to 4096; 4096 if it is not given'
 complete -c cuzhaveli -n '__fish_seen_subcommand_from create' -s u -x -a '' -d 'the stripes that are verified together: 1, or up to 32768 / CELL'
 complete -c cuzhaveli -n '__fish_seen_subcommand_from create' -s g -x -a '' -d 'the stripes that lie together, a multiple of UNIT up to 65536'
-complete -c cuzhaveli -n '__fish_seen_subcommand_from create' -l json -d 'tell the figures as one JSON object on a line of its own, for programs'
+complete -c cuzhaveli -n '__fish_seen_subcommand_from create' -l json -d 'the figures as one JSON object, on one line'
 complete -c cuzhaveli -n '__fish_seen_subcommand_from create' -l same-device -d 'the folders may be on one device, and are made; for trials'
 complete -c cuzhaveli -n '__fish_seen_subcommand_from create' -F
 complete -c cuzhaveli -n '__fish_seen_subcommand_from put' -s q -d 'no progress'
-complete -c cuzhaveli -n '__fish_seen_subcommand_from put' -l json -d 'tell the figures as one JSON object on a line of its own, for programs'
+complete -c cuzhaveli -n '__fish_seen_subcommand_from put' -l json -d 'the figures as one JSON object, on one line'
 complete -c cuzhaveli -n '__fish_seen_subcommand_from put' -s n -d 'only say what it would take'
 complete -c cuzhaveli -n '__fish_seen_subcommand_from put' -F
 complete -c cuzhaveli -n '__fish_seen_subcommand_from put' -a ''
 complete -c cuzhaveli -n '__fish_seen_subcommand_from put' -F
-complete -c cuzhaveli -n '__fish_seen_subcommand_from list' -l json -d 'tell the figures as one JSON object on a line of its own, for programs'
+complete -c cuzhaveli -n '__fish_seen_subcommand_from list' -l json -d 'the figures as one JSON object, on one line'
 complete -c cuzhaveli -n '__fish_seen_subcommand_from list' -F
 complete -c cuzhaveli -n '__fish_seen_subcommand_from list' -a ''
 complete -c cuzhaveli -n '__fish_seen_subcommand_from get' -s q -d 'no progress'
-complete -c cuzhaveli -n '__fish_seen_subcommand_from get' -l json -d 'tell the figures as one JSON object on a line of its own, for programs'
+complete -c cuzhaveli -n '__fish_seen_subcommand_from get' -l json -d 'the figures as one JSON object, on one line'
 complete -c cuzhaveli -n '__fish_seen_subcommand_from get' -F
 complete -c cuzhaveli -n '__fish_seen_subcommand_from get' -a ''
 complete -c cuzhaveli -n '__fish_seen_subcommand_from get' -a ''
 complete -c cuzhaveli -n '__fish_seen_subcommand_from get' -F
-complete -c cuzhaveli -n '__fish_seen_subcommand_from remove' -l json -d 'tell the figures as one JSON object on a line of its own, for programs'
+complete -c cuzhaveli -n '__fish_seen_subcommand_from remove' -l json -d 'the figures as one JSON object, on one line'
 complete -c cuzhaveli -n '__fish_seen_subcommand_from remove' -F
 complete -c cuzhaveli -n '__fish_seen_subcommand_from remove' -a ''
 complete -c cuzhaveli -n '__fish_seen_subcommand_from patch' -s q -d 'no progress'
-complete -c cuzhaveli -n '__fish_seen_subcommand_from patch' -l json -d 'tell the figures as one JSON object on a line of its own, for programs'
+complete -c cuzhaveli -n '__fish_seen_subcommand_from patch' -l json -d 'the figures as one JSON object, on one line'
 complete -c cuzhaveli -n '__fish_seen_subcommand_from patch' -l at -x -a '' -d 'the first byte that is replaced'
 complete -c cuzhaveli -n '__fish_seen_subcommand_from patch' -F
 complete -c cuzhaveli -n '__fish_seen_subcommand_from patch' -a ''
@@ -59,7 +59,7 @@ complete -c cuzhaveli -n '__fish_seen_subcommand_from mount' -l cache -x -a '' -
 complete -c cuzhaveli -n '__fish_seen_subcommand_from mount' -l foreground -d 'do not return, but serve, and tell on standard error what cannot be read'
 complete -c cuzhaveli -n '__fish_seen_subcommand_from mount' -F
 complete -c cuzhaveli -n '__fish_seen_subcommand_from mount' -F
-complete -c cuzhaveli -n '__fish_seen_subcommand_from board' -l json -d 'tell the figures as one JSON object on a line of its own, for programs'
+complete -c cuzhaveli -n '__fish_seen_subcommand_from board' -l json -d 'the figures as one JSON object, on one line'
 complete -c cuzhaveli -n '__fish_seen_subcommand_from board' -l list -r -F -d 'a file with a store a line; lines that begin with # are passed over'
 complete -c cuzhaveli -n '__fish_seen_subcommand_from board' -F
 complete -c cuzhaveli -n '__fish_seen_subcommand_from encode' -s p -x -a '' -d 'the rows of a stripe: 3, 5, 7, 11, 13, 17, 19, 23, 29 or 31'
@@ -68,26 +68,26 @@ complete -c cuzhaveli -n '__fish_seen_subcommand_from encode' -s s -x -a '' -d '
 complete -c cuzhaveli -n '__fish_seen_subcommand_from encode' -s u -x -a '' -d 'the stripes that are verified together: 1, or up to 32768 / CELL'
 complete -c cuzhaveli -n '__fish_seen_subcommand_from encode' -s g -x -a '' -d 'the stripes that lie together, a multiple of UNIT up to 65536'
 complete -c cuzhaveli -n '__fish_seen_subcommand_from encode' -s q -d 'no progress'
-complete -c cuzhaveli -n '__fish_seen_subcommand_from encode' -l json -d 'tell the figures as one JSON object on a line of its own, for programs'
+complete -c cuzhaveli -n '__fish_seen_subcommand_from encode' -l json -d 'the figures as one JSON object, on one line'
 complete -c cuzhaveli -n '__fish_seen_subcommand_from encode' -l overwrite -r -F -d 'this drive may be written, whatever is on it'
 complete -c cuzhaveli -n '__fish_seen_subcommand_from encode' -F
 complete -c cuzhaveli -n '__fish_seen_subcommand_from encode' -F
 complete -c cuzhaveli -n '__fish_seen_subcommand_from decode' -s q -d 'no progress'
-complete -c cuzhaveli -n '__fish_seen_subcommand_from decode' -l json -d 'tell the figures as one JSON object on a line of its own, for programs'
+complete -c cuzhaveli -n '__fish_seen_subcommand_from decode' -l json -d 'the figures as one JSON object, on one line'
 complete -c cuzhaveli -n '__fish_seen_subcommand_from decode' -l overwrite -r -F -d 'this drive may be written, whatever is on it'
 complete -c cuzhaveli -n '__fish_seen_subcommand_from decode' -F
 complete -c cuzhaveli -n '__fish_seen_subcommand_from decode' -F
-complete -c cuzhaveli -n '__fish_seen_subcommand_from info' -l json -d 'tell the figures as one JSON object on a line of its own, for programs'
+complete -c cuzhaveli -n '__fish_seen_subcommand_from info' -l json -d 'the figures as one JSON object, on one line'
 complete -c cuzhaveli -n '__fish_seen_subcommand_from info' -F
 complete -c cuzhaveli -n '__fish_seen_subcommand_from check' -s q -d 'no progress'
-complete -c cuzhaveli -n '__fish_seen_subcommand_from check' -l json -d 'tell the figures as one JSON object on a line of its own, for programs'
+complete -c cuzhaveli -n '__fish_seen_subcommand_from check' -l json -d 'the figures as one JSON object, on one line'
 complete -c cuzhaveli -n '__fish_seen_subcommand_from check' -l rate -x -a '' -d 'read no more than BYTES a second of each disk, so that screens can play meanwhile'
 complete -c cuzhaveli -n '__fish_seen_subcommand_from check' -l from -x -a '' -d 'begin at this stripe; of a set only'
 complete -c cuzhaveli -n '__fish_seen_subcommand_from check' -F
 complete -c cuzhaveli -n '__fish_seen_subcommand_from rebuild' -s q -d 'no progress'
-complete -c cuzhaveli -n '__fish_seen_subcommand_from rebuild' -l json -d 'tell the figures as one JSON object on a line of its own, for programs'
+complete -c cuzhaveli -n '__fish_seen_subcommand_from rebuild' -l json -d 'the figures as one JSON object, on one line'
 complete -c cuzhaveli -n '__fish_seen_subcommand_from rebuild' -s n -d 'only say which bytes of cells it would read if nothing of it were there'
-complete -c cuzhaveli -n '__fish_seen_subcommand_from rebuild' -l plan -r -F -a 'balanced own rows' -d 'the plan for one lost data disk: balanced, of which no survivor gives more than it must; own, which the library'\''s usual call takes; rows, every row as row parity alone would need, for comparison; or a file with a plan, as cuzhaveli-judge(1) takes it (- for standard input). If it is not given, balanced where it reads as few cells as own, else own'
+complete -c cuzhaveli -n '__fish_seen_subcommand_from rebuild' -l plan -r -F -a 'balanced own rows' -d 'the plan for one lost data disk: balanced, of which no survivor gives more than it must; own, the library'\''s usual one; rows, as row parity alone, for comparison; or a file with a plan, as cuzhaveli-judge(1) takes it (- for standard input). If it is not given, balanced where it reads as few cells as own, else own'
 complete -c cuzhaveli -n '__fish_seen_subcommand_from rebuild' -l relieve -x -a 'P Q' -d 'the plan that asks the least of this data disk, one that is slow, failing or playing'
 complete -c cuzhaveli -n '__fish_seen_subcommand_from rebuild' -l test -d 'read all survivors, and rebuild a stripe only if they belong together; stop at the first one where they do not (refusal 19)'
 complete -c cuzhaveli -n '__fish_seen_subcommand_from rebuild' -l rate -x -a '' -d 'read no more than BYTES a second of each disk, so that screens can play meanwhile'
@@ -98,7 +98,7 @@ complete -c cuzhaveli -n '__fish_seen_subcommand_from rebuild' -l from -r -F -d 
 complete -c cuzhaveli -n '__fish_seen_subcommand_from rebuild' -l overwrite -r -F -d 'this drive may be written, whatever is on it'
 complete -c cuzhaveli -n '__fish_seen_subcommand_from rebuild' -F
 complete -c cuzhaveli -n '__fish_seen_subcommand_from repair' -s q -d 'no progress'
-complete -c cuzhaveli -n '__fish_seen_subcommand_from repair' -l json -d 'tell the figures as one JSON object on a line of its own, for programs'
+complete -c cuzhaveli -n '__fish_seen_subcommand_from repair' -l json -d 'the figures as one JSON object, on one line'
 complete -c cuzhaveli -n '__fish_seen_subcommand_from repair' -l rate -x -a '' -d 'read no more than BYTES a second of each disk, so that screens can play meanwhile'
 complete -c cuzhaveli -n '__fish_seen_subcommand_from repair' -l overwrite -r -F -d 'this drive may be written, whatever is on it'
 complete -c cuzhaveli -n '__fish_seen_subcommand_from repair' -F
@@ -107,14 +107,14 @@ complete -c cuzhaveli -n '__fish_seen_subcommand_from plan' -s k -x -a '' -d 'th
 complete -c cuzhaveli -n '__fish_seen_subcommand_from plan' -s d -x -a 'P Q' -d 'the lost disk: its number, P or Q'
 complete -c cuzhaveli -n '__fish_seen_subcommand_from plan' -l balanced -d 'the plan of which no survivor gives more than it must'
 complete -c cuzhaveli -n '__fish_seen_subcommand_from plan' -l relieve -x -a 'P Q' -d 'the plan that asks the least of this data disk'
-complete -c cuzhaveli -n '__fish_seen_subcommand_from plan' -l json -d 'tell the figures as one JSON object on a line of its own, for programs'
+complete -c cuzhaveli -n '__fish_seen_subcommand_from plan' -l json -d 'the figures as one JSON object, on one line'
 complete -c cuzhaveli -n '__fish_seen_subcommand_from plan' -l svg -d 'the picture as SVG'
 complete -c cuzhaveli -n '__fish_seen_subcommand_from plan' -l text -d 'the steps of the plan as the text that judge reads'
 complete -c cuzhaveli -n '__fish_seen_subcommand_from plan' -l csv -d 'the steps of our plan as the plan program prints them, for as many data disks as WIDTH'
 complete -c cuzhaveli -n '__fish_seen_subcommand_from judge' -s p -x -a '' -d 'the rows of a stripe: 3, 5, 7, 11, 13, 17, 19, 23, 29 or 31'
 complete -c cuzhaveli -n '__fish_seen_subcommand_from judge' -s k -x -a '' -d 'the data disks, 2 to WIDTH; WIDTH if it is not given'
 complete -c cuzhaveli -n '__fish_seen_subcommand_from judge' -s d -x -a 'P Q' -d 'the lost disk: its number, P or Q'
-complete -c cuzhaveli -n '__fish_seen_subcommand_from judge' -l json -d 'tell the figures as one JSON object on a line of its own, for programs'
+complete -c cuzhaveli -n '__fish_seen_subcommand_from judge' -l json -d 'the figures as one JSON object, on one line'
 complete -c cuzhaveli -n '__fish_seen_subcommand_from judge' -F
 complete -c cuzhaveli -n '__fish_seen_subcommand_from stripe' -s p -x -a '' -d 'the rows of a stripe: 3, 5, 7, 11, 13, 17, 19, 23, 29 or 31'
 complete -c cuzhaveli -n '__fish_seen_subcommand_from stripe' -s k -x -a '' -d 'the data disks, 2 to WIDTH; WIDTH if it is not given'
@@ -127,7 +127,7 @@ complete -c cuzhaveli -n '__fish_seen_subcommand_from stripe' -l row -x -a '' -d
 complete -c cuzhaveli -n '__fish_seen_subcommand_from stripe' -l servers -x -a '' -d 'of server-write and server-rebuild: the servers without the parity server, 2 to 16'
 complete -c cuzhaveli -n '__fish_seen_subcommand_from stripe' -l server -x -a '' -d 'of server-rebuild: the lost server, 0 to M'
 complete -c cuzhaveli -n '__fish_seen_subcommand_from stripe' -l loss -x -a '' -d 'of server-rebuild: a lost disk D of another server S, at most two of each'
-complete -c cuzhaveli -n '__fish_seen_subcommand_from stripe' -l json -d 'tell the figures as one JSON object on a line of its own, for programs'
+complete -c cuzhaveli -n '__fish_seen_subcommand_from stripe' -l json -d 'the figures as one JSON object, on one line'
 complete -c cuzhaveli -n '__fish_seen_subcommand_from stripe' -a 'encode check scrub rebuild rebuild-cells update server-write server-rebuild'
 complete -c cuzhaveli -n '__fish_seen_subcommand_from space' -s p -x -a '' -d 'the rows of a stripe: 3, 5, 7, 11, 13, 17, 19, 23, 29 or 31'
 complete -c cuzhaveli -n '__fish_seen_subcommand_from space' -s k -x -a '' -d 'the data disks, 2 to WIDTH; WIDTH if it is not given'
@@ -135,13 +135,13 @@ complete -c cuzhaveli -n '__fish_seen_subcommand_from space' -s s -x -a '' -d 't
 complete -c cuzhaveli -n '__fish_seen_subcommand_from space' -l images -d 'count the images that encode would write, a set a file, with labels, checksums and what is filled up; -u and -g do so too'
 complete -c cuzhaveli -n '__fish_seen_subcommand_from space' -s u -x -a '' -d 'the stripes that are verified together: 1, or up to 32768 / CELL'
 complete -c cuzhaveli -n '__fish_seen_subcommand_from space' -s g -x -a '' -d 'the stripes that lie together, a multiple of UNIT up to 65536'
-complete -c cuzhaveli -n '__fish_seen_subcommand_from space' -l json -d 'tell the figures as one JSON object on a line of its own, for programs'
+complete -c cuzhaveli -n '__fish_seen_subcommand_from space' -l json -d 'the figures as one JSON object, on one line'
 complete -c cuzhaveli -n '__fish_seen_subcommand_from space' -l free -x -a '' -d 'the bytes that each disk has free'
 complete -c cuzhaveli -n '__fish_seen_subcommand_from space' -l bytes -x -a '' -d 'so many bytes'
 complete -c cuzhaveli -n '__fish_seen_subcommand_from space' -F
 complete -c cuzhaveli -n '__fish_seen_subcommand_from bill' -l rates -x -a '' -d 'cents a GiB, three numbers up to 1000: for the first 64 GiB, up to 1,024 GiB, and for the rest'
 complete -c cuzhaveli -n '__fish_seen_subcommand_from bill' -l bytes -x -a '' -d 'so many bytes'
-complete -c cuzhaveli -n '__fish_seen_subcommand_from bill' -l json -d 'tell the figures as one JSON object on a line of its own, for programs'
+complete -c cuzhaveli -n '__fish_seen_subcommand_from bill' -l json -d 'the figures as one JSON object, on one line'
 complete -c cuzhaveli -n '__fish_seen_subcommand_from help' -l man -d 'the manual page'
 complete -c cuzhaveli -n '__fish_seen_subcommand_from help' -l completion -x -a 'bash zsh fish' -d 'a script that completes command lines in bash, zsh or fish'
 complete -c cuzhaveli -n '__fish_seen_subcommand_from help' -a 'create put list get remove patch mount board encode decode info check rebuild repair plan judge stripe space bill help'

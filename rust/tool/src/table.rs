@@ -190,7 +190,7 @@ pub mod words {
     pub const JSON: Opt = Opt {
         name: "--json",
         value: None,
-        about: "tell the figures as one JSON object on a line of its own, for programs",
+        about: "the figures as one JSON object, on one line",
     };
     pub const RATE: Opt = Opt {
         name: "--rate",

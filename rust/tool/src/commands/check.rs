@@ -41,10 +41,9 @@ pub const COMMAND: Command = Command {
             "found",
             "what is wrong, each with what: lost (disk, and why: missing, unfinished or foreign), \
              label (disk, and which: first or last), bad (a piece, the cells of a disk's row of \
-             count stripes from stripe on, and why: sum if it does not fit its checksum, read if \
-             it cannot be read), block (bad checksums of a disk, or other bytes than zeros after \
+             count stripes from stripe on, and why: its sum, or a failed read), block (bad checksums of a disk, or other bytes than zeros after \
              them: stripe, count), beyond (stripes that cannot be made right: stripe, count, disks \
-             that are lost or bad there, none if no image has their checksums), dirty (a stripe \
+             that are lost or bad there), dirty (a stripe \
              whose cells fit their checksums and not its parity: stripe, disks, the one whose \
              cells alone explain it, or none if several are needed); of a store label, bad, block, \
              beyond and dirty have the file too, and there are stale (disk, and its generation, 0 \

@@ -51,10 +51,10 @@ pub const COMMAND: Command = Command {
             Use::Opt(&Opt {
                 name: "--plan",
                 value: Some(("PLAN", Kind::WordOrFile(PLANS))),
-                about: "the plan for one lost data disk: balanced, of which no survivor gives more than it must; own, which \
-                        the library's usual call takes; rows, every row as row parity alone would need, for comparison; or a \
-                        file with a plan, as cuzhaveli-judge(1) takes it (- for standard input). If it is not given, \
-                        balanced where it reads as few cells as own, else own",
+                about: "the plan for one lost data disk: balanced, of which no survivor gives more than it must; own, the \
+                        library's usual one; rows, as row parity alone, for comparison; or a file with a plan, as \
+                        cuzhaveli-judge(1) takes it (- for standard input). If it is not given, balanced where it reads \
+                        as few cells as own, else own",
             }),
             Use::Opt(&Opt {
                 name: "--relieve",
@@ -93,16 +93,15 @@ pub const COMMAND: Command = Command {
         ("images", "of a store: the images that were rebuilt, or would be"),
         (
             "plan",
-            "of a set: how they come back: balanced, own, relief, file, rows, tested; two where \
-             two are lost, none where none is",
+            "of a set: how they come back: balanced, own, relief, file, rows, tested, two or none",
         ),
         ("done", "whether the images are there now; false with -n"),
         ("stripes", "the stripes that this call rebuilt, or would"),
         ("kept", "those that an earlier one had"),
         (
             "read",
-            "the bytes that were read of the survivors, cells and checksums; with -n of cells, if \
-             nothing is there yet",
+            "the bytes that were read of the survivors; with -n of cells alone, if nothing is \
+             there yet",
         ),
         ("rows", "of a set: the bytes that all rows of the rebuilt stripes have"),
         ("busiest", "of a set: the bytes of the survivor of which the most were read"),
