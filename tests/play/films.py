@@ -107,7 +107,8 @@ def every_loss(setting):
         film = kept(setting, length)
         images = setting.encoded_file(film, p, k, s, group, unit=unit)
         for lost in losses(k + 2):
-            with Player(setting, film, without(setting, images, lost)) as player:
+            limit = 1 if count % 4 == 1 else 32 << 20  # memory of a unit taken over by the next, or not
+            with Player(setting, film, without(setting, images, lost), limit=limit) as player:
                 for task in ("random 1 40 5000 4", f"all {s * 3 + 1}", "all 300000"):
                     total += player.right(task, f"p = {p}, k = {k}, lost {lost}")
             count += 1
