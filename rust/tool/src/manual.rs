@@ -1,11 +1,15 @@
 //! The table as manual pages, in the language of man(7).
 
+use cuzhaveli::RefusalKind;
+
 use crate::commands::COMMANDS;
 use crate::table::Command;
 
 /// What no entry of the table says: what the program is, and what it keeps.
 const DESCRIPTION: &str = include_str!("manual/description.man");
 const CHAPTERS: &str = include_str!("manual/chapters.man");
+/// Where in the chapters the table of refusals goes.
+const REFUSALS: &str = "@REFUSALS@\n";
 
 /// Text as man takes it.
 fn plain(text: &str) -> String {
@@ -26,6 +30,12 @@ fn head(name: &str) -> String {
     format!("'\\\" t\n.\\\" Made by `make manual` from the table of commands.\n.TH {name} 1 \"\" \"cuzhaveli {version}\" \"User Commands\"\n.nh\n")
 }
 
+/// The library's refusals, from the crate's table.
+fn refusals() -> String {
+    let row = |kind: RefusalKind| format!("{}\tT{{\n{}\nT}}\n", kind as u8, plain(kind.text()));
+    format!(".TS\nr lx.\n{}.TE\n", RefusalKind::all().map(row).collect::<String>())
+}
+
 fn synopsis(command: &Command) -> String {
     plain(&format!("cuzhaveli {}", command.line())) + "\n"
 }
@@ -41,8 +51,9 @@ pub fn whole() -> String {
         COMMANDS.iter().map(|command| (format!("cuzhaveli-{}(1)", command.name), command.brief));
     let name =
         plain("cuzhaveli - images of disks, encoded, checked, rebuilt with few reads, in a full array the fewest");
+    let chapters = CHAPTERS.replacen(REFUSALS, &refusals(), 1);
     format!(
-        "{}.SH NAME\n{}\n.SH SYNOPSIS\ncuzhaveli COMMAND [WORD]...\n{DESCRIPTION}.SH COMMANDS\n{}{CHAPTERS}",
+        "{}.SH NAME\n{}\n.SH SYNOPSIS\ncuzhaveli COMMAND [WORD]...\n{DESCRIPTION}.SH COMMANDS\n{}{chapters}",
         head("cuzhaveli"),
         name,
         list(commands)
@@ -63,8 +74,7 @@ pub fn of(command: &Command) -> String {
     }
     let fields = list(command.tells.iter().map(|(name, about)| (name.to_string(), *about)));
     if !fields.is_empty() {
-        page +=
-            &format!(".SH JSON\n{fields}");
+        page += &format!(".SH JSON\n{fields}");
     }
     page + ".SH SEE ALSO\n.BR cuzhaveli (1)\n"
 }

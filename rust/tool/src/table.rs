@@ -187,11 +187,8 @@ pub mod words {
         about: "the lost disk: its number, P or Q",
     };
     pub const QUIET: Opt = Opt { name: "-q", value: None, about: "no progress" };
-    pub const JSON: Opt = Opt {
-        name: "--json",
-        value: None,
-        about: "the figures as one JSON object, on one line",
-    };
+    pub const JSON: Opt =
+        Opt { name: "--json", value: None, about: "the figures as one JSON object, on one line" };
     pub const RATE: Opt = Opt {
         name: "--rate",
         value: Some(("BYTES", Kind::Number)),
