@@ -90,10 +90,18 @@ def read_exports(paths):
     return calls
 
 
+def with_lengths(text, shared):
+    """A file's text with numbers for the constants that are lengths of arrays: its own, else those that it takes from others."""
+    lengths = {**shared, **dict(re.findall(r"const (\w+): usize = (\d+);", text))}
+    return re.sub(r"\[(\w+); ([A-Z_]+)\]", lambda array: f"[{array[1]}; {lengths.get(array[2], array[2])}]", text)
+
+
 def read_rattle():
     calls, structs = read_exports(EXPORTS), {}
-    for path in sorted(TOP.glob("crates/*/src/*.rt")):
-        text = without_comments(path.read_text())
+    texts = [without_comments(path.read_text()) for path in sorted(TOP.glob("crates/*/src/*.rt"))]
+    shared = dict(pair for text in texts for pair in re.findall(r"pub const (\w+): usize = (\d+);", text))
+    for text in texts:
+        text = with_lengths(text, shared)
         for name, fields in re.findall(r"#\[repr\(C\)\]\s*pub struct (\w+)\s*\{(.*?)\}", text, re.S):
             structs[name] = [named(item) for item in split_list(fields)]
     return calls, used(calls, structs)
