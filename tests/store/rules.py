@@ -27,6 +27,11 @@ def too_few_disks(setting):
                 expect(shelf.state() == before, f"k {k}: changed with {seen} disks")
             found = shelf.get("a", view)
             expect(found == (OLD if seen >= max(k, shelf.readers) else REFUSED), f"k {k}, {seen} disks: {str(found)[:50]}")
+            if shelf.readers <= seen < k:
+                to = setting.new()
+                done = shelf.call("get", view, "a", to, status=5)
+                left = [path.name for path in to.parent.iterdir() if path.name.startswith(to.name)]
+                expect(b"cuzhaveli mount" in done.err and not left, f"{left} is left of a package of which all is lost: {done.told()}")
     return "3 stores, any number of disks"
 
 
@@ -94,6 +99,8 @@ def unsure(setting):
         for disk in (0, 1, 2):
             out_of("catalogue.new", shelf.drives[disk])
         expect(shelf.get("a") in (OLD, NEW), "neither the old nor the new")
+        done = shelf.told("check", shelf.folder, status=1)
+        expect(done["found"] and b"cuzhaveli rebuild" in done.err, f"disks that differ are not told: {done.told()}")
         shelf.put("a", NEW)
         expect(shelf.get("a") == NEW and len(shelf.images(0)) == 1, "not settled")
         for disk in (0, 1, 2):

@@ -47,7 +47,7 @@ pub const COMMAND: Command = Command {
              whose cells fit their checksums and not its parity: stripe, disks, the one whose \
              cells alone explain it, or none if several are needed); of a store label, bad, block, \
              beyond and dirty have the file too, and there are stale (disk, and its generation, 0 \
-             if it has no catalogue), missing (file, and the disk that lacks its image) and gone \
+             if it has no catalogue), ahead (disk, and the generation of a change that was cut off), missing (file, and the disk that lacks its image) and gone \
              (file, of which too much is lost)",
         ),
         ("stripes", "the stripes that were checked"),

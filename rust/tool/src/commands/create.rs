@@ -48,6 +48,13 @@ fn run(given: &Given) -> Result<(), Fault> {
     if !separate {
         make_folder(folder)?;
     }
+    if separate && !folder.is_dir() {
+        return Err(Fault::Failed(format!(
+            "{}: no such folder; make it, with the disks mounted or linked below it as disk-00, \
+             disk-01, .., or give --same-device",
+            folder.display()
+        )));
+    }
     let _lock = lock(folder)?;
     let store = new_name().map_err(|error| Fault::path(Path::new("/dev/urandom"), error))?;
     let numbers = Numbers { store, shape, unit: geometry.unit, group: geometry.group, separate };

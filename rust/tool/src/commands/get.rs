@@ -165,9 +165,11 @@ fn get_all(store: &Store, package: &Package, to: &Path, quiet: bool) -> Result<A
 }
 
 /// Writes all files below a folder; those that cannot be made right are told, and the rest goes on.
+/// Of a file of which more than two disks are lost nothing is kept.
 fn fill(store: &Store, package: &Package, part: &Path, quiet: bool) -> Result<Account, Fault> {
     let mut account = Account { read: 0, mended: 0 };
-    let (mut folders, mut beyond) = (BTreeSet::from([part.to_path_buf()]), Vec::new());
+    let mut folders = BTreeSet::from([part.to_path_buf()]);
+    let (mut beyond, mut gone) = (Vec::new(), 0);
     for file in &package.files {
         let path = part.join(file.name.path());
         make_above(part, &path, &mut folders)?;
@@ -177,19 +179,36 @@ fn fill(store: &Store, package: &Package, part: &Path, quiet: bool) -> Result<Ac
                 account.read += one.read;
                 account.mended += one.mended;
             }
-            Err(Fault::Beyond(what) | Fault::Images(what)) => beyond.push(what),
+            Err(Fault::Beyond(what)) => beyond.push(what),
+            Err(Fault::Images(what)) => {
+                fs::remove_file(&path).map_err(|error| Fault::path(&path, error))?;
+                say::warn(&what);
+                gone += 1;
+            }
             Err(fault) => return Err(fault),
         }
     }
+    if gone == package.files.len() && gone > 0 {
+        return Err(Fault::Images(what_is_left(store)));
+    }
+    if gone > 0 {
+        beyond.push(format!("{} left out: {}", count(gone as u64, "file"), what_is_left(store)));
+    }
     if !beyond.is_empty() {
-        return Err(Fault::Beyond(format!(
-            "{}; {} has the rest",
-            beyond.join("; "),
-            part.display()
-        )));
+        let (what, shown) = (beyond.join("; "), part.display());
+        return Err(Fault::Beyond(format!("{what}; {shown} has the rest")));
     }
     folders.iter().try_for_each(|folder| sync_folder(folder))?;
     Ok(account)
+}
+
+/// How what is left of files is read of which too much is lost.
+fn what_is_left(store: &Store) -> String {
+    let folder = store.folder.display();
+    format!(
+        "too many disks are lost; put them back, or read what is left through a mount: \
+         cuzhaveli mount {folder} POINT"
+    )
 }
 
 /// Makes the folders between a folder and a path below it.

@@ -29,7 +29,7 @@ pub const COMMAND: Command = Command {
          for users), and so does the signal of kill to cuzhaveli-fuse.",
         "Every byte that is read has been compared with its checksum. What is lost or bad is mended: a single lost piece by \
          its row, else by its unit. Where more is gone than can be mended, a read of those bytes fails (EIO), and reads of \
-         others go on.",
+         others go on; a folder of images with more than two lost is refused.",
         "put, remove, patch, rebuild and repair can run beside it. A name is looked up in the catalogue of at most two \
          seconds before; a file that is open stays readable after it was removed or replaced. An image that is rebuilt is \
          read once it has its name.",
@@ -75,7 +75,8 @@ fn run(given: &Given) -> Result<(), Fault> {
     if let Some(bytes) = given.number("--cache")? {
         words.push(format!("-ocache={bytes}").into());
     }
-    let fails = |error| Fault::path(point, error);
+    let fails =
+        |error| Fault::Failed(format!("{}: {error}; make an empty folder there", point.display()));
     if !point.metadata().map_err(fails)?.is_dir() {
         return Err(fails(ErrorKind::NotADirectory.into()));
     }

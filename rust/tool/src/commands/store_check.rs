@@ -41,6 +41,12 @@ fn tell_disks(store: &Store, away: &[usize], report: &mut Report) -> Result<(), 
         let fields = vec![("disk", disk.into()), ("generation", generation.into())];
         report.tell("stale", fields, text)?;
     }
+    for disk in store.there().into_iter().filter(|disk| store.is_ahead(*disk)) {
+        let generation = store.generation(disk).unwrap_or(0);
+        let text = format!("{} has a change that was cut off", report.disk(disk));
+        let fields = vec![("disk", disk.into()), ("generation", generation.into())];
+        report.tell("ahead", fields, text)?;
+    }
     Ok(())
 }
 
@@ -76,8 +82,8 @@ fn what_to_do(store: &Store, away: &[usize], report: &Report, missing: u64) -> R
     let folder = store.folder.display();
     if report.beyond > 0 {
         return Err(Fault::Beyond(format!(
-            "{folder}: film that cannot be made right; put back disks that are somewhere else, or save the rest: \
-             cuzhaveli get {folder} PACKAGE TO"
+            "{folder}: film that cannot be made right; put back disks that are somewhere else, or read what is left: \
+             cuzhaveli get {folder} PACKAGE TO, or through cuzhaveli mount"
         )));
     }
     let mut todo = Vec::new();

@@ -70,15 +70,15 @@ pub fn run(given: &Given) -> Result<(), Fault> {
     acknowledge(given, done, total.object(beyond == 0, cents), text)?;
     if beyond > 0 {
         return Err(Fault::Beyond(format!(
-            "{}: film that cannot be rebuilt; put back disks that are somewhere else and run it again, or save the rest: \
-             cuzhaveli get {0} PACKAGE TO",
+            "{}: film that cannot be rebuilt; put back disks that are somewhere else and run it again, or read what is left: \
+             cuzhaveli get {0} PACKAGE TO, or through cuzhaveli mount",
             folder.display()
         )));
     }
     match lacking {
         None => Ok(()),
         Some(disks) => Err(Fault::No(format!(
-            "{}: {disks} still to be rebuilt: mount it, or name a new, empty one: \
+            "{}: {disks} still to be rebuilt: mount what is away, or name new, empty disks: \
              cuzhaveli rebuild --new DISK {0}",
             folder.display()
         ))),

@@ -120,8 +120,8 @@ fn what_is_left(store: &Store, lost: Vec<usize>, is_right: bool) -> Result<(), F
     let folder = store.folder.display();
     if !is_right {
         return Err(Fault::Beyond(format!(
-            "{folder}: film that cannot be made right; put back disks that are somewhere else, or save the rest: \
-             cuzhaveli get {folder} PACKAGE TO"
+            "{folder}: film that cannot be made right; put back disks that are somewhere else, or read what is left: \
+             cuzhaveli get {folder} PACKAGE TO, or through cuzhaveli mount"
         )));
     }
     let lost: Vec<usize> = lost.into_iter().filter(|disk| !store.stale().contains(disk)).collect();

@@ -88,6 +88,11 @@ impl Store {
         self.there().into_iter().filter(|disk| !current(disk)).collect()
     }
 
+    /// Whether a disk has the catalogue of a later change, which does not count.
+    pub fn is_ahead(&self, disk: usize) -> bool {
+        self.generation(disk) > Some(self.catalogue.generation)
+    }
+
     /// Whether every disk that is there has the catalogue that counts.
     pub fn is_settled(&self) -> bool {
         let counts = Some(self.catalogue.generation);
