@@ -17,6 +17,7 @@
 #include <stdio.h>
 #include <stdlib.h>
 #include <string.h>
+#include <sys/resource.h>
 #include <time.h>
 #include <unistd.h>
 
@@ -266,6 +267,16 @@ static int serve(struct fuse_args *words, const struct fuse_cmdline_opts *opts)
     return status;
 }
 
+/* A film has a descriptor a disk open: as many as the system lets. */
+static void more_files(void)
+{
+    struct rlimit files;
+    if (getrlimit(RLIMIT_NOFILE, &files) == 0) {
+        files.rlim_cur = files.rlim_max;
+        setrlimit(RLIMIT_NOFILE, &files);
+    }
+}
+
 int main(int count, char **texts)
 {
     struct fuse_args words = FUSE_ARGS_INIT(count, texts);
@@ -278,6 +289,7 @@ int main(int count, char **texts)
         status = usage();
     } else {
         mounted = time(NULL);
+        more_files();
         if (given.cache != UNSET)
             cuzhaveli_play_limit(given.cache);
         if (cuzhaveli_play_tree(given.store, &tree) != 0) {

@@ -102,7 +102,7 @@ pub unsafe extern "C" fn cuzhaveli_play_open(
         let folder = path(folder.ok_or_else(|| none("folder"))?);
         let opened = match (package, file) {
             (Some(package), Some(file)) => open::stored(folder, package, file, &cache())?,
-            (None, None) => open::bare(folder, &cache())?,
+            (None, None) => open::bare(folder, None, &cache())?.0,
             _ => return Err(none("package, or no file of it,")),
         };
         if film.is_null() {

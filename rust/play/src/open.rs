@@ -12,9 +12,21 @@ use cuzhaveli_tool::store::opened::{image_path, Store};
 use crate::cache::Cache;
 use crate::film::Film;
 
-/// The film of a folder of images.
-pub fn bare(folder: &Path, cache: &Arc<Cache>) -> Result<Film, Fault> {
-    Film::new(Some(Set::open(folder, &[])?), cache.clone())
+/// The film of a folder of images, and the label of its set: the one that is wanted, if it is given.
+pub fn bare(
+    folder: &Path,
+    wanted: Option<Label>,
+    cache: &Arc<Cache>,
+) -> Result<(Film, Label), Fault> {
+    let set = Set::open(folder, &[])?;
+    let label = set.label;
+    if wanted.is_some_and(|wanted| wanted.set != label.set) {
+        return Err(Fault::Images(format!(
+            "{}: another set is there now; mount it anew",
+            folder.display()
+        )));
+    }
+    Ok((Film::new(Some(set), cache.clone())?, label))
 }
 
 /// A file of a package of a store, as its catalogue says now.

@@ -84,9 +84,9 @@ impl Tree {
         }
         if !self.is_store {
             if state.stamp.is_none() {
-                let length = open::bare(&self.folder, &self.cache)?.length();
+                let (film, label) = open::bare(&self.folder, None, &self.cache)?;
                 state.begin();
-                state.add(FILM, Thing::File(length, None), None);
+                state.add(FILM, Thing::File(film.length(), None), Some(label));
                 state.stamp = Some(Stamp::default());
             }
         } else {
@@ -131,7 +131,7 @@ impl Tree {
         // Without the lock: a disk may take its time.
         let film = Arc::new(match self.is_store {
             true => open::labelled(&self.folder, label, &self.cache)?,
-            false => open::bare(&self.folder, &self.cache)?,
+            false => open::bare(&self.folder, label, &self.cache)?.0,
         });
         self.node(number, |node| match node.film.upgrade() {
             Some(other) => other, // opened by somebody else meanwhile

@@ -149,12 +149,17 @@ impl Set {
         if lost.len() > 2 {
             return Err(too_many(&self.folder, &self.label, &lost, &self.notes()));
         }
-        for disk in lost {
+        self.find_remnants();
+        Ok(self)
+    }
+
+    /// Looks for what is left of lost disks.
+    fn find_remnants(&mut self) {
+        for disk in self.lost() {
             let path = self.path(disk);
             let found = [part_path(&path), path].map(|path| Image::open(&path).ok());
             self.remnants.extend(found.into_iter().flatten().map(|image| (disk, image)));
         }
-        Ok(self)
     }
 
     /// What is left of lost disks: the disk, and what stands there.

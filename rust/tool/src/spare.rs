@@ -1,6 +1,7 @@
 //! The image that a rebuild writes: what of it verifies stays, and is never written again, since a
 //! unit may need it to come back.
 
+use std::io;
 use std::path::Path;
 
 use crate::blocks::Blocks;
@@ -8,6 +9,7 @@ use crate::encode::{write_batch, write_blocks};
 use crate::fault::Fault;
 use crate::gaps;
 use crate::geometry::{Batch, Geometry, LABEL_BYTES};
+use crate::image::{Bounce, Image};
 use crate::label::Label;
 use crate::output::Output;
 use crate::reader::{Beyond, Reader};
@@ -18,6 +20,9 @@ pub struct Spare {
     pub output: Output,
     /// Whether something of it may be there already.
     begun: bool,
+    /// What is there as the medium has it: after a sync that failed the page cache has what never
+    /// got there.
+    medium: Option<Image>,
     /// Whether it is a drive that begins with its label, and nothing of it was written yet.
     labelled: bool,
     /// Whether a unit of it is not there and cannot be rebuilt.
@@ -41,6 +46,12 @@ impl Kept {
     }
 }
 
+/// What of an image is on the medium, if something may be there and it can be read so.
+fn medium(output: &Output, begun: bool) -> Option<Image> {
+    let mut image = begun.then(|| Image::open(output.path()).ok()).flatten()?;
+    image.go_direct().then_some(image)
+}
+
 impl Spare {
     /// A file that is gone on with or begun, and takes the place of an image that counts as lost.
     pub fn file(path: &Path, label: &Label, disk: usize) -> Result<Spare, Fault> {
@@ -50,7 +61,8 @@ impl Spare {
         };
         let stands = path.symlink_metadata().is_ok();
         let output = if stands { output.replacing() } else { output };
-        Ok(Spare { disk, output, begun, labelled: false, lacks: false })
+        let medium = medium(&output, begun);
+        Ok(Spare { disk, output, begun, medium, labelled: false, lacks: false })
     }
 
     /// A drive, which may begin with the mark or label of this disk.
@@ -58,7 +70,8 @@ impl Spare {
         let first = output.first_block()?;
         let labelled = first == label.block(disk);
         let begun = labelled || first == label.mark(disk);
-        Ok(Spare { disk, output, begun, labelled, lacks: false })
+        let medium = medium(&output, begun);
+        Ok(Spare { disk, output, begun, medium, labelled, lacks: false })
     }
 
     pub fn is_begun(&self) -> bool {
@@ -81,6 +94,14 @@ impl Spare {
         }
     }
 
+    /// Reads what is there, past the page cache if that can be had.
+    fn read(&self, bytes: &mut [u8], at: u64) -> io::Result<()> {
+        match &self.medium {
+            Some(image) => image.read(bytes, at, &mut Bounce::default()),
+            None => self.output.read(bytes, at),
+        }
+    }
+
     /// What of a unit is there and verifies.
     pub fn kept(&self, geometry: Geometry, batch: Batch, blocks: &Blocks, unit: usize) -> Kept {
         if !self.begun || !blocks.is_known(unit) {
@@ -88,7 +109,7 @@ impl Spare {
         }
         let number = batch.unit + unit as u64;
         let mut block = vec![0; geometry.blocks_len(geometry.batch_of(number, 1))];
-        let read = self.output.read(&mut block, geometry.block_at(number));
+        let read = self.read(&mut block, geometry.block_at(number));
         let fill = block.split_off(geometry.block_len()); // up to the next group
         let blank = fill.iter().all(|byte| *byte == 0); // a torn sector there is bad for every check
         let block = read.is_ok() && blank && block == blocks.block(unit);
@@ -97,7 +118,7 @@ impl Spare {
         let mut rows = 0;
         for row in 0..geometry.shape.width() {
             let at = geometry.cell_at(row, batch.first + places.start as u64);
-            let read = self.output.read(&mut piece, at);
+            let read = self.read(&mut piece, at);
             rows |= u32::from(read.is_ok() && blocks.fits(unit, self.disk, row, &piece)) << row;
         }
         Kept { rows, block }

@@ -3,6 +3,7 @@
 
 use std::env;
 use std::ffi::OsString;
+use std::fs;
 use std::io::ErrorKind;
 use std::os::unix::process::CommandExt;
 use std::path::{Path, PathBuf};
@@ -87,10 +88,25 @@ fn run(given: &Given) -> Result<(), Fault> {
     }
     // No word of the user is taken for an option.
     let full = |path: &Path| path.canonicalize().map_err(|error| Fault::path(path, error));
-    words.extend([full(place)?.into(), full(point)?.into()]);
-    start(&words)
+    let (place, point) = (full(place)?, full(point)?);
+    if is_apart(&place, &point) {
+        words.extend([place.into(), point.into()]);
+        return start(&words);
+    }
+    Err(Fault::Failed(format!(
+        "{} is in {}, or it or one of its disks is below: give another folder for POINT",
+        point.display(),
+        place.display()
+    )))
 }
 
+/// Whether what is mounted hides nothing of what it is read from, which would wait for itself.
+fn is_apart(place: &Path, point: &Path) -> bool {
+    let below =
+        |entry: fs::DirEntry| entry.path().canonicalize().is_ok_and(|path| path.starts_with(point));
+    let entries = fs::read_dir(place).into_iter().flatten().flatten();
+    !point.starts_with(place) && !place.starts_with(point) && !entries.into_iter().any(below)
+}
 /// The helper beside this program; if there is none, its name, for PATH.
 fn helper() -> PathBuf {
     let beside = env::current_exe().ok().map(|own| own.with_file_name(HELPER));

@@ -16,6 +16,7 @@ impl Set {
             let place = set.place(disk, seen);
             set.places.push(place);
         }
+        set.find_remnants();
         set
     }
 
@@ -37,6 +38,7 @@ impl Set {
             };
             set.places.push(place);
         }
+        set.find_remnants();
         Some(set)
     }
 

@@ -1,6 +1,5 @@
 //! The images that disks of a store lack, rebuilt file by file.
 
-use std::fs;
 use std::path::Path;
 
 use super::catalogue::{Entry, Package};
@@ -8,7 +7,6 @@ use super::opened::Store;
 use crate::fault::Fault;
 use crate::image::Image;
 use crate::label::{hex, Found, Label};
-use crate::output::part_path;
 use crate::pace::Pace;
 use crate::rebuild::{rebuild, Account};
 use crate::set::Set;
@@ -99,12 +97,5 @@ fn reserve(spare: &Spare, label: &Label) -> Result<(), Fault> {
 /// A part with the name of the set that is none of it is begun anew.
 fn spare(store: &Store, label: &Label, disk: usize) -> Result<Spare, Fault> {
     let path = store.image_path(disk, &label.set);
-    match Spare::file(&path, label, disk) {
-        Err(Fault::Images(_)) => {
-            let part = part_path(&path);
-            fs::remove_file(&part).map_err(|error| Fault::path(&part, error))?;
-            Spare::file(&path, label, disk)
-        }
-        spare => spare,
-    }
+    Spare::file(&path, label, disk)
 }
