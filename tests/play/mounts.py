@@ -3,6 +3,7 @@
 import contextlib
 import errno
 import os
+import pathlib
 import random
 import shutil
 import signal
@@ -95,6 +96,39 @@ def mounted_with_every_loss(setting):
         expect(os.listdir(point) == ["film"], "the film of a bare set")
         expect((point / "film").read_bytes() == film.read_bytes(), "the film of a bare set")
     return f"{len(views)} losses of up to two disks, every file alike; a bare set"
+
+
+def mounted_replaced(setting):
+    """A bare set that is replaced while it is mounted is not taken for the film that is shown."""
+    films = [kept(setting, 700_000), setting.new()]
+    films[1].write_bytes(films[0].read_bytes()[::-1] * 2)
+    first, second = (setting.encoded_file(film, 5).folder for film in films)
+    with mounted(setting, first) as point:
+        expect((point / "film").read_bytes() == films[0].read_bytes(), "the film")
+        for path in first.iterdir():
+            path.unlink()
+        for path in second.iterdir():
+            shutil.copy(path, first)
+        for wait in (3, 1):  # until nobody has it open, and then without what the kernel keeps
+            time.sleep(wait)
+            found = error_of(lambda: (point / "film").read_bytes()) or (point / "film").read_bytes()
+            expect(found in (films[0].read_bytes(), "EIO", "ESTALE"), "bytes of another film")
+            pathlib.Path("/proc/sys/vm/drop_caches").write_text("3")
+    return "another set is not shown"
+
+
+def mounted_on_itself(setting):
+    """A mount over the store, below it or above one of its disks is refused: it would wait for itself."""
+    shelf = Shelf(setting, 3, 3, 64)
+    packages(setting, shelf)
+    view = shelf.view()
+    below = shelf.folder / "below"
+    below.mkdir()
+    for place, point in ((shelf.folder, shelf.folder), (shelf.folder, below), (view, shelf.drives[0].parent)):
+        done = setting.call("mount", place, point, status=4)
+        expect(b"give another folder for POINT" in done.err, done.told())
+    below.rmdir()
+    return "three points"
 
 
 def mounted_read_only(setting):
@@ -262,5 +296,5 @@ def mounted_file_system(setting):
     return "20 files of an ext4 file system in a set, two disks gone, alike"
 
 
-CHECKS = [mounted_with_every_loss, mounted_read_only, mounted_beside_changes, mounted_third_loss, mounted_signals,
+CHECKS = [mounted_with_every_loss, mounted_replaced, mounted_on_itself, mounted_read_only, mounted_beside_changes, mounted_third_loss, mounted_signals,
           mounted_by_fstab, mounted_while_rebuilt, mounted_file_system]

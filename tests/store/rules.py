@@ -192,6 +192,25 @@ def locked(setting):
     return "4 commands"
 
 
+def needed_parts(setting):
+    """A part with a bad first block, which film needs since two other disks are bad, is read by get and not removed by a rebuild."""
+    shelf = Shelf(setting, 3, 3)
+    shelf.put("a", NEW)
+    (name,) = shelf.images(0)
+    part = shelf.drives[0] / f"{name}.part"
+    (shelf.drives[0] / name).rename(part)
+    for path, at in ((part, 100), (shelf.drives[1] / name, 4096), (shelf.drives[2] / name, 4096)):
+        held = bytearray(path.read_bytes())
+        held[at] ^= 255
+        path.write_bytes(held)
+    kept = part.read_bytes()
+    expect(shelf.get("a") == NEW, "the part is not read")
+    done = shelf.call("rebuild", shelf.folder)
+    expect(done.status != 0 and part.read_bytes() == kept, f"the part is taken away: {done.told()}")
+    expect(shelf.get("a") == NEW, "film that could be read before the rebuild is lost")
+    return "one part"
+
+
 def damaged_files(setting):
     """Bad images, catalogues and `disk` files: nothing wrong is believed, check tells, repair and rebuild mend."""
     shelf = Shelf(setting, 3, 3)
@@ -294,5 +313,5 @@ def creation(setting):
     return "8 calls"
 
 
-CHECKS = [too_few_disks, stale_disks, left_out, unsure, other_places, new_disks, locked, damaged_files, hostile_catalogues,
+CHECKS = [too_few_disks, stale_disks, left_out, unsure, other_places, new_disks, locked, damaged_files, needed_parts, hostile_catalogues,
           two_of_one_generation, creation]
