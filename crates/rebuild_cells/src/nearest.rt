@@ -176,7 +176,7 @@ fn mend_by(width: usize, disks: usize, size: usize, cell: usize, word: u64, stri
     mend_off_row(width, disks, size, cell, word, stripe);
 }
 
-// All unknowns, the one with the lightest word next.
+// All unknowns, the one with the lightest word next. The lent words are then left free.
 fn mend_nearest(
     width: usize,
     disks: usize,
@@ -202,7 +202,7 @@ fn mend_nearest(
     }
 }
 
-// The same, with room for the words that are changed.
+// The same, with room for the words that are changed, which are then left free.
 pub fn mend_all(
     width: usize,
     disks: usize,
