@@ -14,6 +14,8 @@ SERVERS = ["build/nbdkit-cuzhaveli-plugin.so"]
 
 def lacks():
     """What is not there that the plugin needs; nothing if all is."""
+    if not shutil.which("pkg-config"):
+        return "pkg-config"
     if subprocess.run(["pkg-config", "--exists", "nbdkit"], capture_output=True).returncode != 0:
         return "nbdkit-plugin-dev"
     if not shutil.which("nbdkit"):

@@ -20,6 +20,8 @@ SERVERS = ["build/cuzhaveli-fuse"]
 
 def lacks():
     """What is not there that mounting needs; nothing if all is."""
+    if not shutil.which("pkg-config"):
+        return "pkg-config"
     if subprocess.run(["pkg-config", "--exists", "fuse3"], capture_output=True).returncode != 0:
         return "libfuse3-dev"
     if not shutil.which("fusermount3"):
