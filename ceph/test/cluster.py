@@ -152,7 +152,8 @@ class Cluster:
     def end_osd(self, osd):
         self.osds[osd].send_signal(signal.SIGKILL)
         self.osds[osd].wait()
-        self.command('osd down', ids=[str(osd)])
+        # without the last word a PG waits out the lease of its reads, 0.8 of the heartbeat's grace
+        self.command('osd down', ids=[str(osd)], definitely_dead=True)
 
     def stopped(self):
         """The OSDs that ended by themselves."""

@@ -162,7 +162,7 @@ static void without_memory()
 static void defaults()
 {
   ErasureCodeInterfaceRef code;
-  ErasureCodeProfile profile{{"k", "8"}};
+  ErasureCodeProfile profile{{"k", "8"}, {"packetsize", "2048"}}; // other plugins' settings are passed over
   MUST(plugin->factory("", profile, &code, &std::cerr) == 0);
   MUST(profile["reads"] == "whole" && profile["w"] == "11" && profile["m"] == "2" && profile["cell"] == "4096");
   MUST(code->get_chunk_size(1) == 11 * 4096 && code->get_chunk_size(8 * 11 * 4096 + 1) == 2 * 11 * 4096);

@@ -148,21 +148,21 @@ def by_codes(cluster, k):
     for number, (name, profile, unit, ours) in enumerate(profiles(k)):
         read[name] = try_pool(cluster, f'{name}{k}', k, profile, unit, 1 + number, ours)
         hold(name, k, read[name])
-    row = [f'{read[name]:.1f}' for name in ('jerasure', 'whole', 'partial', 'clay')]
+    row = [f'{read[name]:.2f}' for name in ('jerasure', 'whole', 'partial', 'clay')]
     saved = 100 * (1 - read['partial'] / read['jerasure'])
     return f'| {k} | ' + ' | '.join(row) + f' | {saved:.1f} % | {PAPER[k]} % |'
 
 
 def by_cells(cluster, k, kib):
     profile = {'plugin': 'cuzhaveli', 'w': k, 'reads': 'partial'}
-    pool = Pool(cluster, f'cells{kib}', k, profile, k * kib * 1024, objects=3)
+    pool = Pool(cluster, f'cells{kib}', k, profile, k * kib * 1024)
     cluster.flags(True)
     read = rebuild(pool, 3)
     pool.check('after the rebuild')
     pool.close()
     say(f'k {k}, cells of {kib} KiB: {read:.3f} shards read')
     hold('partial', k, read)
-    return f'| {kib} KiB | {read:.1f} | {100 * (1 - read / k):.1f} % | {PAPER_CELLS[kib]} % |'
+    return f'| {kib} KiB | {read:.2f} | {100 * (1 - read / k):.1f} % | {PAPER_CELLS[kib]} % |'
 
 
 def with_eio(cluster):
