@@ -44,7 +44,7 @@ def every_function(setting):
 
 
 def nothing_offered(setting):
-    """An archive that offers nothing ends with status 2."""
+    """An archive that offers nothing ends with status 2, as no words do; --help says which there are."""
     empty = setting.work / "empty.a"
     empty.unlink(missing_ok=True)
     subprocess.run(["ar", "rcs", empty], check=True)
@@ -52,7 +52,11 @@ def nothing_offered(setting):
     expect(status == 2 and "nothing was tried: none of the functions" in last(text), f"It ended with status {status}:\n{text}")
     status, text = setting.run(PLAIN, "--only", "judge")
     expect(status == 2 and "nothing was tried" in last(text), f"A function that is not offered ended with status {status}:\n{text}")
-    return "an empty archive, and a function that is not offered, end with status 2"
+    status, text = setting.run()
+    expect(status == 2 and "usage: conformance/run IMPL" in text, f"No words ended with status {status}:\n{text}")
+    status, text = setting.run("--help")
+    expect(status == 0 and "CUZHAVELI_LIB, where" in text and "set -" not in text, f"--help ended with status {status}:\n{text}")
+    return "an empty archive, a function that is not offered and no words end with status 2"
 
 
 def own_judge(setting):
