@@ -30,10 +30,10 @@ def lacks():
 
 
 @contextlib.contextmanager
-def mounted(setting, place, *options):
+def mounted(setting, place, *options, name=""):
     """A place mounted, until the block ends."""
-    point = setting.new()
-    point.mkdir()
+    point = setting.new() / name
+    point.mkdir(parents=True)
     setting.call("mount", *options, place, point, status=0, stdout=subprocess.DEVNULL, stderr=subprocess.DEVNULL)
     expect(os.path.ismount(point), f"{point} is not mounted")
     try:
@@ -131,6 +131,27 @@ def mounted_on_itself(setting):
         expect(b"give another folder for POINT" in done.err, done.told())
     below.rmdir()
     return "three points"
+
+
+def mounted_twice(setting):
+    """A second mount on one point is refused, since it would hide the first; so is one where the first was killed."""
+    shelf = Shelf(setting, 3, 3, 64)
+    packages(setting, shelf)
+
+    def refused(point):
+        done = setting.call("mount", shelf.folder, point, status=4)
+        expect(b"is mounted already" in done.err, done.told())
+
+    with mounted(setting, shelf.folder, name="two words") as point:
+        refused(point)
+        os.kill(helper_of(point), signal.SIGKILL)
+        until = time.monotonic() + 10
+        while error_of(lambda: os.listdir(point)) != "ENOTCONN" and time.monotonic() < until:
+            time.sleep(0.05)
+        refused(point)
+    with mounted(setting, shelf.folder, name="two words") as point:  # and is taken once the first has ended
+        expect(sorted(os.listdir(point)) == ["feature", "trailer"], "the packages")
+    return "a point with a space in its name"
 
 
 def mounted_read_only(setting):
@@ -298,5 +319,5 @@ def mounted_file_system(setting):
     return "20 files of an ext4 file system in a set, two disks gone, alike"
 
 
-CHECKS = [mounted_with_every_loss, mounted_replaced, mounted_on_itself, mounted_read_only, mounted_beside_changes, mounted_third_loss, mounted_signals,
-          mounted_by_fstab, mounted_while_rebuilt, mounted_file_system]
+CHECKS = [mounted_with_every_loss, mounted_replaced, mounted_on_itself, mounted_twice, mounted_read_only, mounted_beside_changes,
+          mounted_third_loss, mounted_signals, mounted_by_fstab, mounted_while_rebuilt, mounted_file_system]

@@ -5,8 +5,9 @@ use std::env;
 use std::ffi::OsString;
 use std::fs;
 use std::io::ErrorKind;
+use std::os::unix::ffi::OsStrExt;
 use std::os::unix::process::CommandExt;
-use std::path::{Path, PathBuf};
+use std::path::{self, Path, PathBuf};
 use std::process;
 
 use cuzhaveli_tool::set::Set;
@@ -20,6 +21,9 @@ use crate::table::words::PLACE;
 use crate::table::{Command, Kind, Operand, Opt, Use};
 
 const HELPER: &str = "cuzhaveli-fuse";
+
+/// The type of what it mounts.
+const SERVED: &str = "fuse.cuzhaveli-fuse";
 
 pub const COMMAND: Command = Command {
     name: "mount",
@@ -76,6 +80,12 @@ fn run(given: &Given) -> Result<(), Fault> {
     if let Some(bytes) = given.number("--cache")? {
         words.push(format!("-ocache={bytes}").into());
     }
+    if is_served(point) {
+        return Err(Fault::Failed(format!(
+            "{0} is mounted already; end that first: umount {0}",
+            point.display()
+        )));
+    }
     let fails =
         |error| Fault::Failed(format!("{}: {error}; make an empty folder there", point.display()));
     if !point.metadata().map_err(fails)?.is_dir() {
@@ -107,6 +117,28 @@ fn is_apart(place: &Path, point: &Path) -> bool {
     let entries = fs::read_dir(place).into_iter().flatten().flatten();
     !point.starts_with(place) && !place.starts_with(point) && !entries.into_iter().any(below)
 }
+
+/// Whether the helper serves this folder, or did until it was killed: a second mount would hide the
+/// first. Of a killed one the path cannot be followed, and is taken as it is.
+fn is_served(point: &Path) -> bool {
+    let Ok(full) = point.canonicalize().or_else(|_| path::absolute(point)) else { return false };
+    let name = escaped(full.as_os_str().as_bytes());
+    let table = fs::read("/proc/self/mountinfo").unwrap_or_default();
+    table.split(|&byte| byte == b'\n').any(|line| {
+        let mut words = line.split(|&byte| byte == b' ');
+        words.nth(4) == Some(&name[..]) && words.any(|word| word == SERVED.as_bytes())
+    })
+}
+
+/// A path as the kernel writes it in its table of mounts.
+fn escaped(path: &[u8]) -> Vec<u8> {
+    let one = |&byte: &u8| match byte {
+        b' ' | b'\t' | b'\n' | b'\\' => format!("\\{byte:03o}").into_bytes(),
+        _ => vec![byte],
+    };
+    path.iter().flat_map(one).collect()
+}
+
 /// The helper beside this program; if there is none, its name, for PATH.
 fn helper() -> PathBuf {
     let beside = env::current_exe().ok().map(|own| own.with_file_name(HELPER));
