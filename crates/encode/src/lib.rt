@@ -15,16 +15,16 @@ use refusals::Shape;
 // From so many data disks on, encoding by groups is faster.
 const GROUPED_DISKS: usize = 11;
 
-// And from so many bytes of a cell on.
-const GROUPED_CELL_SIZE: usize = 512;
+// And from so many bytes of a stripe on.
+const GROUPED_BYTES: usize = 196608;
 
-// Do groups go faster? With few data disks the data are still in the cache when they are read
-// again, and with small cells the passes cost more than the reads. No answer depends on it.
-fn by_groups(disks: usize, size: usize) -> bool {
+// Do groups go faster? With few data disks, or in a small stripe, the data are still in the cache
+// when they are read again. No answer depends on it.
+fn by_groups(disks: usize, long: usize) -> bool {
     if disks < GROUPED_DISKS {
         return false;
     }
-    GROUPED_CELL_SIZE <= size
+    GROUPED_BYTES <= long
 }
 
 // Writes P and Q of a stripe within the limits.
@@ -32,7 +32,7 @@ fn write_parity(width: usize, disks: usize, size: usize, stripe: &mut [u8])
     requires { ⌜ Sized width disks size (now stripe) ⌝ }
     ensures { λ _. ⌜ now (stripe .exit) ≡ encoded width disks size (now (stripe .entry)) ⌝ }
 {
-    if by_groups(disks, size) {
+    if by_groups(disks, stripe.len()) {
         groups::encode_groups(width, disks, size, stripe);
         return;
     }
