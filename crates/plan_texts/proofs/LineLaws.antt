@@ -13,8 +13,8 @@ use lib.Seq.{drop-drop, sets, sets-eq, take-at, drop-append-add}
 use borrow.Author.Tests.{eq-eqb, ne-eqb, le-leb}
 use Rattle.mathematics.specs.Choice.{pick}
 use Rattle.mathematics.specs.Lists.{same}
-use Rattle.mathematics.proofs.Flags.{and-i, same-flag}
-use Rattle.mathematics.proofs.MemberLaws.{same-true, same-self}
+use Rattle.mathematics.proofs.Flags.{and-i}
+use Rattle.text.proofs.SameLaws.{same-long}
 use Rattle.mathematics.proofs.LengthLaws.{drop-replicate}
 use Rattle.liberation.specs.Plans.{Step, step}
 use Rattle.plan_texts.specs.form.Reading.{byteAt, digitsIn, numberIn, isNumber, endIn, isSet, kindOf, afterRow, afterSet, afterNumber, lineIn, linesIn, names, namesSize, isNames, readable, stepsRead, stepBytes}
@@ -193,12 +193,6 @@ module _ (p : ℕ) (t : List ℕ) (r : Parsed) where
       some zero e = absurd (e refl)
       some (suc m) e = omega arith
 
--- the names, or fewer bytes than they have
+-- fewer bytes are not the names
 pub names-short : (t : List ℕ) → length t < 14 → false ≡ same (take 14 t) names
-names-short t h = same-flag false (same (take 14 t) names) (λ e. absurd (no e)) (λ e. absurd (omega (arith, ap length (same-true (take 14 t) names e), length-take 14 t)))
-  where
-    no : false ≡ true → ⊥
-    no e = let z : _≡_ {A = ℕ} 0 1 = ap (λ (x : Bool). pick x 1 0) e in omega arith
-
-pub names-same : (t : List ℕ) (r : Bool) → (r ≡ true → take 14 t ≡ names) → (take 14 t ≡ names → r ≡ true) → r ≡ same (take 14 t) names
-names-same t r f g = same-flag r (same (take 14 t) names) (λ e. ap (λ (x : List ℕ). same x names) (f e) ∙ same-self names) (λ e. g (same-true (take 14 t) names e))
+names-short t h = same-long (take 14 t) names (λ e. omega (arith, e, length-take 14 t))

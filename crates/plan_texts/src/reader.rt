@@ -115,7 +115,7 @@ fn has_names(text: &[u8]) -> bool
     if text.len() < HEAD_BYTES {
         return false;
     }
-    check::same(&text[..HEAD_BYTES], b"row,set,number")
+    text::is_same(&text[..HEAD_BYTES], b"row,set,number")
 }
 
 // Reads a whole text as a plan of `width` steps.

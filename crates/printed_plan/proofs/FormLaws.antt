@@ -12,7 +12,7 @@ use lib.ListN.{length, drop, length-append}
 use borrow.Author.Tests.{lt-ltb, le-ltb, ltb-true, eq-eqb, ne-eqb}
 use Rattle.mathematics.specs.Choice.{pick}
 use Rattle.mathematics.specs.Lists.{same}
-use Rattle.mathematics.proofs.Flags.{and-l, and-r, and-i, flag, same-flag}
+use Rattle.mathematics.proofs.Flags.{and-l, and-r, and-i, flag}
 use Rattle.mathematics.proofs.OrderLaws.{lt-or-le}
 use Rattle.mathematics.proofs.MemberLaws.{same-true, same-self}
 use Rattle.text.specs.Digits.{digitsOf}
@@ -30,12 +30,10 @@ pub no-form-second : (t : List ℕ) → 100 ≤ secondValue t → isForm t ≡ f
 unfolding isForm
 no-form-second t h = ap (λ (b : Bool). ltb (firstValue t) 100 && (b && same t (inputOf (firstValue t) (secondValue t)))) (le-ltb (secondValue t) 100 h) ∙ and-false (ltb (firstValue t) 100)
 
-pub form-same : (t x : List ℕ) (r : Bool) → firstValue t < 100 → secondValue t < 100 → x ≡ inputOf (firstValue t) (secondValue t) → (r ≡ true → t ≡ x) → (t ≡ x → r ≡ true) → r ≡ isForm t
+pub form-same : (t x : List ℕ) (r : Bool) → firstValue t < 100 → secondValue t < 100 → x ≡ inputOf (firstValue t) (secondValue t) → r ≡ same t x → r ≡ isForm t
 unfolding isForm
-form-same t x r h k e f g =
-    let y : List ℕ = inputOf (firstValue t) (secondValue t) in
-    same-flag r (same t y) (λ q. ap (same t) (sym (f q ∙ e)) ∙ same-self t) (λ q. g (same-true t y q ∙ sym e))
-    ∙ sym (ap₂ (λ (a b : Bool). a && (b && same t y)) (lt-ltb (firstValue t) 100 h) (lt-ltb (secondValue t) 100 k))
+form-same t x r h k e q =
+    q ∙ ap (same t) e ∙ sym (ap₂ (λ (a b : Bool). a && (b && same t (inputOf (firstValue t) (secondValue t)))) (lt-ltb (firstValue t) 100 h) (lt-ltb (secondValue t) 100 k))
 
 -- a number is read back from its digits, if the byte after it is none
 value-back : (stop n : ℕ) (rest : List ℕ) → n < 100 → stop < 48 → valueTo stop (digitsOf n ++ (stop ∷ rest)) ≡ n

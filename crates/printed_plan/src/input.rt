@@ -79,5 +79,5 @@ pub fn is_form(text: &[u8], first: usize, second: usize) -> bool
     }
     let mut expected = [0u8; INPUT_BYTES];
     let n = put_input(&mut expected, 0, first, second);
-    check::same(text, &expected[..n])
+    text::is_same(text, &expected[..n])
 }

@@ -26,7 +26,10 @@ const ALL: u64 = 18446744073709551615;
 
 // Does the word name one set alone? No result depends on it.
 fn names_one(word: u64) -> bool {
-    word & std::num::wrapping_sub_u64(word, 1) == 0
+    if word == 0 {
+        return false;
+    }
+    word & (word - 1) == 0
 }
 
 // The one of two words that names fewer sets; none names fewer than one.

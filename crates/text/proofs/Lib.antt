@@ -2,3 +2,4 @@
 pub mod WriteLaws
 pub mod DigitLaws
 pub mod FieldLaws
+pub mod SameLaws

@@ -1,6 +1,6 @@
 // Text in a lent slice. The writers put a piece at a place, a fixed word or a number in decimal,
 // leave all other bytes as they are, and say where the piece ends.
-// The readers look at one byte.
+// The readers look at one byte, or compare two texts.
 mod steps;
 
 pub use steps::put_field;
@@ -9,6 +9,7 @@ ghost use mathlib.Core.Path.{_≡_};
 ghost use mathlib.Core.List.{[], _∷_};
 ghost use Prim.Native.Nat.{_+_, _-_, _≤_, _<_};
 ghost use lib.ListN.{length, getD};
+ghost use Rattle.mathematics.specs.Lists.{same};
 ghost use Rattle.text.specs.Writing.{Wrote};
 ghost use Rattle.text.specs.Digits.{digitsOf};
 
@@ -62,4 +63,22 @@ pub fn digit(byte: u8) -> usize
     } else {
         (byte - b'0') as usize
     }
+}
+
+// Are two texts the same?
+pub fn is_same(a: &[u8], b: &[u8]) -> bool
+    ensures { λ r. ⌜ r ≡ same (now (a .entry)) (now (b .entry)) ⌝ }
+{
+    let n = a.len();
+    if n != b.len() {
+        return false;
+    }
+    let mut i = 0;
+    while i < n {
+        if a[i] != b[i] {
+            return false;
+        }
+        i += 1;
+    }
+    true
 }

@@ -21,15 +21,15 @@ returns-2 c =
     let k = c .before .before .before in
     sym (no-form-second (k .args .text .now) (omega (arith, k .pre .1, c .if2 .taken)))
 
-slice-aggregate-same : tie.Need-slice-aggregate-same
-slice-aggregate-same c = let k = c .before .before .put-input in sym (length-take-le (k .result) (k .last .0) (omega (arith, k .ensures .fits, wrote-long (k .ensures))))
+slice-aggregate-is-same : tie.Need-slice-aggregate-is-same
+slice-aggregate-is-same c = let k = c .before .before .put-input in sym (length-take-le (k .result) (k .last .0) (omega (arith, k .ensures .fits, wrote-long (k .ensures))))
 
 returns-3 : tie.Need-returns-3
 returns-3 c =
     let q = c .before .before .before .before .before .before .before .before in
     let k = c .before .before .before .put-input in
-    form-same (q .args .text .now) (take (k .result) (k .last .0)) (c .same .result) (omega (arith, q .pre .0)) (omega (arith, q .pre .1))
-    (wrote-front (k .ensures) ∙ ap₂ inputOf (q .pre .0) (q .pre .1)) (c .same .ensures .0) (c .same .ensures .1)
+    form-same (q .args .text .now) (take (k .result) (k .last .0)) (c .is-same .result) (omega (arith, q .pre .0)) (omega (arith, q .pre .1))
+    (wrote-front (k .ensures) ∙ ap₂ inputOf (q .pre .0) (q .pre .1)) (c .is-same .ensures)
 
 pub is-form-spec : {M : Type 1} → statement M
 is-form-spec =
@@ -40,6 +40,6 @@ is-form-spec =
     (λ c. search needs)
     (λ c κs. search needs)
     (λ c. search needs)
-    slice-aggregate-same
+    slice-aggregate-is-same
     (λ c κs. search needs)
     returns-3)
