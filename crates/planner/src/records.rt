@@ -1,8 +1,9 @@
 // The steps of a plan in a record of three arrays: those of a data disk by its routes, all sets of
 // one kind for a parity disk, or none.
+ghost use mathlib.Core.Path.{_≡_};
 ghost use mathlib.Core.List.{[], _++_};
 ghost use Prim.Native.Nat.{_≤_, _<_};
-ghost use lib.ListN.{take};
+ghost use lib.ListN.{length, take, replicate};
 ghost use Rattle.liberation.specs.Plans.{rowSteps, diagonalSteps, allOf};
 ghost use Rattle.planner.specs.StepRecords.{Holds, Counts};
 use super::routes::BY_DIAGONAL;
@@ -25,47 +26,43 @@ pub struct Steps {
     pub numbers: [u8; MAX_WIDTH],
 }
 
-// Steps, and how many.
-pub struct Counted {
-    pub steps: Steps,
-    pub count: usize,
-}
-
-// The row-set steps, rows upward.
-fn row_steps(width: usize, routes: [u8; MAX_WIDTH]) -> Counted
-    requires { ⌜ width ≤ 31 ⌝ }
-    ensures { λ r. ⌜ Counts (rowSteps 0 (take width routes)) (r .steps .rows) (r .steps .kinds) (r .steps .numbers) (r .count) ⌝ }
+// Writes the row-set steps, rows upward, into zeros, and returns how many; their kinds are zeros.
+fn row_steps(
+    width: usize,
+    routes: &[u8; MAX_WIDTH],
+    rows: &mut [u8; MAX_WIDTH],
+    numbers: &mut [u8; MAX_WIDTH],
+) -> usize
+    requires { ⌜ (width ≤ 31) × (length (now routes) ≡ 31) × (now rows ≡ replicate 31 0) × (now numbers ≡ replicate 31 0) ⌝ }
+    ensures { λ r. ⌜ Counts (rowSteps 0 (take width (now (routes .entry)))) (now (rows .exit)) (replicate 31 0) (now (numbers .exit)) r ⌝ }
 {
-    let mut rows = [0u8; MAX_WIDTH];
     let mut count = 0;
     let mut row = 0;
     while row < width {
         if routes[row] != BY_DIAGONAL {
             rows[count] = row as u8;
+            numbers[count] = row as u8;
             count += 1;
         }
         row += 1;
     }
-    Counted {
-        steps: Steps {
-            rows: rows,
-            kinds: [0; MAX_WIDTH],
-            numbers: rows,
-        },
-        count: count,
-    }
+    count
 }
 
-// Then the diagonal steps, rows upward.
-fn diagonal_steps(width: usize, disk: usize, routes: [u8; MAX_WIDTH], first: Counted) -> Steps
-    requires { ⌜ (width ≤ 31) × (disk < width) × Counts (rowSteps 0 (take width routes)) (first .steps .rows) (first .steps .kinds) (first .steps .numbers) (first .count) ⌝ }
-    ensures { λ r. ⌜ Holds (rowSteps 0 (take width routes) ++ diagonalSteps width disk 0 (take width routes)) r ⌝ }
+// Then the diagonal steps, rows upward, after the `first` that are there.
+fn diagonal_steps(
+    width: usize,
+    disk: usize,
+    routes: &[u8; MAX_WIDTH],
+    rows: &mut [u8; MAX_WIDTH],
+    kinds: &mut [u8; MAX_WIDTH],
+    numbers: &mut [u8; MAX_WIDTH],
+    first: usize,
+)
+    requires { ⌜ (width ≤ 31) × (disk < width) × (length (now routes) ≡ 31) × Counts (rowSteps 0 (take width (now routes))) (now rows) (now kinds) (now numbers) first ⌝ }
+    ensures { λ _. ⌜ Counts (rowSteps 0 (take width (now (routes .entry))) ++ diagonalSteps width disk 0 (take width (now (routes .entry)))) (now (rows .exit)) (now (kinds .exit)) (now (numbers .exit)) width ⌝ }
 {
-    let steps = first.steps;
-    let mut rows = steps.rows;
-    let mut kinds = steps.kinds;
-    let mut numbers = steps.numbers;
-    let mut count = first.count;
+    let mut count = first;
     let mut row = 0;
     while row < width {
         let number = parity_sets::diagonal_of(width, disk, row);
@@ -77,11 +74,6 @@ fn diagonal_steps(width: usize, disk: usize, routes: [u8; MAX_WIDTH], first: Cou
         }
         row += 1;
     }
-    Steps {
-        rows: rows,
-        kinds: kinds,
-        numbers: numbers,
-    }
 }
 
 // The steps for a data disk, after its routes.
@@ -89,8 +81,24 @@ pub fn data_steps(width: usize, disk: usize, routes: [u8; MAX_WIDTH]) -> Steps
     requires { ⌜ (width ≤ 31) × (disk < width) ⌝ }
     ensures { λ r. ⌜ Holds (rowSteps 0 (take width routes) ++ diagonalSteps width disk 0 (take width routes)) r ⌝ }
 {
-    let first = row_steps(width, routes);
-    diagonal_steps(width, disk, routes, first)
+    let mut rows = [0u8; MAX_WIDTH];
+    let mut kinds = [0u8; MAX_WIDTH];
+    let mut numbers = [0u8; MAX_WIDTH];
+    let first = row_steps(width, &routes, &mut rows, &mut numbers);
+    diagonal_steps(
+        width,
+        disk,
+        &routes,
+        &mut rows,
+        &mut kinds,
+        &mut numbers,
+        first,
+    );
+    Steps {
+        rows: rows,
+        kinds: kinds,
+        numbers: numbers,
+    }
 }
 
 // All sets of one kind, upward.

@@ -3,7 +3,7 @@
 // disks.
 ghost use mathlib.Core.Path.{_≡_};
 ghost use Prim.Native.Nat.{_%_, _^_, _≤_, _<_};
-ghost use lib.ListN.{length, getD, take};
+ghost use lib.ListN.{length, getD, take, replicate};
 ghost use lib.Bits.{bitOr};
 ghost use Rattle.liberation.specs.Plans.{firstRoutes, decided, turned, routes, wordFrom};
 ghost use Rattle.planner.specs.RouteRecords.{RoutesAre};
@@ -32,26 +32,19 @@ pub fn with_bit(word: u32, row: usize) -> u32
     word | (1u32 << row)
 }
 
-// The rows that take a diagonal before any row is decided.
-fn first_routes(width: usize, disk: usize) -> Routes
-    requires { ⌜ (width ≤ 31) × (width % 2 ≡ 1) × (disk < width) ⌝ }
-    ensures { λ r. ⌜ RoutesAre width (firstRoutes width disk) (r .routes) (r .word) ⌝ }
+// Marks the rows that take a diagonal before any row is decided. Their word is returned.
+fn first_routes(width: usize, disk: usize, routes: &mut [u8; MAX_WIDTH]) -> u32
+    requires { ⌜ (width ≤ 31) × (width % 2 ≡ 1) × (disk < width) × (now routes ≡ replicate 31 0) ⌝ }
+    ensures { λ r. ⌜ RoutesAre width (firstRoutes width disk) (now (routes .exit)) r ⌝ }
 {
-    let mut routes = [UNDECIDED; MAX_WIDTH];
     routes[disk] = BY_DIAGONAL;
     let word = with_bit(0, disk);
     if disk == 0 {
-        return Routes {
-            routes: routes,
-            word: word,
-        };
+        return word;
     }
     let second = parity_sets::half_of(width, disk);
     routes[second] = BY_DIAGONAL;
-    Routes {
-        routes: routes,
-        word: with_bit(word, second),
-    }
+    with_bit(word, second)
 }
 
 // An undecided row takes its row set if its partner is itself or has a diagonal, else a diagonal,
@@ -91,9 +84,8 @@ pub fn all_routes(width: usize, disk: usize) -> Routes
     ensures { λ r. ⌜ RoutesAre width (routes width disk) (r .routes) (r .word) ⌝ }
 {
     let half = (width - 1) >> 1;
-    let first = first_routes(width, disk);
-    let mut routes = first.routes;
-    let mut word = first.word;
+    let mut routes = [UNDECIDED; MAX_WIDTH];
+    let mut word = first_routes(width, disk, &mut routes);
     let mut row = 0;
     while row < width {
         if half <= u32::count_ones(word) as usize {

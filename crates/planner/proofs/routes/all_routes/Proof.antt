@@ -16,7 +16,7 @@ abbrev μ-loop : tie.MeasureT-loop
 μ-loop width disk half routes₀ word₀ row₀ routes word row = width - row
 
 loop-holds : tie.Need-loop-holds Inv-loop μ-loop
-loop-holds c = let a = c .before .before .args in (refl, under-start (a .width) (a .disk) _ _ (c .before .first-routes .ensures))
+loop-holds c = let a = c .before .before .args in (refl, under-start (a .width) (a .disk) _ _ (c .first-routes .ensures))
 
 cast-if1 : tie.Need-cast-if1 Inv-loop μ-loop
 cast-if1 c = omega (arith, ones-few _ _ _ _ _ (c .before .loop .inv .1))

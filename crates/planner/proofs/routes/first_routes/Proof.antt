@@ -8,10 +8,10 @@ use Rattle.planner.proofs.routes.first_routes.Statement.{statement}
 use Rattle.planner.proofs.routes.first_routes.Tie as tie
 
 returns : tie.Need-returns
-returns c = let a = c .before .before .args in first-are (a .width) (a .disk) (c .before .with-bit .result) (c .before .before .pre .0) (c .before .before .pre .2) (c .if1 .taken) (c .before .with-bit .ensures)
-
-half-of-requires : tie.Need-half-of-requires
-half-of-requires c κs = c .before .before .pre
+returns c =
+    let o = c .before .before in
+    let a = o .args in
+    rw (o .pre .3) (first-are (a .width) (a .disk) (c .before .with-bit .result) (o .pre .0) (o .pre .2) (c .if1 .taken) (c .before .with-bit .ensures))
 
 -- the second row is one of the width's
 second : (h : tie.After-half-of) → h .half-of .result < 31
@@ -26,7 +26,7 @@ returns-2 c =
     let b = e .before .with-bit in
     let o = e .before .before in
     let a = o .args in
-    second-are (a .width) (a .disk) (h .half-of .result) (b .result) (c .with-bit2 .result) (o .pre .0) (o .pre .2) (e .if1 .left) (h .half-of .ensures) (b .ensures) (c .with-bit2 .ensures)
+    rw (o .pre .3) (second-are (a .width) (a .disk) (h .half-of .result) (b .result) (c .with-bit2 .result) (o .pre .0) (o .pre .2) (e .if1 .left) (h .half-of .ensures) (b .ensures) (c .with-bit2 .ensures))
 
 pub first-routes-spec : {M : Type 1} → statement M
 first-routes-spec =
@@ -35,7 +35,7 @@ first-routes-spec =
     (λ c. search needs)
     (λ c κs. search needs)
     returns
-    half-of-requires
-    (λ h. omega (arith, second h))
+    (λ c κs. search needs)
+    second
     (λ h κs. omega (arith, second h))
     returns-2)
