@@ -25,15 +25,12 @@ pub fn follow(
     requires { ⌜ (disk ≤ disks + 1) × (length (now column) ≡ width * size) × (accepted width disks disk (held width steps) ≡ true) ⌝ }
     ensures { λ _. ⌜ now (column .exit) ≡ rebuiltBy width disks size disk (held width steps) (now (stripe .entry)) ⌝ }
 {
-    let rows = steps.rows;
-    let kinds = steps.kinds;
-    let numbers = steps.numbers;
     let mut at = stripe_cells::no_offsets();
     let mut i = 0;
     while i < width {
-        let row = rows[i] as usize;
-        let kind = kinds[i] as usize;
-        let number = numbers[i] as usize;
+        let row = steps.rows[i] as usize;
+        let kind = steps.kinds[i] as usize;
+        let number = steps.numbers[i] as usize;
         one_cell::rebuild_cell(
             width,
             disks,
