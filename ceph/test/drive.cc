@@ -212,6 +212,51 @@ static void refusals()
   }
 }
 
+// Any sets and lengths: an answer by a number, and where all that is given is right, wrong bytes never.
+static void any_arguments()
+{
+  const int shapes[][2] = {{3, 2}, {5, 5}, {7, 6}};
+  for (auto &[p, k] : shapes)
+    for (const char *reads : {"whole", "partial"}) {
+      Pool pool(p, k, 64, reads);
+      auto some = [&](unsigned of) { return random_bytes() % of; };
+      for (int call = 0; call < 5000; call++) {
+        set<int> want;
+        map<int, bufferlist> given, out;
+        bool right = true;
+        for (int d = -1; d < k + 4; d++) {
+          bool there = d >= 0 && d < k + 2;
+          if (there ? some(3) == 0 : some(40) == 0)
+            want.insert(d);
+          if (there ? some(4) == 0 : some(40) != 0)
+            continue;
+          const unsigned lengths[] = {pool.chunk, pool.chunk - 1, 0, 2 * pool.chunk, pool.chunk / p};
+          unsigned length = lengths[some(30) ? 0 : some(5)];
+          right = right && there && length == pool.chunk;
+          bufferlist part;
+          part.substr_of(pool.shards[there ? d : 0], 0, length);
+          given[d].append(part.to_str()); // a copy: the last call writes
+        }
+        const int sizes[] = {(int)pool.chunk, 0, -1, 64, (int)pool.chunk / p, 2 * (int)pool.chunk};
+        int size = sizes[some(10) ? some(2) : some(6)];
+        Ranges least;
+        set<int> have;
+        for (auto &one : given)
+          have.insert(one.first);
+        pool.code->minimum_to_decode(want, have, &least);
+        int r = some(2) ? pool.code->decode(want, given, &out, size) : pool.code->decode_chunks(want, given, &out);
+        MUST(r <= 0);
+        for (int d : want)
+          if (r == 0 && right) {
+            bufferlist first;
+            first.substr_of(pool.shards[d], 0, pool.chunk);
+            MUST(out.count(d) && out[d].contents_equal(first));
+          }
+        pool.code->encode_chunks(want, &given);
+      }
+    }
+}
+
 int main(int, char **argv)
 {
   void *so = dlopen(argv[1], RTLD_NOW);
@@ -221,6 +266,7 @@ int main(int, char **argv)
   defaults();
   refusals();
   without_memory();
+  any_arguments();
   puts("k = w, helpers, sub-chunks read of each, a lost data chunk's reads over k whole chunks");
   for (int p : WIDTHS)
     for (int k = 2; k <= p; k++)
