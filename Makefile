@@ -76,7 +76,7 @@ build/origin: $(if $(filter $(ready),$(file <build/origin)),,FORCE)
 	@echo "$(ready)" >$@
 else ifeq ($(standing),)
 # What LIB= brought is not built here: with build/origin all is built anew.
-proofs = the library is proved before it is compiled, crate by crate: 5 to 7 minutes on two cores the first time, then only what changed
+proofs = the library is proved before it is compiled, crate by crate: 5 to 9 minutes on two cores the first time, then only what changed
 build/libcuzhaveli.a: $(if $(wildcard build/origin),FORCE) archive.sh crates.txt $(shell find crates -name '*.rt' -o -name '*.antt')
 	@command -v rt >/dev/null || { echo "make: the library is built by the Rattle kit, whose command rt is not on PATH; install the kit, or take a ready archive: make LIB=FILE" >&2; exit 1; }
 	@mkdir -p build
