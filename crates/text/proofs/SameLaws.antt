@@ -16,7 +16,7 @@ use Rattle.mathematics.proofs.SearchLaws.{drop-next}
 pub same-long : (a b : List ℕ) → (length a ≡ length b → ⊥) → false ≡ same a b
 same-long a b n = ⊎-elim (λ t. absurd (n (ap length (same-true a b t)))) (λ f. sym f) (flag (same a b))
 
--- the bytes x and y that are looked at, and those after them
+-- the two bytes that are looked at, and those after them
 next : (i : ℕ) (a b : List ℕ) → i < length a → i < length b → same (drop i a) (drop i b) ≡ eqb (getD a i 0) (getD b i 0) && same (drop (i + 1) a) (drop (i + 1) b)
 next i a b h k = ap₂ same (drop-next a i (getD a i 0) h refl) (drop-next b i (getD b i 0) k refl)
 

@@ -2,7 +2,7 @@
 use mathlib.Core.Path.{_≡_, refl}
 use Prim.Native.Nat.{_-_, _≤_}
 use native.Mathlib.Omega.{arith}
-use lib.ListN.{length, drop}
+use lib.ListN.{drop}
 use Rattle.mathematics.specs.Lists.{same}
 use borrow.Author.Needs.{needs}
 use Rattle.text.proofs.SameLaws.{same-long, same-other, same-turn, same-end}
