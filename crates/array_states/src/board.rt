@@ -10,7 +10,7 @@ use refusals::numbers::NO_SUCH_ARRAY;
 
 // What a report on an array of a list answers.
 #[repr(C)]
-#[derive(Drop)]
+#[derive(Clone, Copy)]
 pub struct Board {
     pub answer: Answer,
     pub totals: Totals,

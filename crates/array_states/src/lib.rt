@@ -2,6 +2,8 @@
 // lost or is back, and how many arrays can bear two more losses, one, none, or are past saving.
 // `board`, `scan` and `totals` are public, since the export over the lent list is proved by hand and
 // cites their proofs.
+#![tactic(auto)]
+
 mod bits;
 pub mod board;
 pub mod scan;
@@ -19,7 +21,7 @@ pub use totals::{Scan, scan_length, scan_start};
 // An array of a list: its width p, its data disks k, and a word with bit d set for each lost disk
 // d.
 #[repr(C)]
-#[derive(Drop)]
+#[derive(Clone, Copy)]
 pub struct ArrayState {
     pub width: usize,
     pub disks: usize,
@@ -27,7 +29,7 @@ pub struct ArrayState {
 }
 
 // What a report on one array answers, and the array after it.
-#[derive(Drop)]
+#[derive(Clone, Copy)]
 pub struct StateAnswer {
     pub answer: Answer,
     pub state: ArrayState,

@@ -12,7 +12,7 @@ const MAX_ARRAYS: usize = 64;
 
 // How many arrays of a list can bear two more losses, one more, none, and how many are past saving.
 #[repr(C)]
-#[derive(Drop)]
+#[derive(Clone, Copy)]
 pub struct Totals {
     pub optimal: u32,
     pub degraded: u32,
@@ -22,7 +22,7 @@ pub struct Totals {
 
 // What the scan of a list has found in the records before `at`: the first refusal of a record; the
 // refusal of the report on record `which`, and that record after it; the totals.
-#[derive(Drop)]
+#[derive(Clone, Copy)]
 pub struct Scan {
     pub at: usize,
     pub refusal: u8,

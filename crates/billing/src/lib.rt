@@ -1,5 +1,7 @@
 // Bills of hosted rebuilds (document 02, asks 6 and 10): bytes read in three bands, each with its
 // rate in cents per GiB.
+#![tactic(auto)]
+
 mod numbers;
 
 ghost use Rattle.billing.specs.Bills.{BillRefused, BillSays, RunBillSays};
@@ -16,7 +18,7 @@ const SECOND_BAND_END: u64 = 1024 * GIB;
 
 // The answer, the bytes in each of the three bands, and the cents.
 #[repr(C)]
-#[derive(Drop)]
+#[derive(Clone, Copy)]
 pub struct Bill {
     pub answer: Answer,
     pub first: u64,

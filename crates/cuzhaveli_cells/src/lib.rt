@@ -1,5 +1,7 @@
 // The call for C and Rust that mends missing cells of a stripe.
 // It hands its arguments on to the proved call and promises what that call promises.
+#![tactic(auto)]
+
 ghost use Rattle.rebuild_cells.specs.Says.{RebuildCellsSays};
 
 use refusals::{Answer, Shape};

@@ -1,6 +1,8 @@
 // The calls for C and Rust that test the cells of a stripe: is it clean, which disk is
 // inconsistent, a rebuild that tests the survivors.
 // Each hands its arguments on to the proved call and promises what that call promises.
+#![tactic(auto)]
+
 ghost use Rattle.scrub.specs.CheckSays.{CheckSays};
 ghost use Rattle.scrub.specs.ScrubSays.{ScrubSays};
 ghost use Rattle.rebuild_tested.specs.Says.{TestedSays};

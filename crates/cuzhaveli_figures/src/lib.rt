@@ -1,5 +1,7 @@
 // The calls for C and Rust that reckon: the space of a package, bills, the version of the library.
 // Each hands its arguments on to the proved call and promises what that call promises.
+#![tactic(auto)]
+
 ghost use Rattle.std.specs.Prelude.{◌≡◌};
 ghost use Rattle.space.specs.Says.{SpaceSays};
 ghost use Rattle.billing.specs.Bills.{BillSays, RunBillSays};

@@ -1,6 +1,8 @@
 // The calls for C and Rust on the layout of images: where cells, pieces, checksum blocks, labels and
 // every byte of film are.
 // Each hands its arguments on to the proved call and promises what that call promises.
+#![tactic(auto)]
+
 ghost use Rattle.image_layout.specs.Says.{ImageSays, CellSays, BlockSays, UnitSays, FilmSays};
 
 use image_layout::{FilmPlace, Image, Layout, Place, UnitPlace};

@@ -1,6 +1,8 @@
 // The calls on plans for C and Rust: each hands its numbers and slices on to the proved call and
 // promises what that call promises.
 // Widths, disks, sizes and lengths come in as `usize`, so nothing is narrowed before it is tested.
+#![tactic(auto)]
+
 ghost use Rattle.planner.specs.PlanSays.{PlanSays};
 ghost use Rattle.planner.specs.BalancedPlanSays.{BalancedSays};
 ghost use Rattle.planner.specs.ReliefPlanSays.{ReliefSays};

@@ -1,5 +1,7 @@
 // The calls for C and Rust that rebuild lost disks of a stripe.
 // Each hands its arguments on to the proved call and promises what that call promises.
+#![tactic(auto)]
+
 ghost use Rattle.rebuild_one.specs.RebuildOneSays.{OneSays};
 ghost use Rattle.host_plans.specs.RebuildByPlanSays.{ByPlanSays};
 ghost use Rattle.rebuild_one.specs.RebuildBalancedSays.{BalancedOneSays};

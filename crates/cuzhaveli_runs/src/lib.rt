@@ -1,5 +1,7 @@
 // The calls for C and Rust on a rebuild run.
 // Each hands its arguments on to the proved call and promises what that call promises.
+#![tactic(auto)]
+
 ghost use Rattle.std.specs.Prelude.{◌≡◌};
 ghost use Rattle.rebuild_runs.specs.Runs.{SkipSays};
 ghost use Rattle.rebuild_runs.specs.Starts.{OpenSays, resumed, resumed_disks};

@@ -1,6 +1,8 @@
 // The calls for C and Rust on stripes of several servers, of which the last holds the XOR of the
 // others.
 // Each hands its arguments on to the proved call and promises what that call promises.
+#![tactic(auto)]
+
 ghost use Rattle.parity_server.specs.Says.{WriteServerSays, RebuildServerSays};
 
 use refusals::{Answer, Shape};

@@ -1,5 +1,7 @@
 // The call for C and Rust on a list of the states of arrays.
 // It goes over the lent records itself and hands each to the proved steps of `array_states`.
+#![tactic(auto)]
+
 ghost use Rattle.array_states.specs.Reports.{ReportSays};
 
 use array_states::{ArrayState, Board};

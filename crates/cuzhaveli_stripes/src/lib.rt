@@ -1,6 +1,8 @@
 // The calls for C and Rust that write a stripe: P and Q from all data cells, or one data cell and
 // the parity that depends on it.
 // Each hands its arguments on to the proved call and promises what that call promises.
+#![tactic(auto)]
+
 ghost use Rattle.encode.specs.Says.{EncodeSays};
 ghost use Rattle.update.specs.Says.{UpdateSays};
 

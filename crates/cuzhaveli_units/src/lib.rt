@@ -1,5 +1,7 @@
 // The calls for C and Rust on units of a set under their checksums.
 // Each hands its arguments on to the proved call and promises what that call promises.
+#![tactic(auto)]
+
 ghost use Rattle.unit_sums.specs.Sealing.{SealSays};
 ghost use Rattle.unit_sums.specs.OneBlock.{BlockSays};
 ghost use Rattle.unit_sums.specs.OnePiece.{FitSays};

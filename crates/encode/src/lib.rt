@@ -1,5 +1,7 @@
 // Encoding a stripe, which writes P and Q: by groups of data disks where that is faster, else P as
 // one run of bytes and Q diagonal by diagonal.
+#![tactic(auto)]
+
 mod groups;
 mod offsets;
 mod sets;

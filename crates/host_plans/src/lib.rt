@@ -1,4 +1,6 @@
 // Any plan that the judge accepts, carried out: its read list, and the rebuild of one disk by it.
+#![tactic(auto)]
+
 mod bytes;
 mod reads;
 mod rebuild;

@@ -1,6 +1,8 @@
 // Where the bytes of an image stand: an image keeps one disk of a film, a label at either end. The
 // calls refuse a layout beyond the limits and places that it does not have, so a caller need check
 // nothing.
+#![tactic(auto)]
+
 mod limits;
 mod places;
 
@@ -13,7 +15,7 @@ use refusals::Answer;
 // The numbers of a set of images: the width, the data disks, the bytes of a cell, the stripes of a
 // unit and of a group, and the bytes of the film.
 #[repr(C)]
-#[derive(Drop)]
+#[derive(Clone, Copy)]
 pub struct Layout {
     pub width: usize,
     pub disks: usize,
@@ -26,7 +28,7 @@ pub struct Layout {
 // The answer, the stripes of the film, its units, where the second label begins, and the bytes of
 // an image.
 #[repr(C)]
-#[derive(Drop)]
+#[derive(Clone, Copy)]
 pub struct Image {
     pub answer: Answer,
     pub stripes: u64,
@@ -37,7 +39,7 @@ pub struct Image {
 
 // The answer, and where in an image how many bytes stand.
 #[repr(C)]
-#[derive(Drop)]
+#[derive(Clone, Copy)]
 pub struct Place {
     pub answer: Answer,
     pub at: u64,
@@ -47,7 +49,7 @@ pub struct Place {
 // The answer, the first stripe of a unit, its stripes, and where in an image how many bytes of the
 // piece of a row stand: the cells of that row, side by side.
 #[repr(C)]
-#[derive(Drop)]
+#[derive(Clone, Copy)]
 pub struct UnitPlace {
     pub answer: Answer,
     pub first: u64,
@@ -59,7 +61,7 @@ pub struct UnitPlace {
 // The answer, the stripe, data disk, row and byte of the cell for a byte of the film, and where
 // that byte stands in the image of the disk.
 #[repr(C)]
-#[derive(Drop)]
+#[derive(Clone, Copy)]
 pub struct FilmPlace {
     pub answer: Answer,
     pub stripe: u64,

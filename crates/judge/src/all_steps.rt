@@ -11,7 +11,7 @@ use refusals::Answer;
 
 // The answer, and the read count.
 #[repr(C)]
-#[derive(Drop)]
+#[derive(Clone, Copy)]
 pub struct Judged {
     pub answer: Answer,
     pub reads: u32,

@@ -1,4 +1,6 @@
 // The judge of a plan sent by a host: its read count, or a refusal with its place.
+#![tactic(auto)]
+
 mod all_steps;
 mod one_step;
 

@@ -1,6 +1,8 @@
 // A parity server for several servers, whose stripes lie one after another: the extra stripe
 // written as the XOR of the others, and any one server rebuilt from the others, whose lost disks
 // are mended first.
+#![tactic(auto)]
+
 mod limits;
 mod losses;
 mod mends;

@@ -1,5 +1,7 @@
 // The parity sets of the code as functions: the cells of a set one by one, and marks of the cells
 // that a plan reads.
+#![tactic(auto)]
+
 mod marks;
 
 ghost use Rattle.std.specs.Prelude.{◌≡◌, ◌+◌, ◌%◌, ◌≤◌, ◌<◌, eqb, length, get_or};

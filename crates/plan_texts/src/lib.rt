@@ -1,4 +1,6 @@
 // A host's plan as a text: its form, read, judged, and written in its one plain form.
+#![tactic(auto)]
+
 mod judged;
 mod letters;
 mod numbers;

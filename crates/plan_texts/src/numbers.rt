@@ -9,7 +9,7 @@ ghost use Rattle.plan_texts.specs.NumberSays.{MadeNumber, NumberAt};
 const MAX_NUMBER: usize = 255;
 
 // A number in a text: whether there is one, its value, and the place after its digits.
-#[derive(Drop)]
+#[derive(Clone, Copy)]
 pub struct Number {
     pub ok: bool,
     pub value: usize,

@@ -15,7 +15,7 @@ const TEXT_BYTES: usize = 263;
 
 // The answer, and the length of the text that was written.
 #[repr(C)]
-#[derive(Drop)]
+#[derive(Clone, Copy)]
 pub struct Written {
     pub answer: Answer,
     pub length: usize,

@@ -15,7 +15,7 @@ const PLAN_BYTES: usize = 31 * STEP_BYTES;
 const HEAD_BYTES: usize = 14;
 
 // A line in a text: whether there is one, the step that it names, and the place after it.
-#[derive(Drop)]
+#[derive(Clone, Copy)]
 pub struct Line {
     pub ok: bool,
     pub row: usize,
@@ -26,7 +26,7 @@ pub struct Line {
 
 // What was read of a text: whether it is a plan's, and the plan as three bytes a step, with zeros
 // after them.
-#[derive(Drop)]
+#[derive(Clone, Copy)]
 pub struct Parsed {
     pub ok: bool,
     pub plan: [u8; PLAN_BYTES],

@@ -3,6 +3,8 @@
 // `balanced_routes`, `relief_routes`, `fewest_step`). All else is done once: `steps::by_routes`
 // makes the steps, `finished` counts the reads.
 // Nothing here knows of bytes in stripes.
+#![tactic(auto)]
+
 mod balanced;
 mod balanced_routes;
 mod fewest;
@@ -31,7 +33,7 @@ pub use steps::{Planned, plan_steps};
 
 // A plan: the answer, the steps, a bit for each row that takes a diagonal, the read count.
 #[repr(C)]
-#[derive(Drop)]
+#[derive(Clone, Copy)]
 pub struct Plan {
     pub answer: Answer,
     pub steps: Steps,

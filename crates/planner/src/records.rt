@@ -16,7 +16,7 @@ pub const DIAGONAL_KIND: u8 = DIAGONAL_SET as u8;
 // The steps of a plan, each with its row, its kind and its set number, in 31 places; zeros after
 // the last.
 #[repr(C)]
-#[derive(Drop)]
+#[derive(Clone, Copy)]
 pub struct Steps {
     pub rows: [u8; MAX_WIDTH],
     pub kinds: [u8; MAX_WIDTH],

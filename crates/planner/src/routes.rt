@@ -18,7 +18,7 @@ pub const BY_ROW: u8 = 1;
 pub const BY_DIAGONAL: u8 = 2;
 
 // A route for each row, and the rows with a diagonal as a word.
-#[derive(Drop)]
+#[derive(Clone, Copy)]
 pub struct Routes {
     pub routes: [u8; MAX_WIDTH],
     pub word: u32,

@@ -13,7 +13,7 @@ use refusals::Answer;
 
 // A plan whose reads are not counted: a rebuild needs no count.
 #[repr(C)]
-#[derive(Drop)]
+#[derive(Clone, Copy)]
 pub struct Planned {
     pub answer: Answer,
     pub steps: Steps,

@@ -1,4 +1,6 @@
 // The printed plan as text: the plan's lines or a refusal.
+#![tactic(auto)]
+
 mod input;
 
 ghost use Rattle.std.specs.Prelude.{◌≡◌, [], ◌+◌, ◌*◌, ◌≤◌, ◌<◌, length, replicate};
@@ -21,7 +23,7 @@ const TEXT_BYTES: usize = 458;
 
 // A printed text: its bytes, zeros after them, and how many they are.
 #[repr(C)]
-#[derive(Drop)]
+#[derive(Clone, Copy)]
 pub struct Text {
     pub bytes: [u8; TEXT_BYTES],
     pub length: usize,

@@ -1,5 +1,7 @@
 // The rebuild of missing cells, on any disks of a stripe, in place: whatever the other cells
 // determine comes back. The equations of the missing cells are reduced, then solved.
+#![tactic(auto)]
+
 mod equations;
 mod mends;
 mod nearest;

@@ -1,5 +1,7 @@
 // The rebuild of one lost disk from a lent stripe into a lent column: our plan is made and
 // followed.
+#![tactic(auto)]
+
 mod balanced;
 mod in_place;
 mod into_column;

@@ -3,6 +3,8 @@
 // are tested like any others. No bytes of a stripe are touched here: `starts` opens a run, `steps`
 // rebuilds, `progress` says how far a run is. These two are public, since the exports over a lent
 // record are proved by hand and cite their proofs.
+#![tactic(auto)]
+
 pub mod progress;
 mod starts;
 pub mod steps;
@@ -19,7 +21,7 @@ pub use steps::step_run;
 // A run: the shape of the array, the lost disk, how many stripes there are, which of them is next,
 // and how many before it were skipped.
 #[repr(C)]
-#[derive(Drop)]
+#[derive(Clone, Copy)]
 pub struct Run {
     pub shape: Shape,
     pub lost: usize,
@@ -30,7 +32,7 @@ pub struct Run {
 
 // A refusal or none, and the record as it is then.
 #[repr(C)]
-#[derive(Drop)]
+#[derive(Clone, Copy)]
 pub struct RunAnswer {
     pub answer: Answer,
     pub run: Run,

@@ -7,7 +7,7 @@ use refusals::Answer;
 
 // How far a run is: the answer, whether it is over, and the cells read so far.
 #[repr(C)]
-#[derive(Drop)]
+#[derive(Clone, Copy)]
 pub struct Progress {
     pub answer: Answer,
     pub over: bool,

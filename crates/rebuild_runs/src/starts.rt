@@ -8,7 +8,7 @@ use refusals::Shape;
 
 // The record of a run before stripes could be skipped.
 #[repr(C)]
-#[derive(Drop)]
+#[derive(Clone, Copy)]
 pub struct DisksRun {
     pub shape: Shape,
     pub lost: usize,
@@ -19,7 +19,7 @@ pub struct DisksRun {
 // The record of document 01, of a run in an array with as many data disks as its width: the width,
 // the bytes of a cell, the lost disk, stripes and next.
 #[repr(C)]
-#[derive(Drop)]
+#[derive(Clone, Copy)]
 pub struct FullRun {
     pub width: usize,
     pub size: usize,

@@ -1,5 +1,7 @@
 // The rebuild of one lost disk with tested survivors: only where they are those of a clean stripe
 // is the column written.
+#![tactic(auto)]
+
 mod columns;
 
 ghost use Rattle.std.specs.Prelude.{◌≡◌, not, length};

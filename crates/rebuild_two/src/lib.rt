@@ -1,5 +1,7 @@
 // The rebuild of two lost disks in place: document 01, "Two lost disks". Refusals are tested here;
 // the walk is below.
+#![tactic(auto)]
+
 mod data;
 mod pair;
 mod with_parity;

@@ -1,5 +1,7 @@
 // What a call answers when it refuses, the shape of an array, and the tests of the numbers of a
 // call together, in the order of the refusals.
+#![tactic(auto)]
+
 mod limits;
 pub mod numbers;
 mod stripe;
@@ -14,7 +16,7 @@ pub use stripe::stripe_refusal;
 // The first field of every answer: document 01's refusal number, 0 for an accepted call, and the
 // place.
 #[repr(C)]
-#[derive(Drop)]
+#[derive(Clone, Copy)]
 pub struct Answer {
     pub refusal: u8,
     pub place: u32,
@@ -23,7 +25,7 @@ pub struct Answer {
 // The shape of an array: the width, which is also the number of rows, the data disks, and the bytes
 // of a cell.
 #[repr(C)]
-#[derive(Drop)]
+#[derive(Clone, Copy)]
 pub struct Shape {
     pub width: usize,
     pub disks: usize,

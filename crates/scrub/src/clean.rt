@@ -10,7 +10,7 @@ use refusals::{Answer, Shape};
 
 // The answer, and whether the stripe is clean.
 #[repr(C)]
-#[derive(Drop)]
+#[derive(Clone, Copy)]
 pub struct Checked {
     pub answer: Answer,
     pub clean: bool,

@@ -1,5 +1,7 @@
 // The scrub of a stripe: is it clean, is one disk inconsistent with the others, or more than one?
 // The stripe is only read.
+#![tactic(auto)]
+
 mod clean;
 mod equations;
 mod fit;
@@ -24,7 +26,7 @@ const MORE_THAN_ONE: u8 = 2;
 
 // The answer, the verdict, and the disk's number where one disk is inconsistent, else 0.
 #[repr(C)]
-#[derive(Drop)]
+#[derive(Clone, Copy)]
 pub struct Scrubbed {
     pub answer: Answer,
     pub verdict: u8,

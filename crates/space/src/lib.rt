@@ -1,5 +1,7 @@
 // The space that a package of files takes, each file on stripes of its own: the stripes, the bytes
 // of each disk, and whether that fits.
+#![tactic(auto)]
+
 mod limits;
 
 ghost use Rattle.std.specs.Prelude.{◌≡◌};
@@ -10,7 +12,7 @@ use refusals::{Answer, Shape};
 
 // The answer, the stripes, the bytes of each disk, and whether these are at most the free bytes.
 #[repr(C)]
-#[derive(Drop)]
+#[derive(Clone, Copy)]
 pub struct Space {
     pub answer: Answer,
     pub stripes: u64,

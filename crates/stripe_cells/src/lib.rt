@@ -1,5 +1,7 @@
 // The cells of a lent stripe: the byte offsets of a parity set's cells, and one cell solved by its
 // set.
+#![tactic(auto)]
+
 mod in_set;
 mod odd_cells;
 mod odd_marks;

@@ -20,7 +20,7 @@ pub fn toggle_all(marks: &mut [u8], places: &[usize])
 }
 
 // How many numbers of the list are in use, and the first place that was not looked at.
-#[derive(Drop)]
+#[derive(Clone, Copy)]
 pub struct Listed {
     pub count: usize,
     pub next: usize,

@@ -1,6 +1,8 @@
 // Text in a lent slice. The writers put a piece at a place, a fixed word or a number in decimal,
 // leave all other bytes as they are, and say where the piece ends.
 // The readers look at one byte, or compare two texts.
+#![tactic(auto)]
+
 mod steps;
 
 ghost use Rattle.std.specs.Prelude.{◌≡◌, [], ◌∷◌, ◌+◌, ◌-◌, ◌≤◌, ◌<◌, length, get_or};

@@ -1,5 +1,7 @@
 // A unit opened under its checksums: pieces that are marked as missing, or do not fit, are mended
 // from the others, and what was mended is compared.
+#![tactic(auto)]
+
 mod limits;
 mod opening;
 

@@ -1,5 +1,7 @@
 // Units of a set and their checksums: a unit is sealed, which makes its checksum block, and one
 // piece is compared with the checksum that a block has for it.
+#![tactic(auto)]
+
 mod block;
 mod limits;
 mod numbers;

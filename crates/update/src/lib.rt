@@ -1,5 +1,7 @@
 // Updating one data cell of a stripe, with its row parity and its diagonal parity. The cell itself
 // holds the change while that is added to the parity cells, so no other memory is needed.
+#![tactic(auto)]
+
 mod parity;
 
 ghost use Rattle.std.specs.Prelude.{◌≡◌, length};

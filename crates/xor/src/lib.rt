@@ -1,5 +1,7 @@
 // Sums of bytes: parts of a slice are added to another slice, or make blocks of 128 and 64 bytes
 // that stay in registers.
+#![tactic(auto)]
+
 mod blocks;
 mod into_slice;
 mod lists;

@@ -1,5 +1,7 @@
 // The gather within one slice: a part becomes the XOR of parts of the same slice. A block is read
 // before it is written, so the part itself may be among them.
+#![tactic(auto)]
+
 mod blocks;
 mod lists;
 

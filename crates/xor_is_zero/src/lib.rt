@@ -1,5 +1,7 @@
 // Is the XOR of parts of a slice zero? Block by block, or stretch by stretch where many long parts
 // are summed.
+#![tactic(auto)]
+
 mod blocks;
 mod one_stretch;
 

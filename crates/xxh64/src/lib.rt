@@ -1,4 +1,6 @@
 // XXH64, a checksum of 64 bits.
+#![tactic(auto)]
+
 ghost use Rattle.std.specs.Prelude.{◌≡◌, ◌+◌, ◌-◌, ◌*◌, ◌/◌, ◌^◌, ◌≤◌, length};
 ghost use Rattle.xxh64.specs.Checksum.{add, prime1, prime2, stripes as stripes_of, start as start_of, words, eight, four, one, rest, xxh64};
 

@@ -1,0 +1,11 @@
+-- `is_lost`: the lowest bit of what is left after the shift is its remainder by 2.
+use mathlib.Core.Path.{ap}
+use mathlib.Core.Bool.{Bool}
+use Prim.Native.Nat.{ℕ, ◌/◌, ◌^◌}
+use lib.Bits.{and_mask}
+use lib.Dec.{eqb}
+use borrow.Author.Rules.{rules}
+use Rattle.array_states.proofs.bits.is_lost.Goals as goal
+
+pub returns : goal.returns
+returns c = let a = c.args in ap (λ (n : ℕ). eqb n 1) (and_mask (a.lost / 2 ^ a.disk) 1)

@@ -1,0 +1,27 @@
+-- `add_one`: each turn stores the next byte of the XOR of the destination and the part.
+use mathlib.Core.Path.{refl}
+use Prim.Native.Nat.{◌+◌, ◌-◌, ◌<◌}
+use native.Mathlib.Omega.{arith}
+use lib.ListN.{length}
+use Rattle.mathematics.specs.Xor.{xor_l}
+use Rattle.xor.specs.Parts.{part}
+use Rattle.xor.proofs.StoreLaws.{Stored, stored_none, stored_more, stored_whole, part_long, xor_long, of_whole, of_part, of_xor}
+use Rattle.xor.proofs.add_one.Goals as goal
+
+pub loop-i-init : goal.loop-i-init
+loop-i-init c =
+    let o = c.args in
+    let n = length o.dst.now in
+    stored_none o.dst.now _ 0 n (omega arith) (xor_long (record { size = refl }) (part_long o.t.now o.a n c.requires))
+
+pub loop-i-preserved : goal.loop-i-preserved
+loop-i-preserved c =
+    let o = c.args in
+    let st = c.loop-i.invariant in
+    let i = c.loop-i.i in
+    let n = length o.dst.now in
+    let h : i < n = omega arith in
+    stored_more i (omega arith) st (of_xor (of_whole st h refl (c.slice_known-1.given i)) (of_part o.t.now o.a n i h c.requires (c.shared_slice_known-1.given (o.a + i))))
+
+pub returns : goal.returns
+returns c = stored_whole c.loop-i.invariant (omega arith) refl

@@ -1,0 +1,18 @@
+-- `gather_blocks`: block after block of 128 bytes, then what is left.
+use mathlib.Core.Path.{◌≡◌, refl, sym, subst, ap, ap₂, ◌∙◌}
+use mathlib.Core.List.{List, ◌++◌}
+use Prim.Native.Nat.{ℕ, ◌+◌, ◌-◌, ◌≤◌}
+use native.Mathlib.Omega.{arith}
+use lib.ListN.{length, take, drop}
+use lib.Seq.{drop-drop}
+use Rattle.xor.specs.Parts.{xor_offsets}
+use Rattle.xor.specs.Reach.{Reached}
+use Rattle.xor.proofs.BlockLaws.{block_next, block_last, tail_is, tail_long, reach_tail}
+use Rattle.xor.proofs.into_slice.gather_blocks.Given as goal
+
+-- the first b bytes stand
+abbrev pub invariant-loop-b : goal.invariant-loop-b
+invariant-loop-b l = (l.b ≤ length l.initial.dst) × (length l.dst ≡ length l.initial.dst) × (take l.b l.dst ≡ take l.b (xor_offsets (length l.initial.dst) l.t l.at))
+
+abbrev pub decreases-loop-b : goal.decreases-loop-b
+decreases-loop-b l = l.n - l.b

@@ -1,0 +1,16 @@
+-- `gather_small`: block after block of 64 bytes, then the rest, if there is one.
+use mathlib.Core.Path.{◌≡◌, refl, sym, subst}
+use Prim.Native.Nat.{ℕ, ◌+◌, ◌-◌, ◌≤◌}
+use native.Mathlib.Omega.{arith}
+use lib.ListN.{length, take}
+use Rattle.xor.specs.Parts.{xor_offsets}
+use Rattle.xor.specs.Reach.{Reached}
+use Rattle.xor.proofs.BlockLaws.{block_next, block_last, block_all}
+use Rattle.xor.proofs.into_slice.gather_small.Given as goal
+
+-- the first b bytes stand
+abbrev pub invariant-loop-b : goal.invariant-loop-b
+invariant-loop-b l = (l.b ≤ length l.initial.dst) × (length l.dst ≡ length l.initial.dst) × (take l.b l.dst ≡ take l.b (xor_offsets (length l.initial.dst) l.t l.at))
+
+abbrev pub decreases-loop-b : goal.decreases-loop-b
+decreases-loop-b l = l.n - l.b

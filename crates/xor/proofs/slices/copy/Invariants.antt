@@ -1,0 +1,14 @@
+-- `copy`: each turn stores the next byte of the source.
+use mathlib.Core.Path.{refl}
+use Prim.Native.Nat.{◌-◌, ◌<◌}
+use native.Mathlib.Omega.{arith}
+use lib.ListN.{length}
+use Rattle.xor.proofs.StoreLaws.{Stored, stored_none, stored_more, stored_whole}
+use Rattle.xor.proofs.slices.copy.Given as goal
+
+-- after i turns the destination holds the first i bytes of the source
+abbrev pub invariant-loop-i : goal.invariant-loop-i
+invariant-loop-i l = Stored l.initial.dst 0 (length l.initial.dst) l.src l.dst l.i
+
+abbrev pub decreases-loop-i : goal.decreases-loop-i
+decreases-loop-i l = l.n - l.i

@@ -1,0 +1,16 @@
+-- `gather_within`: block after block of 128 bytes, then what is left. The invariant: the first b
+-- bytes from d on are new.
+use mathlib.Core.Path.{◌≡◌, refl}
+use mathlib.Core.List.{◌++◌}
+use Prim.Native.Nat.{◌+◌, ◌-◌, ◌≤◌}
+use native.Mathlib.Omega.{arith}
+use lib.ListN.{length, take, drop}
+use Rattle.xor.specs.Parts.{with_part, xor_offsets}
+use Rattle.xor_in_place.proofs.WithinLaws.{within_none, within_next, within_all, reach_less, beside_tail, put_tail}
+use Rattle.xor_in_place.proofs.gather_within.Given as goal
+
+abbrev pub invariant-loop-b : goal.invariant-loop-b
+invariant-loop-b l = (l.b ≤ l.n) × (length l.t ≡ length l.initial.t) × (l.t ≡ with_part l.b l.d (take l.b (xor_offsets l.n l.initial.t l.at)) l.initial.t)
+
+abbrev pub decreases-loop-b : goal.decreases-loop-b
+decreases-loop-b l = l.n - l.b

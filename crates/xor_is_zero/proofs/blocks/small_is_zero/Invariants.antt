@@ -1,0 +1,20 @@
+-- `small_is_zero`: block after block of 64 bytes, then the rest, if there is one. The invariant:
+-- the answer is that of what is left.
+use mathlib.Core.Path.{◌≡◌, sym, ap, ◌∙◌}
+use mathlib.Core.Bool.{Bool, true, false, ◌&&◌}
+use mathlib.Core.List.{List}
+use Prim.Native.Nat.{ℕ, ◌+◌, ◌-◌, ◌≤◌}
+use native.Mathlib.Omega.{arith}
+use lib.ListN.{replicate}
+use borrow.Author.Tests.{not-true, not-false}
+use Rattle.mathematics.specs.Lists.{same}
+use Rattle.xor.specs.Parts.{xor_offsets}
+use Rattle.xor.proofs.BlockLaws.{tail_is, reach_tail}
+use Rattle.xor.proofs.ZeroLaws.{zero_from, zero_all, zero_next, zero_none}
+use Rattle.xor_is_zero.proofs.blocks.small_is_zero.Given as goal
+
+abbrev pub invariant-loop-b : goal.invariant-loop-b
+invariant-loop-b l = (l.b ≤ l.n) × (same (xor_offsets l.n l.t l.at) (replicate l.n 0) ≡ zero_from l.b l.n l.t l.at)
+
+abbrev pub decreases-loop-b : goal.decreases-loop-b
+decreases-loop-b l = l.n - l.b

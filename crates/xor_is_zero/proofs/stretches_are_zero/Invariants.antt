@@ -1,0 +1,21 @@
+-- `stretches_are_zero`: stretch after stretch, in one buffer. The invariant: whole stretches are
+-- done, and the answer is that of what is left; what the buffer holds plays no part.
+use mathlib.Core.Path.{◌≡◌, refl, sym, ap, ◌∙◌}
+use mathlib.Core.Bool.{Bool, true, false, ◌&&◌}
+use mathlib.Core.List.{List}
+use Prim.Native.Nat.{ℕ, ◌+◌, ◌-◌, ◌%◌, ◌≤◌}
+use native.Mathlib.Omega.{arith}
+use lib.ListN.{length, replicate, length-replicate}
+use borrow.Author.Rules.{rules}
+use borrow.Author.Tests.{not-true, not-false}
+use Rattle.mathematics.specs.Lists.{same}
+use Rattle.xor.specs.Parts.{xor_offsets}
+use Rattle.xor.proofs.BlockLaws.{tail_is, tail_long, reach_tail}
+use Rattle.xor.proofs.ZeroLaws.{zero_from, zero_all, zero_next, zero_none}
+use Rattle.xor_is_zero.proofs.stretches_are_zero.Given as goal
+
+abbrev pub invariant-loop-b : goal.invariant-loop-b
+invariant-loop-b l = (l.b ≤ l.n) × (l.b % 2048 ≡ 0) × (same (xor_offsets l.n l.t l.at) (replicate l.n 0) ≡ zero_from l.b l.n l.t l.at) × (length l.stretch ≡ 2048)
+
+abbrev pub decreases-loop-b : goal.decreases-loop-b
+decreases-loop-b l = l.n - l.b

@@ -1,0 +1,8 @@
+-- `converged`: step by step as in the definition.
+use borrow.Author.Rules.{rules}
+use Rattle.xxh64.specs.Checksum.{converge}
+use Rattle.xxh64.proofs.mixing.converged.Goals as goal
+
+pub returns : goal.returns
+unfolding converge
+returns c = cc

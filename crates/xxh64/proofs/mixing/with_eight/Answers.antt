@@ -1,0 +1,8 @@
+-- `with_eight`: step by step as in the definition.
+use borrow.Author.Rules.{rules}
+use Rattle.xxh64.specs.Checksum.{eight}
+use Rattle.xxh64.proofs.mixing.with_eight.Goals as goal
+
+pub returns : goal.returns
+unfolding eight
+returns c = cc

@@ -1,0 +1,18 @@
+-- `with_eights`: what is left gives what the whole gives.
+use mathlib.Core.Path.{◌≡◌, refl}
+use Prim.Native.Nat.{◌+◌, ◌*◌, ◌≤◌}
+use native.Mathlib.Omega.{arith}
+use lib.ListN.{length}
+use borrow.Author.Rules.{rules}
+use Rattle.xxh64.specs.Checksum.{words, eight}
+use Rattle.xxh64.proofs.LoopLaws.{words_none, words_more}
+use Rattle.xxh64.proofs.with_eights.Goals as goal
+
+pub loop-left-init : goal.loop-left-init
+loop-left-init c = (c.requires, refl)
+
+pub loop-left-preserved : goal.loop-left-preserved
+loop-left-preserved c = (omega arith, cc (words_more eight 8 c.loop-left.left c.loop-left.at c.args.bytes.now c.loop-left.total c.loop-left-test.true))
+
+pub returns : goal.returns
+returns c = cc (words_none eight 8 c.loop-left.left c.loop-left.at c.args.bytes.now c.loop-left.total c.loop-left-test.false)

@@ -1,0 +1,15 @@
+-- `with_fours`: what is left gives what the whole gives.
+use mathlib.Core.Path.{◌≡◌, refl}
+use Prim.Native.Nat.{◌+◌, ◌*◌, ◌≤◌}
+use native.Mathlib.Omega.{arith}
+use lib.ListN.{length}
+use borrow.Author.Rules.{rules}
+use Rattle.xxh64.specs.Checksum.{words, four}
+use Rattle.xxh64.proofs.LoopLaws.{words_none, words_more}
+use Rattle.xxh64.proofs.with_fours.Given as goal
+
+abbrev pub invariant-loop-left : goal.invariant-loop-left
+invariant-loop-left l = (l.at + 4 * l.left ≤ length l.bytes) × (words four 4 l.left l.at l.bytes l.total ≡ words four 4 l.count l.from l.bytes l.begun)
+
+abbrev pub decreases-loop-left : goal.decreases-loop-left
+decreases-loop-left l = l.left
