@@ -253,9 +253,9 @@ class Turn:
                 out = re.sub(rf"\.{re.escape(old[7:])}(?![\w'\-₀-₉])", "." + new[7:], out)
         for old, new in self.goal_names.items():
             if old != new:
-                out = re.sub(rf"(?<![\w.'\-₀-₉]){re.escape(old)}(?![\w'\-₀-₉])", new, out)
+                out = re.sub(rf"(?<![\w.'\-₀-₉]){re.escape(old)}(?![\w'\-₀-₉]| =)", new, out)
         for old in self.helpers:
-            if re.search(rf"(?<![\w.'\-₀-₉]){re.escape(old)}(?![\w'\-₀-₉])", text):
+            if re.search(rf"(?<![\w.'\-₀-₉]){re.escape(old)}(?![\w'\-₀-₉]| =)", text):
                 self.called.add(old)
         return out
 
@@ -421,7 +421,7 @@ def convert(path, module, info):
     def renamed(text, goal_place, called):
         for h in called:
             if (h, goal_place) in named:
-                text = re.sub(rf"(?<![\w.'\-₀-₉]){re.escape(h)}(?![\w'\-₀-₉])", named[(h, goal_place)], text)
+                text = re.sub(rf"(?<![\w.'\-₀-₉]){re.escape(h)}(?![\w'\-₀-₉]| =)", named[(h, goal_place)], text)
         return text
 
     keep = [u for u in uses if not re.search(r"\.Statement\.\{statement\}|\.Tie as tie", u)]

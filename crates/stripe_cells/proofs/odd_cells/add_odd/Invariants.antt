@@ -1,0 +1,15 @@
+-- `add_odd`: list after list. The invariant: what stands in the cell, with the odd cells still to
+-- come, is the XOR of all.
+use mathlib.Core.Path.{◌≡◌, refl}
+use Prim.Native.Nat.{◌-◌, ◌*◌}
+use native.Mathlib.Omega.{arith}
+use lib.ListN.{length, set, length-set}
+use Rattle.xor.proofs.SourceLaws.{bytes_all}
+use Rattle.stripe_cells.proofs.GatherLaws.{Gathering, own_first, start_own, gathering_none, gathering_next, gathering_end, still_marked, own_small}
+use Rattle.stripe_cells.proofs.odd_cells.add_odd.Given as goal
+
+abbrev pub invariant-loop-next : goal.invariant-loop-next
+invariant-loop-next l = (length l.at ≡ length l.initial.at) × (length l.stripe ≡ length l.initial.stripe) × Gathering l.size l.to l.marks l.initial.stripe l.from l.stripe l.next
+
+abbrev pub decreases-loop-next : goal.decreases-loop-next
+decreases-loop-next l = l.all - l.next

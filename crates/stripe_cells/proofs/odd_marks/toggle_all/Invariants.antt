@@ -1,0 +1,16 @@
+-- `toggle_all`: each turn toggles the mark of the next place. The invariant: the places still to
+-- come, toggled in the marks as they are, give what all give in the marks as they were.
+use mathlib.Core.Path.{◌≡◌, refl, ◌∙◌}
+use Prim.Native.Nat.{◌-◌, ◌≤◌, ◌<◌}
+use native.Mathlib.Omega.{arith}
+use lib.Bits.{bit_xor}
+use lib.ListN.{length, get_or, drop, length-set}
+use Rattle.stripe_cells.specs.Toggled.{toggled_all}
+use Rattle.stripe_cells.proofs.OddLaws.{toggled_next, toggled_end}
+use Rattle.stripe_cells.proofs.odd_marks.toggle_all.Given as goal
+
+abbrev pub invariant-loop-i : goal.invariant-loop-i
+invariant-loop-i l = (l.i ≤ length l.places) × (length l.marks ≡ length l.initial.marks) × (toggled_all (drop l.i l.places) l.marks ≡ toggled_all l.places l.initial.marks)
+
+abbrev pub decreases-loop-i : goal.decreases-loop-i
+decreases-loop-i l = l.n - l.i
