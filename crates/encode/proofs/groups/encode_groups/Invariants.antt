@@ -1,0 +1,20 @@
+-- `encode_groups`: each turn adds the next group to all parity cells. The invariant: they hold the
+-- sums over the data disks below lo, and data cells are as they were. After the last group every
+-- set is clean.
+use mathlib.Core.Path.{◌≡◌, refl, ◌∙◌}
+use mathlib.Core.Bool.{true}
+use Prim.Native.Nat.{◌-◌, ◌≤◌}
+use native.Mathlib.Omega.{arith}
+use lib.ListN.{length}
+use borrow.Author.Rules.{rules}
+use Rattle.mathematics.specs.Xor.{all_bytes}
+use Rattle.xor.proofs.SourceLaws.{bytes_all}
+use Rattle.liberation.proofs.Stripes.SizedLaws.{sized_kept, sized_long}
+use Rattle.encode.proofs.GroupLoops.{Summed, summed_none, summed_turn, summed_all_lem}
+use Rattle.encode.proofs.groups.encode_groups.Given as goal
+
+abbrev pub invariant-loop-lo : goal.invariant-loop-lo
+invariant-loop-lo l = (l.lo ≤ l.disks) × (length l.at ≡ 33) × (length l.stripe ≡ length l.initial.stripe) × (all_bytes l.stripe ≡ true) × Summed l.width l.disks l.size l.lo l.initial.stripe l.stripe
+
+abbrev pub decreases-loop-lo : goal.decreases-loop-lo
+decreases-loop-lo l = l.disks - l.lo

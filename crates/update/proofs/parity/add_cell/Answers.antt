@@ -1,0 +1,21 @@
+-- `add_cell`: the gather of the cell itself and the other one, which lies before it.
+use mathlib.Core.Path.{◌∙◌}
+use native.Mathlib.Omega.{arith}
+use borrow.Author.Rules.{rules}
+use Rattle.liberation.proofs.Stripes.StripeCellLaws.{cell_fits}
+use Rattle.xor.proofs.SourceLaws.{bytes_all}
+use Rattle.update.proofs.FromCell.{two_beside, two_added}
+use Rattle.update.proofs.parity.add_cell.Goals as goal
+
+pub overflow_mul-at : goal.overflow_mul-at
+overflow_mul-at c = omega (arith, c.requires.1, cell_fits c.args.to c.args.size c.args.from c.requires.0)
+
+pub gather_within-requires : goal.gather_within-requires
+gather_within-requires c =
+    let a = c.args in
+    two_beside a.size a.from a.to a.stripe.now c.requires.0 c.requires.1
+
+pub returns : goal.returns
+returns c =
+    let a = c.args in
+    c.gather_within.ensures ∙ two_added a.size a.from a.to a.stripe.now c.requires.0 c.requires.1 (bytes_all a.stripe.now c.slice_known-1.given)
