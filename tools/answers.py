@@ -246,7 +246,7 @@ class Turn:
         )
         out = both.sub(path, text)
         # the test of 'if !x' says what x is
-        test = rf"not-(?:true|false) \S+ ({re.escape(var)}\.if-not-[^\s()]+\.(?:true|false))"
+        test = rf"not-(?:true|false) (?:\S+\.result|\S+\.args\.\w+|_) ({re.escape(var)}\.if-not-[^\s()]+\.(?:true|false))"
         out = re.sub(rf"\({test}\)|{test}", lambda m: m[1] or m[2], out)
         for old, new in self.info["args"]:
             if old.startswith(".args ."):
@@ -314,12 +314,12 @@ def convert(path, module, info):
     claims = [d for d in decls if re.match(r"tie\.(invariant|decreases)-", d.sign)]
     needs = info["needs"]
     loops = info["loops"]
-    goals = words[len(words) - len(needs) :] if len(words) >= len(needs) else None
+    goals = words[len(claims) :] if len(words) == len(needs) + len(claims) else None
     by_name = {d.name: d for d in decls}
     todo = []
     used = set()
     if goals is None:
-        left.append(f"{path}: {len(words)} arguments of tie.spec, {len(needs)} goals")
+        left.append(f"{path}: {len(words)} arguments of tie.spec, {len(needs)} goals: {words[len(claims):]} {[n[0] for n in needs]}")
         old = {key(n[0]): n for n in needs}
         for d in decls:
             mm = re.match(r"tie\.Need-(?:overflow-)?(\S+)", d.sign)
