@@ -1,0 +1,15 @@
+-- `marks_word`: the invariant: the word is that of the cells from i on.
+use mathlib.Core.Path.{◌≡◌, ap, ◌∙◌}
+use Prim.Native.Nat.{ℕ, ◌+◌, ◌*◌, ◌-◌, ◌%◌, ◌^◌, ◌≤◌, ◌<◌}
+use native.Mathlib.Omega.{arith}
+use lib.Bits.{bit_and, and_mask}
+use lib.ListN.{length, get_or, drop}
+use Rattle.rebuild_cells.specs.Words.{marks_word}
+use Rattle.rebuild_cells.proofs.WordLoops.{word_none, word_turn, word_end, word_room}
+use Rattle.rebuild_cells.proofs.equations.marks_word.Given as goal
+
+abbrev pub invariant-loop-i : goal.invariant-loop-i
+invariant-loop-i l = (l.i ≤ length l.cells) × (l.word ≡ marks_word (drop l.i l.cells) l.marks)
+
+abbrev pub decreases-loop-i : goal.decreases-loop-i
+decreases-loop-i l = l.i
