@@ -1,0 +1,6 @@
+-- `cuzhaveli_write_server`: what the call promises.
+use borrow.Author.Rules.{rules}
+use Rattle.cuzhaveli_servers.proofs.cuzhaveli_write_server.Goals as goal
+
+pub returns : goal.returns
+returns c = c.write_server.ensures
