@@ -1,18 +1,18 @@
--- The scan of a list and the promise of a report, over plain lists and records: what the walk of
+-- The scan of a list and the promise of a report, over plain lists and records: what the proof of
 -- the call over a lent list cites.
 --     scan_none, scan_next     the scan of no record, and of one record more: the loop's invariant
 --     may_scan                 the `requires` of `scan_record` in each turn
 --     names_one                the index of the store
 --     says_done, says_refused  the promise, in each arm of the branch
 use mathlib.Core.Path.{◌≡◌, refl, sym, ap, ap₂, ◌∙◌, subst}
-use mathlib.Core.Bool.{Bool, true, false, not, ◌||◌, or-true}
+use mathlib.Core.Bool.{Bool, true, false, ◌||◌, or-true}
 use mathlib.Core.List.{List, [], ◌∷◌}
 use mathlib.Core.Logic.{⊎_elim}
 use Prim.Native.Nat.{ℕ, zero, suc, ◌+◌, ◌<◌, ◌≤◌}
 use native.Mathlib.Nat.{not-suc-le-zero, le_of_suc-le-suc}
 use native.Mathlib.Omega.{arith}
 use lib.Count.{ones}
-use lib.Dec.{T, eqb, ltb, leb, eqb→eq, eqb_refl, T_not}
+use lib.Dec.{eqb, ltb, leb}
 use lib.ListN.{length, get_or, set, take, length-take}
 use lib.Seq.{take_all}
 use borrow.Author.Tests.{ltb-false, leb-false, le-leb, lt-leb, le-ltb, eq-eqb, ne_eqb}
@@ -233,10 +233,10 @@ whole_refusal which d back xs =
 
 -- ---- the answer
 -- an answer with the number 0 is one on a record of the list
-pub names_one : (s : Scan) (n which : ℕ) → T (eqb (scan_answer s n which).answer.refusal 0) → which < n
+pub names_one : (s : Scan) (n which : ℕ) → (scan_answer s n which).answer.refusal ≡ 0 → which < n
 unfolding scan_answer scan_refusal
-names_one s n which t =
-    let z = first_none (when (leb n which) 20) (first_of s.refusal s.own) (eqb→eq (scan_refusal s n which) 0 t) in
+names_one s n which e =
+    let z = first_none (when (leb n which) 20) (first_of s.refusal s.own) e in
     leb-false n which (when_none (leb n which) 19 z.0)
 
 -- the report on the named record was accepted then
@@ -248,15 +248,14 @@ plus_start : (t : Totals) → plus no_totals t ≡ t
 plus_start t = totals_are (omega arith) (omega arith) (omega arith) (omega arith)
 
 pub says_done : (which d : ℕ) (back : Bool) (xs : List ArrayState) → let n = scan_length (length xs) in let s = up_to which d back xs n in
-    T (eqb (scan_answer s n which).answer.refusal 0) → ReportSays xs which d back (set xs which s.found) (scan_answer s n which)
+    (scan_answer s n which).answer.refusal ≡ 0 → ReportSays xs which d back (set xs which s.found) (scan_answer s n which)
 unfolding scan_answer
-says_done which d back xs t =
+says_done which d back xs z =
     let n = scan_length (length xs) in
     let s = up_to which d back xs n in
     let c = get_or xs which no_array in
-    let hit = found_all which d back xs (names_one s n which t) in
+    let hit = found_all which d back xs (names_one s n which z) in
     let same = whole_refusal which d back xs in
-    let z : scan_refusal s n which ≡ 0 = eqb→eq (scan_refusal s n which) 0 t in
     let none : report_refusal xs which d back ≡ 0 = sym same ∙ z in
     let found = hit.found ∙ sym (pick_done (state_report_refusal c d back) (changed c d back) c (sym hit.own ∙ own_none s n which z)) in
     let fresh : ArrayState → Totals = λ m. totals_of (set xs which m) in
@@ -267,14 +266,13 @@ says_done which d back xs t =
     }
 
 pub says_refused : (which d : ℕ) (back : Bool) (xs : List ArrayState) → let n = scan_length (length xs) in let s = up_to which d back xs n in
-    T (not (eqb (scan_answer s n which).answer.refusal 0)) → ReportSays xs which d back xs (scan_answer s n which)
+    ((scan_answer s n which).answer.refusal ≡ 0 → ⊥) → ReportSays xs which d back xs (scan_answer s n which)
 unfolding scan_answer
-says_refused which d back xs t =
+says_refused which d back xs some =
     let n = scan_length (length xs) in
     let s = up_to which d back xs n in
     let f = scan_refusal s n which in
     let same = whole_refusal which d back xs in
-    let some : f ≡ 0 → ⊥ = λ e. T_not (eqb f 0) t (subst (λ (m : ℕ). T (eqb m 0)) (sym e) (eqb_refl 0)) in
     record {
       answer = record { refusal = same; place = refl };
       list = pick_refused f (report_refusal xs which d back) (list_after xs which d back) xs same some;
