@@ -1,2 +1,0 @@
--- What both calls that store a record share.
-pub mod GuardLaws
