@@ -15,6 +15,8 @@ import sys
 
 WORD = r'[^\s(){}.;,@"«»`|]+'
 DECLARED = re.compile(rf"(?m)^( *)(?:(?:pub|abbrev|unfoldable) )*({WORD})(?: \{{[^{{}}\n]*\}})* :(?= |$)([^\n]*)")
+RECORD = re.compile(r"(?m)^(?:pub )?record [^\n]*where *\n((?:  [^\n]*\n|\n)+)")
+FIELD = re.compile(rf"(?m)^  (?:pub )?({WORD}) :(?= |$)")
 TYPE = re.compile(r"(?:→|:|^) *Type \d$")
 ODD = re.compile(r"-|[a-z0-9][A-Z]|′")
 # types that their plain spelling would make another type of the same file
@@ -50,13 +52,16 @@ def is_walk(path):
 
 def table(root):
     """What is declared outside the proofs of functions and is spelled in another way, with its new spelling; and the fields."""
-    names, fields, plain, meets = {}, {}, set(), {}
+    names, fields, plain, meets, inside = {}, {}, set(), {}, set()
     for path in files(root, ".antt", ".rt"):
         text = read(path)
         for m in re.finditer(r" as ([a-z]+[A-Z]\w*)(?=[,}\n])", text):
             names[m[1]] = snake(m[1])
         if is_walk(path) or path.endswith(".rt"):
             continue
+        if "/specs/" in path:
+            words = {snake(w) for w in re.findall(rf"(?<!\.){WORD}", re.sub(r"(?m)--.*$", "", text)) if "-" not in w}
+            inside |= {f[1] for m in RECORD.finditer(text) for f in FIELD.finditer(m[1]) if snake(f[1]) not in words}
         for m in DECLARED.finditer(text):
             name = m[2]
             if "-" in name and TYPE.search(m[3]):
@@ -69,11 +74,13 @@ def table(root):
                     fields[name] = snake(name)
         for m in re.finditer(rf"(?<!\.){WORD}", re.sub(r"(?m)--.*$", "", text)):
             meets.setdefault(snake(m[0]), set()).add(m[0])
-    # a definition has the plain name, and a lemma that would have it too ends in _lem
+    # a definition has the plain name, as has a field of a record of specs/ that does not meet it; a lemma that would have it
+    # too ends in _lem
     defined = {new for old, new in names.items() if "-" not in old}
     for old, new in names.items():
-        if "-" in old and (new in defined or new in plain or len(meets.get(new, ())) > 1):
+        if "-" in old and old not in inside and (new in defined or new in plain or len(meets.get(new, ())) > 1):
             names[old] = new + "_lem"
+    fields = {name: names[name] for name in fields}
     lemmas = {name: name + "_lem" for name in plain & defined}
     return names, fields, lemmas
 

@@ -54,12 +54,12 @@ restores p k s a b t t' r d z =
 -- the rebuilt one with zeros there.
 pub absent_restored : (p k s a b : ℕ) (t t' u' : List ℕ) (r q : Answer) → TwoSays p k s a b t t' r → r.refusal ≡ 0 → TwoSays p p s (full_disk p k a) (full_disk p k b) (widened p k s t) u' q → u' ≡ widened p k s t'
 absent_restored p k s a b t t' u' r q d z e =
-    let w = (demand1.rebuild_two p k s a b t t' r d).accepted z in
+    let w = (demand1.rebuild_two_lem p k s a b t t' r d).accepted z in
     let most = w.1.0.1 in
     let v = restores p k s a b t t' r d z in
     let ok = is_stripe_lem p k s t w.1.1.1.1.1.1.0 d.bytes in
     let apart : full_disk p k a ≡ full_disk p k b → ⊥ = λ h. w.1.1.1.1.1.0 (eqb-true a b (sym (full_same p k most a b) ∙ eq-eqb (full_disk p k a) (full_disk p k b) h)) in
-    let y = (demand1.rebuild_two p p s (full_disk p k a) (full_disk p k b) (widened p k s t) u' q e).accepts
+    let y = (demand1.rebuild_two_lem p p s (full_disk p k a) (full_disk p k b) (widened p k s t) u' q e).accepts
     (w.0, ((omega (arith, w.1.0.0, most), omega arith), (w.1.1.0, (full_range p k most a w.1.1.1.0, (full_range p k most b w.1.1.1.1.0, (apart, (full_long p k s t most ok, tt))))))) in
     (restores p p s (full_disk p k a) (full_disk p k b) (widened p k s t) u' q e y).only (widened p k s t') (widened_stripe p k s t' most v.stripe) (sym (widened_clean p k s t' most v.stripe) ∙ v.is_clean)
     (λ x l na nb. widened_alike p k s most t t' ok v.stripe (λ c. (c ≡ a → ⊥) × (c ≡ b → ⊥)) (λ i m h. sym (v.kept i h.0 h.1)) x l (λ c h. (λ g. na (sym h ∙ ap (full_disk p k) g), λ g. nb (sym h ∙ ap (full_disk p k) g))))

@@ -122,9 +122,9 @@ pub part_within :
     (p k f : ℕ) (o o' n n' : List ℕ) (a b : Answer) → ListSays p k f o o' a → a.refusal ≡ 0 → ListSays p p (full_disk p k f) n n' b → length n ≡ p * (p + 2)
     → (r c : ℕ) → r < p → c < k + 2 → get_or o' (place p r c) 0 ≡ get_or n' (place p r (full_disk p k c)) 0
 part_within p k f o o' n n' a b d z e long r c h g =
-    let w = (demand1.read_list p k f o o' a d).accepted z in
+    let w = (demand1.read_list_lem p k f o o' a d).accepted z in
     let most = w.1.0.1 in
-    let y = (demand1.read_list p p (full_disk p k f) n n' b e).accepts (w.0, ((omega (arith, w.1.0.0, most), omega arith), (full_range p k most f w.1.1.0, (long, tt)))) in
+    let y = (demand1.read_list_lem p p (full_disk p k f) n n' b e).accepts (w.0, ((omega (arith, w.1.0.0, most), omega arith), (full_range p k most f w.1.1.0, (long, tt)))) in
     ap (λ (x : List ℕ). get_or x (place p r c) 0) (our_list p k f o o' a d z)
     ∙ (plans_part p k f w.0 most w.1.1.0).within r c h g
     ∙ sym (ap (λ (x : List ℕ). get_or x (place p r (full_disk p k c)) 0) (our_list p p (full_disk p k f) n n' b e y))

@@ -131,7 +131,7 @@ pub one_column :
     → ((x : ℕ) → get_or l' x 0 ≡ 1 → cell_at s t x ≡ cell_at s u x) → o' ≡ n'
 one_column p k s f t u o o' n n' l l' r q a d z m y w e h =
     let i = taken p k s f t o o' r d z in
-    let g : a.refusal ≡ 0 = (demand1.read_list p k f l l' a w).accepts (i.0.array.width, ((i.0.array.two, i.0.array.disks), (i.1, (e, tt)))) in
+    let g : a.refusal ≡ 0 = (demand1.read_list_lem p k f l l' a w).accepts (i.0.array.width, ((i.0.array.two, i.0.array.disks), (i.1, (e, tt)))) in
     let list : l' ≡ read_list p k f = w.list ∙ ap (λ (x : ℕ). pick (eqb x 0) (read_list p k f) l) (sym w.answer.refusal ∙ g) in
     column_is p k s f t o o' r d z
     ∙ only_read p k s f (plan_accepted p k f i.0.array.width i.0.array.disks i.1) (omega (arith, i.1)) t u (stripe_is p k s f t o o' r d z) (stripe_is p k s f u n n' q m y) (λ x v. h x (ap (λ (y : List ℕ). get_or y x 0) list ∙ v))
@@ -141,8 +141,8 @@ one_column p k s f t u o o' n n' l l' r q a d z m y w e h =
 -- column, dirty stripes too.
 pub absent_rebuilt : (p k s f : ℕ) (t o o' n n' : List ℕ) (r q : Answer) → OneSays p k s f t o o' r → r.refusal ≡ 0 → OneSays p p s (full_disk p k f) (widened p k s t) n n' q → length n ≡ p * s → n' ≡ o'
 absent_rebuilt p k s f t o o' n n' r q d z e l =
-    let w = (demand1.rebuild_one p k s f t o o' r d).accepted z in
+    let w = (demand1.rebuild_one_lem p k s f t o o' r d).accepted z in
     let most = w.1.0.1 in
     let ok = stripe_is p k s f t o o' r d z in
-    let y = (demand1.rebuild_one p p s (full_disk p k f) (widened p k s t) n n' q e).accepts (w.0, ((omega (arith, w.1.0.0, most), omega arith), (w.1.1.0, (full_range p k most f w.1.1.1.0, (full_long p k s t most ok, (l, tt)))))) in
+    let y = (demand1.rebuild_one_lem p p s (full_disk p k f) (widened p k s t) n n' q e).accepts (w.0, ((omega (arith, w.1.0.0, most), omega arith), (w.1.1.0, (full_range p k most f w.1.1.1.0, (full_long p k s t most ok, (l, tt)))))) in
     column_is p p s (full_disk p k f) (widened p k s t) n n' q e y ∙ widened_rebuilt p k s f w.0 most w.1.1.1.0 t ok ∙ sym (column_is p k s f t o o' r d z)

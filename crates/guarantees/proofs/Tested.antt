@@ -97,11 +97,11 @@ pub change_noticed :
     → ((y : ℕ) → y < p * (k + 2) → (disk_at p y ≡ f → ⊥) → (disk_at p y ≡ disk_at p x → ⊥) → cell_at s t y ≡ cell_at s u y)
     → x < p * (k + 2) → (disk_at p x ≡ f → ⊥) → (cell_at s t x ≡ cell_at s u x → ⊥) → q.refusal ≡ 19
 change_noticed p k s f x t u o o' n n' r q d z e lu ln others below apart changed =
-    (first_outside (rebuild_one p k s f u n) none (demand1.rebuild_tested p k s f u n n' q e).decides
+    (first_outside (rebuild_one p k s f u n) none (demand1.rebuild_tested_lem p k s f u n n' q e).decides
     (w.0, (w.1.0, (w.1.1.0, (w.1.1.1.0, (lu ∙ w.1.1.1.1.0, (ln ∙ w.1.1.1.1.1.0, tt)))))) no_other).number_is
   where
     w : Within (rebuild_tested p k s f t o)
-    w = (demand1.rebuild_tested p k s f t o o' r d).accepted z
+    w = (demand1.rebuild_tested_lem p k s f t o o' r d).accepted z
 
     -- the clean stripe with the survivors of t
     own : (v : List ℕ) × Explains p k s f t v

@@ -73,7 +73,7 @@ refused p k s r c n t new a e z h b d =
       answer = answers_as n (update_refusal p k s r c t new) a e h;
       stripe = pick_refused n (update_refusal p k s r c t new) (updated p k s r c new t) t e z;
       bytes = b;
-      cell_bytes_lem = d;
+      cell_bytes = d;
     }
 
 -- the accepted call
@@ -83,5 +83,5 @@ accepted p k s r c t new t' a z e h b d =
       answer = answers_as 0 (update_refusal p k s r c t new) a (sym z) h;
       stripe = e ∙ pick_done (update_refusal p k s r c t new) (updated p k s r c new t) t z;
       bytes = b;
-      cell_bytes_lem = d;
+      cell_bytes = d;
     }

@@ -31,4 +31,4 @@ pub record UpdateSays (p k s r c : ℕ) (t new t' : List ℕ) (a : Answer) : Typ
   pub stripe : t' ≡ pick (eqb (update_refusal p k s r c t new) 0) (updated p k s r c new t) t
   -- what was lent are bytes
   pub bytes : all_bytes t ≡ true
-  pub cell_bytes_lem : all_bytes new ≡ true
+  pub cell_bytes : all_bytes new ≡ true

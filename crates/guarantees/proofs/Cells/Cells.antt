@@ -115,7 +115,7 @@ module _ (p k s : ℕ) (ms t t' : List ℕ) (r : Answer) (says : RebuildCellsSay
   undetermined q = ⊎_elim (λ h. absurd (never (refusal_is e true h))) two (flag (mendable p k (missing_cells ms)))
     where
       e : lent_refusal p k s ms t ≡ 0
-      e = lent (comes_after (marked_stripe p k s ms t) (by 23 (Determined p k s (missing_cells ms))) refl (subst (λ (n : ℕ). Decides (rebuild_cells p k s ms t) n r.place) q (demand1.rebuild_cells p k s ms t t' r says).decides)).0
+      e = lent (comes_after (marked_stripe p k s ms t) (by 23 (Determined p k s (missing_cells ms))) refl (subst (λ (n : ℕ). Decides (rebuild_cells p k s ms t) n r.place) q (demand1.rebuild_cells_lem p k s ms t t' r says).decides)).0
 
       never : r.refusal ≡ 0 → ⊥
       never z = omega arith

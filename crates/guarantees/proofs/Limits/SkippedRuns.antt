@@ -37,10 +37,10 @@ module _ (x : Run) (w : Within (record_numbers x)) where
   tens =
       record {
         read = λ h g d. (first_outside (record_numbers x) none (demand1.run_progress x g d).decides w (above h)).number_is;
-        bill = λ h a b c y g d e. (first_outside (record_numbers x) (rates a b c) (demand1.bill_run x a b c y g d e).decides w (above h)).number_is;
-        skip = λ h x' i r d. (first_outside (record_numbers x) (next x i) (demand1.skip_stripe x x' i r d).decides w (above h)).number_is;
+        bill = λ h a b c y g d e. (first_outside (record_numbers x) (rates a b c) (demand1.bill_run_lem x a b c y g d e).decides w (above h)).number_is;
+        skip = λ h x' i r d. (first_outside (record_numbers x) (next x i) (demand1.skip_stripe_lem x x' i r d).decides w (above h)).number_is;
         step = λ h x' i t o o' r d l m.
-            (first_outside (rebuild_one x.shape.width x.shape.disks x.shape.cell_size x.lost t o) (next x i) (demand1.step_run x x' i t o o' r d).decides
+            (first_outside (rebuild_one x.shape.width x.shape.disks x.shape.cell_size x.lost t o) (next x i) (demand1.step_run_lem x x' i t o o' r d).decides
             (w.0, (w.1.0, (w.1.1.0, (w.1.1.1.0, (l, (m, tt)))))) (above h)).number_is;
         also = λ x' x'' i t o o' r q d e z. go x' x'' i t o o' r q d e z;
       }
@@ -50,7 +50,7 @@ module _ (x : Run) (w : Within (record_numbers x)) where
           let p = x.shape.width in
           let k = x.shape.disks in
           let s = x.shape.cell_size in
-          let c : Decides (rebuild_one p k s x.lost t o then (skipped x then next x i)) 10 r.place = subst (λ (n : ℕ). Decides (rebuild_one p k s x.lost t o then (skipped x then next x i)) n r.place) z (demand1.step_run x x' i t o o' r d).decides in
+          let c : Decides (rebuild_one p k s x.lost t o then (skipped x then next x i)) 10 r.place = subst (λ (n : ℕ). Decides (rebuild_one p k s x.lost t o then (skipped x then next x i)) n r.place) z (demand1.step_run_lem x x' i t o o' r d).decides in
           let last = (comes_after (rebuild_one p k s x.lost t o) (skipped x then next x i) refl c).1 in
           let own : Decides (skip_stripe x i) 10 r.place = and_then (holds (record_numbers x) w) (λ v. last) in
-          (decides_once (demand1.skip_stripe x x'' i q e).decides own).0
+          (decides_once (demand1.skip_stripe_lem x x'' i q e).decides own).0

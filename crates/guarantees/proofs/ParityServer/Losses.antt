@@ -59,7 +59,7 @@ module _ (p k s m j : ℕ) (ts ls ts' : List ℕ) (r : Answer) (q : RebuildServe
   column_is : (d : ℕ) (o o' : List ℕ) (a : Answer) → OneSays p k s d (server_at p k s ts i) o o' a → length o ≡ p * s → d ≤ k + 1 → server_at p k s ts' i ≡ followed p k s d (plan_of p k d) (server_at p k s ts i) → column_of p s d (server_at p k s ts' i) ≡ o'
   unfolding rebuilt
   column_is d o o' a w e f b =
-      let y = (demand1.rebuild_one p k s d (server_at p k s ts i) o o' a w).accepts (shaped.0, (shaped.1.0, (shaped.1.1.0, (f, (long, (e, tt)))))) in
+      let y = (demand1.rebuild_one_lem p k s d (server_at p k s ts i) o o' a w).accepts (shaped.0, (shaped.1.0, (shaped.1.1.0, (f, (long, (e, tt)))))) in
       ap (column_of p s d) b
       ∙ sym (w.column ∙ ap (λ (x : ℕ). pick (eqb x 0) (rebuilt p k s d (server_at p k s ts i)) o) (answers_none (one_refusal p k s d (server_at p k s ts i) o) a w.answer y))
 
@@ -74,6 +74,6 @@ module _ (p k s m j : ℕ) (ts ls ts' : List ℕ) (r : Answer) (q : RebuildServe
   two_losses u a w na nb =
       let t = server_at p k s ts i in
       let fa = named (first_loss ls i) na in
-      let y = (demand1.rebuild_two p k s (first_loss ls i) (second_loss ls i) t u a w).accepts (shaped.0, (shaped.1.0, (shaped.1.1.0, (h.first fa, (h.second (named (second_loss ls i) nb), (h.apart fa, (long, tt))))))) in
+      let y = (demand1.rebuild_two_lem p k s (first_loss ls i) (second_loss ls i) t u a w).accepts (shaped.0, (shaped.1.0, (shaped.1.1.0, (h.first fa, (h.second (named (second_loss ls i) nb), (h.apart fa, (long, tt))))))) in
       let e : u ≡ pair_solved p k s (first_loss ls i) (second_loss ls i) t = w.stripe ∙ ap (λ (x : ℕ). pick (eqb x 0) (pair_solved p k s (first_loss ls i) (second_loss ls i) t) t) (answers_none (two_refusal p k s (first_loss ls i) (second_loss ls i) t) a w.answer y) in
       others ∙ sym (both_lost p k s (first_loss ls i) (second_loss ls i) t u na nb e)

@@ -86,21 +86,21 @@ module _ (p k s n : ℕ) (name : List ℕ) (v : ℕ) (film u block : List ℕ) (
     film_way =
         record {
           handed = handed;
-          refused = λ i o o' r d. demand1.film_bytes p k s n name v b t i o o' r d;
+          refused = λ i o o' r d. demand1.film_bytes_lem p k s n name v b t i o o' r d;
           opened = opened;
-          unopened = λ ms ms' t' r d. demand1.open_unit p k s n name v b ms ms' t t' r d;
+          unopened = λ ms ms' t' r d. demand1.open_unit_lem p k s n name v b ms ms' t t' r d;
           played = played;
           brought_back = back;
-          piece = λ c i x r d z. right_piece p k s n name v b u c i x r d (seal ((demand1.piece_fits p k s n name v b c i x r d).accepted z).1.1.1.1.1.1.1.1.1.0.0) w.together.long z;
+          piece = λ c i x r d z. right_piece p k s n name v b u c i x r d (seal ((demand1.piece_fits_lem p k s n name v b c i x r d).accepted z).1.1.1.1.1.1.1.1.1.0.0) w.together.long z;
         }
       where
         handed : (i : ℕ) (o o' : List ℕ) (r : Answer) → FilmBytesSays p k s n name v b t i o o' r → r.refusal ≡ 0 → (o' ≡ take (length o) (drop i film)) ⊎ Collision p k (n * s) name v t u
         handed i o o' r d z =
             ⊎_elim (λ e. inl (e ∙ ap (λ (f : List ℕ). take (length o) (drop i f)) same_film)) inr
-            (no_wrong_film p k s n name v b t u i o o' r d (seal ((demand1.film_bytes p k s n name v b t i o o' r d).accepted z).1.1.1.1.1.1.1.1.0.0) w.together.long z)
+            (no_wrong_film p k s n name v b t u i o o' r d (seal ((demand1.film_bytes_lem p k s n name v b t i o o' r d).accepted z).1.1.1.1.1.1.1.1.0.0) w.together.long z)
 
         sealed : (ms ms' t' : List ℕ) (r : Answer) → OpenSays p k s n name v b ms ms' t t' r → r.refusal ≡ 0 → b ≡ block_of p k (n * s) name v u
-        sealed ms ms' t' r d z = seal ((demand1.open_unit p k s n name v b ms ms' t t' r d).accepted z).1.1.1.1.1.1.1.1.0
+        sealed ms ms' t' r d z = seal ((demand1.open_unit_lem p k s n name v b ms ms' t t' r d).accepted z).1.1.1.1.1.1.1.1.0
 
         opened : (ms ms' t' : List ℕ) (r : Answer) → OpenSays p k s n name v b ms ms' t t' r → r.refusal ≡ 0 → ((t' ≡ u) × (ms' ≡ replicate (p * (k + 2)) 0)) ⊎ Collision p k (n * s) name v t u
         opened ms ms' t' r d z = opened_right p k s n name v b ms ms' t t' u r d (sealed ms ms' t' r d z) stripe is_clean z
@@ -155,7 +155,7 @@ module _ (p k s n : ℕ) (name : List ℕ) (v : ℕ) (film u block : List ℕ) (
         ∙ plan_back p k s f (steps_in p bs) o.accepts o.disk (w.encoded j) (w.encoded j) c.stripe c.stripe c.is_clean (λ y q e. refl)
 
     numbers : Within (seal_unit p k s n name w.room u)
-    numbers = (demand1.seal_unit p k s n name v u w.room block w.answer w.seals).accepted w.accepted
+    numbers = (demand1.seal_unit_lem p k s n name v u w.room block w.answer w.seals).accepted w.accepted
 
     range : f ≤ k + 1
     range = omega (arith, (by_plan 0 numbers.1.1.1.0.0).disk)
@@ -183,5 +183,5 @@ module _ (p k s n : ℕ) (name : List ℕ) (v : ℕ) (film u block : List ℕ) (
         ap₂ (λ (c y : List ℕ). fits_at p name v c (place p i f) y) block_is rebuilt_piece
         ∙ sym (fits_at_lem p (n * s) name v (block_of p k (n * s) name v u) u (place p i f))
         ∙ own_fits p k (n * s) name v u (place p i f) below in
-        (demand1.piece_fits p k s n name v block f i x r says).accepts
+        (demand1.piece_fits_lem p k s n name v block f i x r says).accepts
         (q.0, (q.1.0, (q.1.1.0, (q.1.1.1.0, (range, (q.1.1.1.1.0, (b, (g.long, (row, ((e, h), tt))))))))))
