@@ -1,0 +1,6 @@
+-- `cuzhaveli_film_bytes`: what the call promises.
+use borrow.Author.Rules.{rules}
+use Rattle.cuzhaveli_units.proofs.cuzhaveli_film_bytes.Goals as goal
+
+pub returns : goal.returns
+returns c = c.film_bytes.ensures
