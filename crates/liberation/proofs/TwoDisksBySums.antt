@@ -1,5 +1,4 @@
 -- Theorems about the rebuild of two lost disks from sums of surviving cells.
-pub mod SumWalks
 pub mod Adding
 pub mod Summing
 pub mod SumsStand

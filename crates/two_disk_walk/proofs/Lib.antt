@@ -2,6 +2,7 @@
 -- and the sums that it starts from and adds to in the end.
 pub mod SumLoops
 pub mod SumLists
+pub mod AddLoops
 pub mod NumberLaws
 pub mod ToggleLaws
 pub mod StartLaws

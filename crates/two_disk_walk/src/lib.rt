@@ -4,6 +4,7 @@
 
 mod first_cell;
 mod first_cell_by_sums;
+mod last_steps;
 mod lost_cells;
 mod set_sums;
 mod steps;

@@ -1,12 +1,10 @@
-// Two lost data disks: a step of the walk gives a lost cell. It is solved, or becomes the XOR of the
-// lost cells of a set, of which it is one.
+// Two lost data disks: a lost cell becomes the XOR of the lost cells of a set, of which it is one.
 ghost use Rattle.std.specs.Prelude.{◌≡◌, ◌≤◌, ◌<◌, length};
 ghost use Rattle.liberation.specs.Limits.{largest_cell};
 ghost use Rattle.liberation.specs.Sets.{place, set_of, lost_in};
 ghost use Rattle.liberation.specs.Stripes.Steps.{cell_step};
-ghost use Rattle.liberation.specs.TwoDisksBySums.Sums.{placed, sum_added, stepped};
+ghost use Rattle.liberation.specs.TwoDisksBySums.Sums.{placed, sum_added};
 ghost use Rattle.stripe_cells.specs.Offsets.{scaled, Pushed};
-ghost use Rattle.stripe_cells.specs.Cells.{Ordinary};
 ghost use Rattle.two_disk_walk.specs.SumDisks.{Lost};
 
 use parity_sets::ROW_SET;
@@ -41,7 +39,7 @@ fn push_lost(
 
 // A lost cell becomes the XOR of the lost cells of a set, of which it is one. The lent list is then
 // left free.
-fn add_set(
+pub fn add_set(
     width: usize,
     disks: usize,
     size: usize,
@@ -61,34 +59,4 @@ fn add_set(
     let m = push_lost(width, disks, size, kind, number, y, at, n);
     let to = (disk * width + row) * size;
     xor_in_place::gather_within(stripe, to, size, &at[..m]);
-}
-
-// A step while `missing` cells are missing, the last `sums` of which hold the XOR of their sets'
-// surviving cells. Before those the cell is solved; to such a sum the other lost cells are added.
-// The lent list is then left free.
-pub fn give(
-    missing: usize,
-    sums: usize,
-    width: usize,
-    disks: usize,
-    size: usize,
-    x: usize,
-    y: usize,
-    kind: usize,
-    number: usize,
-    disk: usize,
-    row: usize,
-    stripe: &mut [u8],
-    at: &mut [usize],
-)
-    requires { Lost width disks size x y stripe.old at.old × Ordinary width disks kind number disk row × (disk < disks) }
-    ensures { stripe.new ≡ stepped missing sums width disks size x y (cell_step (place width row disk) kind number) stripe.old }
-{
-    if sums < missing {
-        stripe_cells::solve_by(width, disks, size, kind, number, disk, row, stripe, at);
-        return;
-    }
-    add_set(
-        width, disks, size, x, y, kind, number, disk, row, stripe, at,
-    );
 }

@@ -1,11 +1,10 @@
 // The steps of the walk over two lost data disks: document 01, "Two lost disks". The row of an extra
 // cell, where they start, and two functions that call each other, a diagonal step and a row step.
-ghost use Rattle.std.specs.Prelude.{◌≡◌, ◌%◌, ◌≤◌, ◌<◌};
+ghost use Rattle.std.specs.Prelude.{◌≡◌, ◌%◌, ◌≤◌, ◌<◌, length};
 ghost use Rattle.liberation.specs.Plans.{extra_row_on};
-ghost use Rattle.liberation.specs.TwoDisksBySums.Sums.{diagonal_step, row_step};
-ghost use Rattle.two_disk_walk.specs.SumDisks.{Lost};
+ghost use Rattle.liberation.specs.TwoDisks.Pairs.{diagonal_walk, row_walk};
+ghost use Rattle.liberation.specs.Stripes.StripeLimits.{Sized};
 
-use super::lost_cells;
 use parity_sets::{DIAGONAL_SET, ROW_SET};
 
 // The row of the extra cell on a data disk that is not disk 0.
@@ -17,12 +16,10 @@ pub fn extra_row(width: usize, disk: usize) -> usize
 }
 
 // While cells are missing: the diagonal set through disk x's cell of this row gives a cell of disk
-// y, whose row comes next. The last `sums` of the missing cells hold sums. The lent list is then
-// left free.
+// y, whose row comes next. The lent list is then left free.
 #[cycle(diagonal_step_row_step)]
 pub fn diagonal_step(
-    missing: usize,
-    sums: usize,
+    left: usize,
     width: usize,
     disks: usize,
     size: usize,
@@ -32,22 +29,20 @@ pub fn diagonal_step(
     stripe: &mut [u8],
     at: &mut [usize],
 )
-    requires { Lost width disks size x y stripe.old at.old × (row < width) }
-    ensures { stripe.new ≡ diagonal_step missing sums width disks size x y row stripe.old }
+    requires sized { Sized width disks size stripe.old }
+    requires x_lt_disks { (x < disks) × (y < disks) × (row < width) }
+    requires at_len { length at.old ≡ 33 }
+    ensures { stripe.new ≡ diagonal_walk left width disks size x y row stripe.old }
 {
-    if missing == 0 {
+    if left == 0 {
         return;
     }
     let number = parity_sets::diagonal_of(width, x, row);
     let next = parity_sets::row_on(width, number, y);
-    lost_cells::give(
-        missing,
-        sums,
+    stripe_cells::solve_by(
         width,
         disks,
         size,
-        x,
-        y,
         DIAGONAL_SET,
         number,
         y,
@@ -55,26 +50,14 @@ pub fn diagonal_step(
         stripe,
         at,
     );
-    row_step(
-        missing - 1,
-        sums,
-        width,
-        disks,
-        size,
-        x,
-        y,
-        next,
-        stripe,
-        at,
-    );
+    row_step(left - 1, width, disks, size, x, y, next, stripe, at);
 }
 
 // While cells are missing: the row set gives the row's cell of disk x. The lent list is then left
 // free.
 #[cycle(diagonal_step_row_step)]
 fn row_step(
-    missing: usize,
-    sums: usize,
+    left: usize,
     width: usize,
     disks: usize,
     size: usize,
@@ -84,14 +67,14 @@ fn row_step(
     stripe: &mut [u8],
     at: &mut [usize],
 )
-    requires { Lost width disks size x y stripe.old at.old × (row < width) }
-    ensures { stripe.new ≡ row_step missing sums width disks size x y row stripe.old }
+    requires sized { Sized width disks size stripe.old }
+    requires x_lt_disks { (x < disks) × (y < disks) × (row < width) }
+    requires at_len { length at.old ≡ 33 }
+    ensures { stripe.new ≡ row_walk left width disks size x y row stripe.old }
 {
-    if missing == 0 {
+    if left == 0 {
         return;
     }
-    lost_cells::give(
-        missing, sums, width, disks, size, x, y, ROW_SET, row, x, row, stripe, at,
-    );
-    diagonal_step(missing - 1, sums, width, disks, size, x, y, row, stripe, at);
+    stripe_cells::solve_by(width, disks, size, ROW_SET, row, x, row, stripe, at);
+    diagonal_step(left - 1, width, disks, size, x, y, row, stripe, at);
 }

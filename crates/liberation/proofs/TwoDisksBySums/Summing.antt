@@ -36,8 +36,7 @@ use Rattle.liberation.proofs.TwoDisks.Roles.{Roles, row_low}
 use Rattle.liberation.proofs.TwoDisks.WalkLaws.{data_standing}
 use Rattle.liberation.proofs.TwoDisks.FirstCell.{start_sets_below, started_stripe, started_other}
 use Rattle.liberation.proofs.TwoDisks.Restoring.{Restores, walked_steps, walked_restores}
-use Rattle.liberation.specs.TwoDisksBySums.Sums.{survivors_of, summed, summed_all, added_all, start_steps, last_steps, cells_of, sum_steps, first_added, sum_started, diagonal_step, sum_walked, rows_and_one, solved_steps, added_steps}
-use Rattle.liberation.proofs.TwoDisksBySums.SumWalks.{solves_then_adds}
+use Rattle.liberation.specs.TwoDisksBySums.Sums.{survivors_of, summed, summed_all, added_all, start_steps, last_steps, cells_of, sum_steps, first_added, sum_started, sum_walked, rows_and_one, solved_steps, added_steps}
 use Rattle.liberation.proofs.TwoDisksBySums.Adding.{survivor_off, Prepared, bare, more, prepared_off, prepared_steps, steps_add, standing_tail, standing_head, in_after, sums_stripe, sums_kept, sums_prepared, sum_same, summed_stripe, summed_cell, summed_other}
 
 -- the start's steps are the walk's last ones and the one that gives the first cell
@@ -211,20 +210,6 @@ module _ (p k s x y : ℕ) (ok : Prime p) (odd : p % 2 ≡ 1) (most : k ≤ p) (
       ∙ sym (half_walk (suc m) p k s x y e v)
       ∙ ap (λ (n : ℕ). diagonal_walk n p k s x y e v) q
 
-  -- and with the last ones, where the cells of those hold sums
-  whole_walk : (u : List ℕ) → added_all p k s x y (last_steps m p x y) (steps_done p k s front_steps u) ≡ diagonal_step (2 * (p - 1)) (p - 2) p k s x y (extra_row_on p x) (solved s (place p (extra_row_on p x) x) (row_set p k (extra_row_on p x)) u)
-  unfolding e ey
-  whole_walk u =
-      let v = solved s (place p e x) (row_set p k e) u in
-      let w = diagonal_walk (2 * suc m + 1) p k s x y e v in
-      let q : p ≡ 2 * suc m + 1 = omega (arith, ok.large) in
-      let a : 2 * (p - 1) ≡ 2 * suc m + 1 + (2 * m + 1) = omega arith in
-      let b : p - 2 ≡ 2 * m + 1 = omega arith in
-      ap (added_all p k s x y (last_steps m p x y)) (front_walk u ∙ ap (λ (n : ℕ). diagonal_walk n p k s x y e v) q)
-      ∙ ap (λ (r : ℕ). added_all p k s x y (cell_step (place p r x) 0 r ∷ walk_steps m p x y r) w) (sym (after_suc (suc m) p x y e ∙ next_is))
-      ∙ sym (solves_then_adds p k s x y (suc m) m e v)
-      ∙ sym (ap₂ (λ (i j : ℕ). diagonal_step i j p k s x y e v) a b)
-
   module _ (t : List ℕ) (ht : is_stripe p k s t ≡ true) where
     -- the stripe with the sums
     sums_of : List ℕ
@@ -305,8 +290,8 @@ module _ (p k s x y : ℕ) (ok : Prime p) (odd : p % 2 ≡ 1) (most : k ≤ p) (
         begun_stripe = started_stripe p k s x y ok odd g hx hy sums_of sums_are_stripe
 
     -- so it is the walk from sums
-    walk_sums : walked p k s x y t ≡ diagonal_step (2 * (p - 1)) (p - 2) p k s x y (extra_row_on p x) (solved s (place p (extra_row_on p x) x) (row_set p k (extra_row_on p x)) (first_added p s x y sums_of))
-    walk_sums = walk_adds ∙ ap (λ (u : List ℕ). added_all p k s x y (last_steps m p x y) (steps_done p k s front_steps u)) (sym first_started) ∙ whole_walk (first_added p s x y sums_of)
+    walk_sums : walked p k s x y t ≡ added_all p k s x y (last_steps m p x y) (diagonal_walk p p k s x y (extra_row_on p x) (solved s (place p (extra_row_on p x) x) (row_set p k (extra_row_on p x)) (first_added p s x y sums_of)))
+    walk_sums = walk_adds ∙ ap (added_all p k s x y (last_steps m p x y)) (ap (steps_done p k s front_steps) (sym first_started) ∙ front_walk (first_added p s x y sums_of))
 
 pub sums_walk : (p k s x y : ℕ) → Prime p → p % 2 ≡ 1 → k ≤ p → Roles p x y → x < k → y < k → 1 ≤ y → (t : List ℕ) → is_stripe p k s t ≡ true → walked p k s x y t ≡ sum_walked p k s x y t
 unfolding sums_of
@@ -325,4 +310,4 @@ sums_steps p k s x y ok odd most g hx hy low t =
     let m = (p - 1) / 2 - 1 in
     let half : (p - 1) / 2 ≡ suc m = omega (arith, ok.large) in
     let u = sum_started p k s x y t in
-    sym (whole_walk p k s x y ok odd most g hx hy low m half u) ∙ sym (ap (λ (l : List CellStep). added_all p k s x y (added_steps p x y) (steps_done p k s l u)) (solved_are p k s x y ok odd most g hx hy low m half))
+    ap (added_all p k s x y (added_steps p x y)) (sym (ap (λ (l : List CellStep). steps_done p k s l u) (solved_are p k s x y ok odd most g hx hy low m half) ∙ front_walk p k s x y ok odd most g hx hy low m half u))

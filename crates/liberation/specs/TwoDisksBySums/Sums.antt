@@ -1,11 +1,11 @@
 -- Two lost data disks x and y: the start's sets are summed into the lost cells that they will give,
 -- and the walk's last steps add to them what the sets have of other lost cells.
-use Rattle.std.specs.Prelude.{List, [], ◌∷◌, ◌++◌, ℕ, zero, suc, ◌-◌, ◌*◌, ◌/◌, ltb}
+use Rattle.std.specs.Prelude.{List, [], ◌∷◌, ◌++◌, ℕ, zero, suc, ◌-◌, ◌/◌}
 use Rattle.liberation.specs.Sets.{place, row_set, lost_in, surviving_in, set_of}
 use Rattle.liberation.specs.Plans.{extra_row_on, diagonal_of}
 use Rattle.liberation.specs.Stripes.Stripes.{cell_at, with_cell, xor_over, solved}
 use Rattle.liberation.specs.Stripes.Steps.{CellStep, cell_step}
-use Rattle.liberation.specs.TwoDisks.Pairs.{next_row, first_cell, forward}
+use Rattle.liberation.specs.TwoDisks.Pairs.{next_row, first_cell, diagonal_walk, forward}
 use Rattle.liberation.specs.TwoDisks.PairSteps.{PairPlan, walk_steps}
 use Rattle.mathematics.specs.Choice.{pick}
 
@@ -66,27 +66,12 @@ first_added p s x y t = with_cell s (place p (extra_row_on p x) y) (xor_over s (
 abbrev pub sum_started : ℕ → ℕ → ℕ → ℕ → ℕ → List ℕ → List ℕ
 sum_started p k s x y t = first_added p s x y (summed_all p k s x y (sum_steps p x y) t)
 
--- a step of the walk while n cells are missing, the last m of which hold sums: its cell is solved
--- from the set's other cells, or becomes the XOR of its lost cells
-abbrev pub stepped : ℕ → ℕ → ℕ → ℕ → ℕ → ℕ → ℕ → CellStep → List ℕ → List ℕ
-stepped n m p k s x y c t = pick (ltb m n) (solved s c.cell (set_of p k c.kind c.number) t) (sum_added p k s x y c t)
-
--- "a diagonal step leads to a row step and that one to the next diagonal step": n cells are
--- missing, and the last m of them hold sums
-unfoldable mutual
-  pub diagonal_step : ℕ → ℕ → ℕ → ℕ → ℕ → ℕ → ℕ → ℕ → List ℕ → List ℕ
-  diagonal_step zero m p k s x y r t = t
-  diagonal_step (suc n) m p k s x y r t = row_step n m p k s x y (next_row p x y r) (stepped (suc n) m p k s x y (cell_step (place p (next_row p x y r) y) 1 (diagonal_of p x r)) t)
-
-  pub row_step : ℕ → ℕ → ℕ → ℕ → ℕ → ℕ → ℕ → ℕ → List ℕ → List ℕ
-  row_step zero m p k s x y r t = t
-  row_step (suc n) m p k s x y r t = diagonal_step n m p k s x y r (stepped (suc n) m p k s x y (cell_step (place p r x) 0 r) t)
-
--- then the other cell of the first cell's row, and the walk over the other p - 1 rows. The cells of
--- its last p - 2 steps hold sums: those of disk x from the row of the extra cell on y on, and those
--- of disk y after it
+-- then the other cell of the first cell's row, the walk until the cell of disk y in the row of its
+-- extra cell stands, and the last steps
 abbrev pub sum_walked : ℕ → ℕ → ℕ → ℕ → ℕ → List ℕ → List ℕ
-sum_walked p k s x y t = diagonal_step (2 * (p - 1)) (p - 2) p k s x y (extra_row_on p x) (solved s (place p (extra_row_on p x) x) (row_set p k (extra_row_on p x)) (sum_started p k s x y t))
+sum_walked p k s x y t =
+    added_all p k s x y (last_steps ((p - 1) / 2 - 1) p x y)
+    (diagonal_walk p p k s x y (extra_row_on p x) (solved s (place p (extra_row_on p x) x) (row_set p k (extra_row_on p x)) (sum_started p k s x y t)))
 
 -- the walk's steps of n rows from row r on, and the diagonal step after them
 unfoldable pub rows_and_one : ℕ → ℕ → ℕ → ℕ → ℕ → List CellStep
