@@ -2,12 +2,12 @@
 -- spread over the survivors so that the busiest gives no more than the busiest of any accepted plan.
 -- For a lost data disk f, row j takes a diagonal exactly if j - a is a square mod p, where 2a + 1 +
 -- e = f mod p, e being 1 if -1 is a square, else 0.
-use Rattle.std.specs.Prelude.{◌≡◌, Bool, true, List, [], ◌∷◌, ℕ, zero, suc, ◌+◌, ◌-◌, ◌*◌, ◌/◌, ◌%◌, ◌≤◌, ◌<◌}
+use Rattle.std.specs.Prelude.{◌≡◌, Bool, true, List, [], ◌∷◌, ◌++◌, ℕ, zero, suc, ◌+◌, ◌-◌, ◌*◌, ◌/◌, ◌%◌, ◌≤◌, ◌<◌, ltb}
 use Rattle.mathematics.specs.Choice.{pick, when}
 use Rattle.mathematics.specs.Lists.{is_in}
 use Rattle.mathematics.specs.Sums.{sum_to}
 use Rattle.liberation.specs.Sets.{is_width, place}
-use Rattle.liberation.specs.Plans.{Step, second_row, plan_by, plan_of, cells_read, read_count}
+use Rattle.liberation.specs.Plans.{Step, second_row, row_steps, diagonal_steps, all_of, plan_of, cells_read, read_count}
 use Rattle.liberation.specs.Judging.{accepted}
 use Rattle.liberation.specs.Claims.{is_best}
 use Rattle.liberation.specs.BalancedPlan.Squares.{is_square}
@@ -36,7 +36,7 @@ balanced_routes p f = balanced_from p p f 0
 -- the balanced plan: row-set steps first, rows upward, then diagonal steps, rows upward; for P
 -- (disk k) and Q (disk k + 1) it is ours
 unfoldable pub balanced_plan : ℕ → ℕ → ℕ → List Step
-balanced_plan p k f = plan_by p k f (balanced_routes p f)
+balanced_plan p k f = pick (ltb f k) (row_steps 0 (balanced_routes p f) ++ diagonal_steps p f 0 (balanced_routes p f)) (all_of p (f - k) 0)
 
 -- how many cells of disk c the steps read
 unfoldable pub reads_of : ℕ → ℕ → ℕ → ℕ → List Step → ℕ

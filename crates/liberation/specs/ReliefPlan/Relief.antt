@@ -4,11 +4,11 @@
 -- f is relieved min(x, p - x) of its p cells.
 -- The relief plan is the one with step 2(c - f): disk c is then (p + 1)/2 steps from f, so it is
 -- relieved as much as any plan can relieve it.
-use Rattle.std.specs.Prelude.{◌≡◌, Bool, true, false, ◌||◌, List, [], ◌∷◌, ℕ, zero, suc, ◌+◌, ◌-◌, ◌*◌, ◌/◌, ◌%◌, ◌≤◌, ◌<◌, eqb, leb}
+use Rattle.std.specs.Prelude.{◌≡◌, Bool, true, false, ◌||◌, List, [], ◌∷◌, ◌++◌, ℕ, zero, suc, ◌+◌, ◌-◌, ◌*◌, ◌/◌, ◌%◌, ◌≤◌, ◌<◌, eqb, ltb, leb}
 use Rattle.mathematics.specs.Choice.{pick}
 use Rattle.mathematics.specs.Sums.{sum_to}
 use Rattle.liberation.specs.Sets.{is_width}
-use Rattle.liberation.specs.Plans.{Step, second_row, plan_by, plan_of, read_count}
+use Rattle.liberation.specs.Plans.{Step, second_row, row_steps, diagonal_steps, all_of, plan_of, read_count}
 use Rattle.liberation.specs.Judging.{accepted}
 use Rattle.liberation.specs.Claims.{is_best}
 use Rattle.liberation.specs.BalancedPlan.Balanced.{reads_of}
@@ -35,7 +35,7 @@ progression_routes p f g = step_routes p ((p - 1) / 2) p (start_row p f) g 0
 -- the progression plan with step g: row-set steps first, rows upward, then diagonal steps, rows
 -- upward; for P (disk k) and Q (disk k + 1) it is ours
 unfoldable pub progression_plan : ℕ → ℕ → ℕ → ℕ → List Step
-progression_plan p k f g = plan_by p k f (progression_routes p f g)
+progression_plan p k f g = pick (ltb f k) (row_steps 0 (progression_routes p f g) ++ diagonal_steps p f 0 (progression_routes p f g)) (all_of p (f - k) 0)
 
 -- the step that relieves disk c: 2(c - f) mod p
 abbrev pub relief_step : ℕ → ℕ → ℕ → ℕ
