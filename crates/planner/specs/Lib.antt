@@ -1,6 +1,7 @@
 -- What the planner promises: our plan, its steps and its read list, the balanced, the relief and
 -- the fewest plan, and their records of routes and steps.
 pub mod PlanSays
+pub mod ReliefStepsSays
 pub mod ReadListSays
 pub mod StepRecords
 pub mod SquareRoutes

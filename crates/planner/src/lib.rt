@@ -12,6 +12,7 @@ mod fewest_step;
 mod reads;
 mod records;
 mod relief;
+mod relief_record;
 mod relief_routes;
 mod routes;
 mod steps;

@@ -5,7 +5,7 @@ ghost use Rattle.liberation.specs.Limits.{InArray};
 ghost use Rattle.planner.specs.ReliefPlanSays.{relief_refusal, ReliefGiven, ReliefSays};
 
 use super::steps::Planned;
-use super::{Plan, relief_routes, steps};
+use super::{Plan, relief_record, steps};
 use refusals::numbers::{NO_SUCH_DISK, SAME_DISK};
 
 // The refusal of the numbers of the call by 1, 13, 3 or 4, 0 for none.
@@ -33,8 +33,7 @@ fn relief_steps(width: usize, disks: usize, lost: usize, relieved: usize) -> Pla
     if disks <= lost {
         return steps::plan_steps(width, disks, lost);
     }
-    let r = relief_routes::relief_routes(width, lost, relieved);
-    steps::by_routes(width, lost, r)
+    relief_record::relief_data_steps(width, disks, lost, relieved)
 }
 
 // The plan for a lost disk that asks as little of the relieved data disk as any plan can; for P and
