@@ -73,6 +73,7 @@ text_table =
     ∷ (bad "row,set,number\n0,R,0\n1,D,0\n2,D,1\n "
     ∷ (bad "row,set,number\n0,R,0\n1,D,0\n2,D,1\n\0"
     -- the names line: capitals, missing, not ended, cut short; nothing at all
+    ∷ (bad "TextExample,set,number\n0,R,0\n1,D,0\n2,D,1\n"
     ∷ (bad "Row,set,number\n0,R,0\n1,D,0\n2,D,1\n"
     ∷ (bad "ROW,SET,NUMBER\n0,R,0\n1,D,0\n2,D,1\n"
     ∷ (bad "0,R,0\n1,D,0\n2,D,1\n"
@@ -81,7 +82,7 @@ text_table =
     ∷ (bad " row,set,number\n0,R,0\n1,D,0\n2,D,1\n"
     ∷ (bad "row,set,number\n"
     ∷ (bad ""
-    ∷ [])))))))))))))))))))))))))))))))))))))
+    ∷ []))))))))))))))))))))))))))))))))))))))
 
 -- every row agrees
 unfoldable pub agree : List TextExample → Bool
