@@ -121,9 +121,9 @@ pub demand1 : Demand1
 demand1 =
     record {
       plan_disk = λ p k f r d. planned (plan p k f) p k f (plan_refusal p k f) (plan_of p k f) (route_word p k f) r (plan_decides p k f) d;
-      balanced_plan_lem = λ p k f r d. planned (plan p k f) p k f (plan_refusal p k f) (balanced_plan p k f) (balanced_word p k f) r (plan_decides p k f) d;
+      balanced_plan = λ p k f r d. planned (plan p k f) p k f (plan_refusal p k f) (balanced_plan p k f) (balanced_word p k f) r (plan_decides p k f) d;
       relief_plan_lem = λ p k f c r d. planned (relief_plan p k f c) p k f (relief_refusal p k f c) (relief_steps p k f c) (relief_word p k f c) r (relief_decides p k f c) d;
-      fewest_plan_lem = λ p k f r d. planned (plan p k f) p k f (plan_refusal p k f) (fewest_plan p k f) (fewest_word p k f) r (plan_decides p k f) d;
+      fewest_plan = λ p k f r d. planned (plan p k f) p k f (plan_refusal p k f) (fewest_plan p k f) (fewest_word p k f) r (plan_decides p k f) d;
       plan_list_lem = λ p k f bs o o' r d. decided (plan p k f then (long (3 * p) bs then long (p * (k + 2)) o)) (lists_refusal p k f bs o) p k f (steps_in p bs) _ o o' r (lists_decide p k f bs o) d;
       read_list_lem = λ p k f o o' r d. refuses r (list_decides p k f o) d.answer (kept _ (read_list_refusal p k f o) _ _ _ d.answer.refusal d.list);
       judge_plan_lem = λ p k f bs r d. judged (plan p k f then long (3 * p) bs) (form_refusal p k f bs) p k f (steps_in p bs) r (form_decides p k f bs) (record { refusal = d.refusal; place = d.place; reads = d.reads });
@@ -145,7 +145,7 @@ demand1 =
       rebuild_two_lem = λ p k s a b t t' r d. refuses r (two_decides p k s a b t) d.answer (kept _ (two_refusal p k s a b t) _ _ _ d.answer.refusal d.stripe);
       update_cell_lem = λ p k s i c t new t' r d. refuses r (update_decides p k s i c t new) d.answer (kept _ (update_refusal p k s i c t new) _ _ _ d.answer.refusal d.stripe);
       rebuild_cells_lem = λ p k s ms t t' r d. refuses r (mend_decides p k s ms t) d.answer (kept _ (mend_refusal p k s ms t) _ _ _ d.answer.refusal d.stripe);
-      image_bytes_lem = λ l r d.
+      image_bytes = λ l r d.
           let m = r.answer.refusal in
           let n = layout_refusal l in
           let e = d.answer.refusal in

@@ -80,9 +80,9 @@ NoBill x = (x.first ≡ 0) × (x.second ≡ 0) × (x.third ≡ 0) × (x.cents �
 pub record Demand1 : Type 0 where
   -- plans
   pub plan_disk : (p k f : ℕ) (r : Plan) → PlanSays p k f r → Refuses (plan p k f) (Holds [] r.steps × (r.routes ≡ 0) × (r.reads ≡ 0)) r.answer
-  pub balanced_plan_lem : (p k f : ℕ) (r : Plan) → BalancedSays p k f r → Refuses (plan p k f) (Holds [] r.steps × (r.routes ≡ 0) × (r.reads ≡ 0)) r.answer
+  pub balanced_plan : (p k f : ℕ) (r : Plan) → BalancedSays p k f r → Refuses (plan p k f) (Holds [] r.steps × (r.routes ≡ 0) × (r.reads ≡ 0)) r.answer
   pub relief_plan_lem : (p k f c : ℕ) (r : Plan) → ReliefSays p k f c r → Refuses (relief_plan p k f c) (Holds [] r.steps × (r.routes ≡ 0) × (r.reads ≡ 0)) r.answer
-  pub fewest_plan_lem : (p k f : ℕ) (r : Plan) → FewestSays p k f r → Refuses (plan p k f) (Holds [] r.steps × (r.routes ≡ 0) × (r.reads ≡ 0)) r.answer
+  pub fewest_plan : (p k f : ℕ) (r : Plan) → FewestSays p k f r → Refuses (plan p k f) (Holds [] r.steps × (r.routes ≡ 0) × (r.reads ≡ 0)) r.answer
   pub plan_list_lem : (p k f : ℕ) (bs o o' : List ℕ) (r : Answer) → PlanListSays p k f bs o o' r → Refuses (plan_list p k f bs o) (o' ≡ o) r
   pub read_list_lem : (p k f : ℕ) (o o' : List ℕ) (r : Answer) → ListSays p k f o o' r → Refuses (read_list p k f o) (o' ≡ o) r
   pub judge_plan_lem : (p k f : ℕ) (bs : List ℕ) (r : Judged) → JudgeSays p k f bs r → Refuses (judge_plan p k f bs) (r.reads ≡ 0) r.answer
@@ -102,7 +102,7 @@ pub record Demand1 : Type 0 where
   pub update_cell_lem : (p k s i c : ℕ) (t new t' : List ℕ) (r : Answer) → UpdateSays p k s i c t new t' r → Refuses (update_cell p k s i c t new) (t' ≡ t) r
   pub rebuild_cells_lem : (p k s : ℕ) (ms t t' : List ℕ) (r : Answer) → RebuildCellsSays p k s ms t t' r → Refuses (rebuild_cells p k s ms t) (t' ≡ t) r
   -- places in images
-  pub image_bytes_lem : (l : Layout) (r : Image) → ImageSays l r → Refuses (layout l) ((r.stripes ≡ 0) × (r.units ≡ 0) × (r.end ≡ 0) × (r.bytes ≡ 0)) r.answer
+  pub image_bytes : (l : Layout) (r : Image) → ImageSays l r → Refuses (layout l) ((r.stripes ≡ 0) × (r.units ≡ 0) × (r.end ≡ 0) × (r.bytes ≡ 0)) r.answer
   pub cell_place_lem : (l : Layout) (i n : ℕ) (r : Place) → CellSays l i n r → Refuses (cell_place l i n) ((r.at ≡ 0) × (r.bytes ≡ 0)) r.answer
   pub block_place_lem : (l : Layout) (v : ℕ) (r : Place) → BlockPlaceSays l v r → Refuses (block_place l v) ((r.at ≡ 0) × (r.bytes ≡ 0)) r.answer
   pub unit_place_lem : (l : Layout) (i v : ℕ) (r : UnitPlace) → UnitSays l i v r → Refuses (unit_place l i v) ((r.first ≡ 0) × (r.stripes ≡ 0) × (r.at ≡ 0) × (r.bytes ≡ 0)) r.answer
