@@ -15,7 +15,7 @@ WIDE, STEP, BOX = 1180, 84, 26
 
 def read():
     """The crates that each crate uses, of those that crates.txt lists."""
-    listed = dict(re.findall(r"^(\w+):(.*)", (TOP / "crates.txt").read_text(), re.M))
+    listed = dict(re.findall(r"^(\w+)(?: staticlib)?:(.*)", (TOP / "crates.txt").read_text(), re.M))
     return {name: [used for used in listed[name].split() if used in listed] for name in listed}
 
 
