@@ -3,6 +3,8 @@
 // It reads at most a buffer of 4,096 bytes. An input that goes on after them has more bytes than
 // any input of the form, as its first 4,096 alone have, and what is printed for those is what is
 // printed for the whole: `printed_cut` in PrintedLaws of printed_plan.
+#![tactic(auto)]
+
 fn main() {
     let mut buffer = io::buffer();
     let n = io::read_full(0, &mut buffer);
