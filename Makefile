@@ -49,7 +49,7 @@ tool = $(if $(shell command -v cargo),build/cuzhaveli)
 has = $(if $(tool),$(shell $(PKG_CONFIG) --exists $(1) 2>/dev/null && echo $(2)))
 servers = $(call has,fuse3,build/cuzhaveli-fuse) $(call has,nbdkit,build/nbdkit-cuzhaveli-plugin.so)
 scratch = $(CURDIR)/build/scratch
-proved = $(shell find crates -name '*.rt' -o -name '*.antt')
+proved = $(shell find crates -name out -prune -o \( -name '*.rt' -o -name '*.antt' \) -print)
 warnings = -std=c99 -Wall -Wextra -pedantic -Werror
 dist = cuzhaveli-$(VERSION)-x86_64-linux
 

@@ -20,12 +20,12 @@ AXIOMS = {"plan": 2}
 # files of `guarantees` with steps on the way to its theorems
 STEPS = {"LimitLaws", "SharedLimits", "CallLimits", "ListCounts"}
 # files with theorems of single calls, which stand in the crates of these calls
-SINGLE = ["planner/proofs/PlanMeans", "planner/proofs/ReadListMeans", "plan_texts/proofs/form/TextTheorems",
-          "rebuild_runs/proofs/whole_runs/MadeLaws", "rebuild_runs/proofs/whole_runs/ResumeLaws", "billing/proofs/MeansLaws",
+SINGLE = ["planner/proofs/PlanMeans", "planner/proofs/ReadListMeans", "plan_texts/proofs/Form/TextTheorems",
+          "rebuild_runs/proofs/WholeRuns/MadeLaws", "rebuild_runs/proofs/WholeRuns/ResumeLaws", "billing/proofs/MeansLaws",
           "space/proofs/SpaceLaws", "image_layout/proofs/ImageLaws", "image_layout/proofs/AnswerPlaces",
           "unit_opening/proofs/BroughtBack", "unit_opening/proofs/NothingWritten", "unit_film/proofs/NoWrongFilm",
           "unit_film/proofs/Sealed", "unit_film/proofs/FilmInUnitsLaws",
-          "array_states/proofs/series/OneReport", "array_states/proofs/series/ManyReports",
+          "array_states/proofs/Series/OneReport", "array_states/proofs/Series/ManyReports",
           "starred_examples/proofs/Starred"]
 HEAD = """# What is claimed
 
@@ -68,7 +68,7 @@ def end_of(lines, start):
     """Where the statement ends that begins at a line: a definition with its clauses, a theorem with its type."""
     first, end = lines[start], start + 1
     mutual, theorem = first.endswith("mutual"), is_theorem(first)
-    name = "" if mutual else names_of([first])[0].strip("_")
+    name = "" if mutual else names_of([first])[0].strip("◌")
     while end < len(lines):
         line = lines[end]
         clause = not theorem and not mutual and re.match(rf"(?:{re.escape(name)}|\S+ {re.escape(name)}|\(.*\) {re.escape(name)}) ", line)
@@ -107,8 +107,8 @@ class File:
         head = re.match(r"(?:--.*\n)*", text)[0]
         self.head = " ".join(line[2:].strip() for line in head.splitlines())
         self.taken = {}
-        for crate, place, names in re.findall(r"^use Rattle·(\w+)(?:·\w+)?\.([\w.]+)\.\{(.*)\}", text, re.M):
-            for name in names.split(", "):
+        for crate, place, names in re.findall(r"^use Rattle\.(\w+)\.([\w.]+)\.\{(.*)\}", text, re.M):
+            for name in names.split(", ") if crate in CRATES else []:
                 self.taken[name.split(" as ")[-1]] = (crate, place, name.split(" as ")[0])
         self.statements = list(statements(text[len(head) :].split("\n")))
         self.own = {name: i for i, said in enumerate(self.statements) for name in said.names}
@@ -130,7 +130,7 @@ def target(crate, place):
 
 def words(said):
     code = "\n".join(line for line in said.lines + sum(said.around, []) if not line.lstrip().startswith("--"))
-    return {form for word in re.findall(r"[^\s(){},;.λ]+", code) for form in (word, f"_{word}_")}
+    return {form for word in re.findall(r"[^\s(){},;.λ]+", code) for form in (word, f"◌{word}◌")}
 
 
 def reach(given):

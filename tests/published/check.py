@@ -80,7 +80,7 @@ def rattle_parameters(items):
 
 
 def read_exports(paths):
-    pattern = r'#\[no_mangle\]\s*pub extern "C" fn (\w+)\s*\(([^)]*)\)\s*->\s*(\w+)'
+    pattern = r'#\[unsafe\(no_mangle\)\]\s*pub extern "C" fn (\w+)\s*\(([^)]*)\)\s*->\s*(\w+)'
     calls = {}
     for path in paths:
         for name, parameters, result in re.findall(pattern, without_comments(path.read_text())):
@@ -102,7 +102,7 @@ def read_rattle():
     shared = dict(pair for text in texts for pair in re.findall(r"pub const (\w+): usize = (\d+);", text))
     for text in texts:
         text = with_lengths(text, shared)
-        for name, fields in re.findall(r"#\[repr\(C\)\]\s*pub struct (\w+)\s*\{(.*?)\}", text, re.S):
+        for name, fields in re.findall(r"#\[repr\(C\)\]\s*(?:#\[[^\]]*\]\s*)*pub struct (\w+)\s*\{(.*?)\}", text, re.S):
             structs[name] = [named(item) for item in split_list(fields)]
     return calls, used(calls, structs)
 
