@@ -35,9 +35,9 @@ them rests on, without proofs: from mathematics up the definitions, among them w
 docs/SCOPE.md says, and trusts the kit's logic (docs/TRUST.md), need read no proof.
 
 `ℕ` are the natural numbers, `a - b` is 0 where it would be negative; `≡` is equality, `eqb`, `ltb` and `leb` test =, < and ≤;
-lists are `[]` and `x ∷ xs`; `getD xs i d` is place i of a list, or d past its end, `set xs i x` the list with x there;
+lists are `[]` and `x ∷ xs`; `get_or xs i d` is place i of a list, or d past its end, `set xs i x` the list with x there;
 `(x : A) × B` is a pair, or that there is such an x; `A ⊎ B` is 'A or B', `A → ⊥` is 'not A'. `abbrev` and `unfoldable` begin a
-definition, `r .answer .refusal` are fields of a record. A `struct` is one of the code. Letters are those of
+definition, `r.answer.refusal` is a field of a field of the record r. A `struct` is one of the code. Letters are those of
 docs/ARCHITECTURE.md.
 
 No crate has an axiom but `plan`, the plan program: the kit's contracts of libc::read and libc::write. `rt ci` prints
@@ -180,7 +180,7 @@ def in_order(crate, folder):
 
 def struct_text(crate, name):
     for path in sorted((TOP / "crates" / crate / "src").glob("*.rt")):
-        found = re.search(rf"((?://.*\n)*)(?:#\[.*\]\n)?pub (struct {name} \{{\n(?:    .*\n)*\}})", path.read_text())
+        found = re.search(rf"((?://.*\n)*)(?:#\[.*\]\n)*pub (struct {name} \{{\n(?:    .*\n)*\}})", path.read_text())
         if found:
             return found[1].replace("// ", "-- ") + found[2].replace("    pub ", "    ")
     raise SystemExit(f"statements: no struct {name} in crate {crate}")

@@ -31,14 +31,14 @@ for path in RUST:
         METHODS.setdefault(name, set()).update(re.findall(r"\bfn (\w+)", body))
 CHECKS = {name for kind in ("store", "command") for path in TOP.glob(f"tests/{kind}/*.py") for name in re.findall(r"^def (\w+)", path.read_text(), re.M)}
 # words of the language, of the kit and its log, of document 03, of what the command prints, of README's lines; an archive; Python's own
-OUTSIDE = {"match", "u32", "usize", "count_ones", "requires", "unfoldable", "trusted", "modulo", "around", "read_cell", "libcuzhaveli_plans", "PyObject_GetBuffer"}
+OUTSIDE = {"match", "u32", "usize", "count_ones", "requires", "unfoldable", "trusted", "modulo", "diskAt", "one-back", "around", "read_cell", "libcuzhaveli_plans", "PyObject_GetBuffer"}
 PAGES = [TOP / "README.md", TOP / "CONTRIBUTING.md", *(TOP / f"docs/{page}.md" for page in ("ARCHITECTURE", "COVERAGE", "DECISIONS", "PROOFS", "REQUESTS", "SCOPE", "TRUST"))]
 
 # each of these has to be found wrong
 WRONG = [
-    "`encodes-all`", "`isWidht`", "`encode::encode_stripe(stripe, shape)`", "`encode::encode_stripe(shape, stripe) -> Plan`", "`Shape { width, disks }`", "`plan_disc`", "`planner::plan_disc`", "`planner::routes::plan_disk`", "`routes::all_routes`",
+    "`encodes_all`", "`is_widht`", "`encode::encode_stripe(stripe, shape)`", "`encode::encode_stripe(shape, stripe) -> Plan`", "`Shape { width, disks }`", "`plan_disc`", "`planner::plan_disc`", "`planner::routes::plan_disk`", "`routes::all_routes`",
     "`liberation/no-such-edit`", "edits `liberation/always-rows`, `no-such-edit`", "edits `judge/nothing-counted`, `always-rows`",
-    "test `stripe`", "tests `stripes`, `stripe`", "`Scrubs .says-two`", "`Scrubs .says-one`, `.says-two`",
+    "test `stripe`", "tests `stripes`, `stripe`", "`Scrubs .says_two`", "`Scrubs .says_one`, `.says_two`",
     "`encodes` (guarantees Plans)", "`restores`, `encodes` (guarantees Stripes)", "(guarantees Stripe)", "(demands Stripes)",
     "crates/liberation/proofs/Price.antt", "Price.antt", "`price`, crates/liberation/proofs/OurPlan.antt", "`price`, OurPlan.antt",
     "docs/PAGE.md", "by liberation_texts", "`Wach`", "`PACKAGE_TO_LONG`", "`store/putt`", "`Cells::filn`", "`Cell::film`", "`reads/image`", "rust/image", "(run_laws MadeLaws)",
@@ -82,7 +82,7 @@ def wrong_word(word):
     module = re.fullmatch(r"([a-z]+)/[a-z_/]*[a-z]", word)
     if module and module[1] not in FOLDERS.split("|"):
         return None if word in MODULES else f"no module {word}"
-    name = re.fullmatch(r"([A-Za-z][\w-]*)(?:\(.*\)|(?: [a-z]′?)+)?", word)
+    name = re.fullmatch(r"([A-Za-z][\w-]*)(?:\(.*\)|(?: [a-z]'?)+)?", word)
     return f"nothing of the name {name[1]}" if name and not known(name[1]) else None
 
 

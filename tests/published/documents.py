@@ -1,6 +1,6 @@
 #!/usr/bin/env python3
 """Holds the documents to the crates: docs/generated/layers.svg, docs/generated/STATEMENTS.md and docs/generated/index.html are what their scripts make, with
-the axioms that `rt ci` printed, and so are the pictures of drives; docs/ARCHITECTURE.md has a row for each folder and crate, with its layer, names each module, and each public function once; what the
+the axioms that were printed when the crates were proved, and so are the pictures of drives; docs/ARCHITECTURE.md has a row for each folder and crate, with its layer, names each module, and each public function once; what the
 documents cite is there (citations.py); the entries of docs/DECISIONS.md are numbered; and all are short enough to be read.
 
 Usage: tests/published/documents.py
@@ -22,9 +22,10 @@ ARCHITECTURE = TOP / "docs/ARCHITECTURE.md"
 STATEMENTS = TOP / "docs/generated/STATEMENTS.md"
 DECISIONS = TOP / "docs/DECISIONS.md"
 DRIVES = sorted((TOP / "bench/results").glob("*-drives.txt"))
-LOGS = sorted((TOP / "target/log").glob("*.say"))
-# README.md, CONTRIBUTING.md, docs/*.md but those that follow documents 01 and 02 line by line, and the manual pages
-LONG = {"SCOPE.md", "COVERAGE.md"}
+CI_LOG = TOP / "build/rt-ci.log"
+EXPORT_LOGS = sorted((TOP / "build/members").glob("cuzhaveli_*.log"))
+# README.md, CONTRIBUTING.md, the manual pages, docs/*.md but those that follow documents 01 and 02 line by line, and the record of the port
+LONG = {"SCOPE.md", "COVERAGE.md", "PORT.md"}
 MOST_WORDS = 38000
 
 
@@ -120,15 +121,29 @@ def made_by(script, given, *words):
         yield f"it is not what {script} makes"
 
 
+def number_of_axioms(proved):
+    """What the last line that begins logic=proved says, or None."""
+    lines = re.findall(r"^logic=proved.*", proved, re.M)
+    found = re.search(r" axioms=(\d+)", lines[-1]) if lines else None
+    return found[1] if found else "0" if lines else None
+
+
+def printed_axioms():
+    """The axioms of crates, as they were printed: by `rt ci` of those that it had not kept from an earlier run, and when an export
+    was compiled, of all that it is made of."""
+    for part in re.split(r"^== ", CI_LOG.read_text() if CI_LOG.exists() else "", flags=re.M)[1:]:
+        yield part.split()[0], number_of_axioms(part)
+    for log in EXPORT_LOGS:
+        made_of = source.below(log.stem) if number_of_axioms(log.read_text()) == "0" else []
+        yield from ((crate, "0") for crate in made_of)
+
+
 def axioms(text):
-    """The axioms of the crates on the page are those in the logs that `rt ci` left."""
+    """The axioms of the crates on the page are those that were printed."""
     said = dict(re.findall(r"^## .*`(\w+)`, axioms=(\d+)$", text, re.M))
-    for log in LOGS:
-        proved = re.findall(r"^logic=proved.*", log.read_text(), re.M)
-        found = re.search(r" axioms=(\d+)", proved[-1]) if proved else None
-        number = found[1] if found else "0"
-        if proved and said.get(log.stem, str(statements.AXIOMS.get(log.stem, 0))) != number:
-            yield f"{log.stem} has axioms={number}"
+    for crate, number in dict.fromkeys(printed_axioms()):
+        if number is not None and said.get(crate, str(statements.AXIOMS.get(crate, 0))) != number:
+            yield f"{crate} has axioms={number}"
 
 
 def numbered(text):
@@ -167,7 +182,7 @@ CHECKS = [
     *((lambda text, results=results: made_by("bench/drives/plot.py", text.encode(), results), results.with_suffix(".svg"),
        "bench/drives/plot.py NAME.txt >NAME.svg", without("<line ")) for results in DRIVES),
     *([(axioms, STATEMENTS, "say in scripts/docs/statements.py what the crate takes for granted",
-        lambda text: text.replace("axioms=0", "axioms=1"))] if LOGS else []),
+        lambda text: text.replace("axioms=0", "axioms=1"))] if EXPORT_LOGS else []),
     (numbered, DECISIONS, r"""perl -pi -e 's/^(?:\d+\.|-) (?=\*\*)/++$n . ". "/e' docs/DECISIONS.md""", lambda text: text + "\n- **An entry.** Without a number.\n"),
     (few_words, TOP / "README.md", "cut what does not serve, in any of them", lambda text: text * 30),
     (crate_rows, ARCHITECTURE, "write the table anew from crates.txt and the heads of the crates", without(r"\| \d+ \| `")),

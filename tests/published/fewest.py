@@ -40,7 +40,7 @@ def searched(folder):
 
 
 def by_theorem(fewest):
-    """What differs from `plans-fewest`."""
+    """What differs from `plans_fewest`."""
     for (p, k, lost), count in fewest.items():
         known = {2: (3 * p + 1) // 2, p - 1: (3 * p * p - 4 * p + 5) // 4, p: (3 * p * p + 1) // 4}.get(k, count)
         if count != known:

@@ -13,6 +13,11 @@ import layers  # noqa: E402  scripts/docs/layers.py reads crates.txt
 CRATES = layers.read()
 
 
+def below(crate):
+    """The crates that a crate uses, at whatever remove."""
+    return set(CRATES[crate]).union(*map(below, CRATES[crate]))
+
+
 @functools.cache
 def modules(crate):
     """Each module of a crate with its text, without comments; the root is ''."""
@@ -33,11 +38,15 @@ def structs(crate):
     return {name: set(re.findall(r"pub (\w+):", fields)) for name, fields in found}
 
 
+def reused(crate):
+    """The functions of its modules that a crate's root makes public, each with its module."""
+    listed = re.findall(r"^pub use (\w+)::(?:\{([^}]*)\}|(\w+));", modules(crate)[""], re.M)
+    return {name: module for module, several, one in listed for name in re.findall(r"\w+", several or one) if name.islower()}
+
+
 def at_root(crate):
     """The functions that a crate's root makes public."""
-    root = modules(crate)[""]
-    reused = [name for name in re.findall(r"^pub use \w+::(\w+);", root, re.M) if name.islower()]
-    return set(re.findall(r'^pub (?:extern "C" )?fn (\w+)', root, re.M)).union(reused)
+    return set(re.findall(r'^pub (?:extern "C" )?fn (\w+)', modules(crate)[""], re.M)).union(reused(crate))
 
 
 @functools.cache
@@ -49,15 +58,13 @@ def called(crate):
 
 def signature(crate, name):
     """The parameters, by name, and the result of a function that the root makes public."""
-    module = re.search(rf"^pub use (\w+)::{name};", modules(crate)[""], re.M)
-    found = re.search(rf"\bfn {name}\(([^)]*)\)(?: -> (\w+))?", modules(crate)[module[1] if module else ""])
+    found = re.search(rf"\bfn {name}\(([^)]*)\)(?: -> (\w+))?", modules(crate)[reused(crate).get(name, "")])
     return ([item.split(":")[0].strip() for item in found[1].split(",") if item.strip()], found[2]) if found else ([], None)
 
 
 def asks(crate, name):
     """Whether a function that the root makes public has a `requires`."""
-    module = re.search(rf"^pub use (\w+)::{name};", modules(crate)[""], re.M)
-    contract = re.search(rf"\bfn {name}\(.*?^{{", modules(crate)[module[1] if module else ""], re.M | re.S)
+    contract = re.search(rf"\bfn {name}\(.*?(?:^| )\{{$", modules(crate)[reused(crate).get(name, "")], re.M | re.S)
     return bool(contract and re.search(r"^ *requires ", contract[0], re.M))
 
 
@@ -72,13 +79,18 @@ def statements(path):
     return set(re.findall(head, path.read_text(), re.M))
 
 
+def is_of_function(path):
+    """Whether a file is of the proof of a function, in the folder of its name."""
+    return path.stem in ("Invariants", "Answers", "Proof") and path.parent.name not in ("specs", "proofs") and not path.parent.name[0].isupper()
+
+
 @functools.cache
 def files(crate):
     """The files of definitions and laws of a crate by name, with the folder within specs/ or proofs/; not the proofs of functions."""
     found = {}
     for folder in ("specs", "proofs"):
         base = TOP / "crates" / crate / folder
-        for path in sorted(set(base.rglob("*.antt")) - set(base.rglob("Proof.antt"))):
+        for path in sorted(path for path in base.rglob("*.antt") if not is_of_function(path)):
             found.setdefault(str(path.relative_to(base).with_suffix("")), []).append(path)
     return found
 
@@ -127,8 +139,7 @@ def rust_modules(crate):
 
 def folders():
     """The folders of the repository that are neither hidden nor made."""
-    made = {"build", "target"}
-    return {path.name for path in TOP.iterdir() if path.is_dir() and path.name[0] != "."} - made
+    return {path.name for path in TOP.iterdir() if path.is_dir() and path.name[0] != "."} - {"build"}
 
 
 def has_edit(crate, name):
