@@ -80,7 +80,7 @@ build/origin: $(if $(filter $(ready),$(file <build/origin)),,FORCE)
 	@echo "$(ready)" >$@
 else ifeq ($(standing),)
 # What LIB= brought is not built here: with build/origin all is built anew.
-proofs = the library is proved before it is compiled, crate by crate: 5 to 9 minutes on two cores the first time, then only what changed
+proofs = the library is proved before it is compiled, crate by crate: long the first time, then only what changed
 build/libcuzhaveli.a: $(if $(wildcard build/origin),FORCE) scripts/archive.sh crates.txt $(proved)
 	@command -v rt >/dev/null || { echo "make: the library is built by the Rattle kit, whose command rt is not on PATH; install the kit, or take a ready archive: make LIB=FILE" >&2; exit 1; }
 	@mkdir -p build
@@ -91,7 +91,7 @@ build/libcuzhaveli_plans.a: build/libcuzhaveli.a
 	@[ -f $@ ] || cp build/members/cuzhaveli_plans.a $@
 	@echo "make: wrote $@"
 build/x86-64-v3/libcuzhaveli.a: build/libcuzhaveli.a
-	@WHY="the calls once more, for processors with AVX2 (x86-64-v3): a minute" scripts/progress.sh build/x86-64-v3.log scripts/archive.sh build/x86-64-v3 x86-64-v3
+	@WHY="the calls once more, for processors with AVX2 (x86-64-v3): some minutes" scripts/progress.sh build/x86-64-v3.log scripts/archive.sh build/x86-64-v3 x86-64-v3
 build/libcuzhaveli_fast.a: build/libcuzhaveli.a build/x86-64-v3/libcuzhaveli.a scripts/dispatch/fast.sh scripts/dispatch/pick.c include/cuzhaveli.h
 	@scripts/dispatch/fast.sh build/libcuzhaveli.a build/x86-64-v3/libcuzhaveli.a build
 	@echo "make: wrote $@"
