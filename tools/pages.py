@@ -19,7 +19,8 @@ import respell  # noqa: E402
 
 TOP = os.path.dirname(os.path.dirname(os.path.abspath(__file__)))
 TICKED = re.compile(r"`[^`\n]+`")
-LISTED = re.compile(r"\b(?:edits?|tests?) `[^`\n]+`(?:(?:, | and |, and )`[^`\n]+`)*")
+LISTED = re.compile(r"\b(?:edits?|tests?|document 03's) `[^`\n]+`(?:(?:, | and |, and )`[^`\n]+`)*")
+OF_FUNCTIONS = ("Invariants.antt", "Answers.antt", "Proof.antt")
 # words that stay: of the commands and of Rust
 CODE = re.compile(r"::|/|^(?:rt|make|scripts|tests|build|cargo) |--")
 
@@ -65,6 +66,11 @@ def table():
     return names, folders
 
 
+def here():
+    """The names that are declared now."""
+    return {name for path in respell.files(TOP, ".antt") if os.path.basename(path) not in OF_FUNCTIONS for name in declared(path)}
+
+
 def code():
     """The names of functions and modules of crates/, which stay."""
     found = set()
@@ -76,11 +82,12 @@ def code():
 
 def main():
     names, folders = table()
-    own, say = code(), "--say" in sys.argv
+    own, now, say = code(), here(), "--say" in sys.argv
     odd = {}
 
     def word(m):
-        new = names.get(m[0], set())
+        # what was put back since has the plain spelling
+        new = names.get(m[0]) or {respell.snake(m[0])} & now
         if new in (set(), {m[0]}):
             return m[0]
         if len(new) > 1 or m[0] in own:
