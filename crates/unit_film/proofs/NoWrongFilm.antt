@@ -19,7 +19,7 @@ use Rattle.liberation.specs.Stripes.Stripes.{cell_at, stripe_long}
 use Rattle.refusals.specs.declared.Answer.{Answer}
 use Rattle.unit_sums.specs.Sums.{block_of, is_sealed, fits}
 use Rattle.unit_sums.specs.Collisions.{Collision}
-use Rattle.unit_film.specs.FilmOrder.{in_order, film_of}
+use Rattle.unit_film.specs.FilmOrder.{film_of}
 use Rattle.unit_film.specs.Says.{cell_count, fit_around, is_film_proved, film_bytes_refusal, FilmBytesSays}
 use Rattle.unit_sums.proofs.RightPieces.{places_right}
 use Rattle.unit_film.proofs.OrderLaws.{film_long, film_at_lem}

@@ -1,6 +1,5 @@
 -- `again_refusal`: the four cases of the two flags.
 use Rattle.array_states.proofs.StateLaws.{again_is}
-use borrow.Author.Rules.{rules}
 use Rattle.array_states.proofs.again_refusal.Goals as goal
 
 pub returns-then-now : goal.returns-then-now

@@ -6,7 +6,6 @@ use Rattle.mathematics.proofs.ChoiceLaws.{pick_refused, pick_done}
 use Rattle.refusals.proofs.AnswerLaws.{answers_as}
 use Rattle.array_states.specs.States.{changed, state_report_refusal}
 use Rattle.array_states.proofs.StateLaws.{reportable}
-use borrow.Author.Rules.{rules}
 use Rattle.array_states.proofs.report_state.Goals as goal
 
 -- past the refusals

@@ -3,7 +3,6 @@ use mathlib.Core.Path.{sym, ◌∙◌}
 use Rattle.mathematics.proofs.ChoiceLaws.{first_kept, first_next}
 use Rattle.array_states.specs.Lost.{lost_refusal}
 use Rattle.array_states.proofs.StateLaws.{most_disks}
-use borrow.Author.Rules.{rules}
 use Rattle.array_states.proofs.state_refusal.Goals as goal
 
 pub returns-then-refusal-ne0 : goal.returns-then-refusal-ne0

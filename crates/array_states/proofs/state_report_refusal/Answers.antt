@@ -7,7 +7,6 @@ use Rattle.liberation.specs.Sets.{array_refusal}
 use Rattle.array_states.specs.Lost.{lost_refusal}
 use Rattle.array_states.specs.States.{state_refusal, again_refusal, disk_report_refusal}
 use Rattle.array_states.proofs.StateLaws.{few_disks}
-use borrow.Author.Rules.{rules}
 use Rattle.array_states.proofs.state_report_refusal.Goals as goal
 
 -- past the refusals of the record

@@ -2,7 +2,6 @@
 -- charge, which does not wrap, to the nearest cent.
 use mathlib.Core.Path.{◌≡◌, sym, ◌∙◌}
 use native.Mathlib.Omega.{arith}
-use borrow.Author.Rules.{rules}
 use Rattle.billing.specs.Cents.{bill_refusal}
 use Rattle.billing.proofs.BillLaws.{Fair, refusal_none, bill_refused, bill_done}
 use Rattle.billing.proofs.bill_bytes.Goals as goal

@@ -1,7 +1,6 @@
 -- `bill_run`: the record is read; a refusal of it is the bill's, else its bytes, which do not wrap,
 -- are billed.
 use native.Mathlib.Omega.{arith}
-use borrow.Author.Rules.{rules}
 use Rattle.billing.proofs.RunLaws.{bytes_fit, run_refused, run_billed}
 use Rattle.billing.proofs.bill_run.Goals as goal
 

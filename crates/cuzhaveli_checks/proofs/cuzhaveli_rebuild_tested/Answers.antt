@@ -1,5 +1,4 @@
 -- `cuzhaveli_rebuild_tested`: what the call promises.
-use borrow.Author.Rules.{rules}
 use Rattle.cuzhaveli_checks.proofs.cuzhaveli_rebuild_tested.Goals as goal
 
 pub returns : goal.returns

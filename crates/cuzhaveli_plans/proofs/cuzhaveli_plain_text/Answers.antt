@@ -1,5 +1,4 @@
 -- `cuzhaveli_plain_text`: what the call promises.
-use borrow.Author.Rules.{rules}
 use Rattle.cuzhaveli_plans.proofs.cuzhaveli_plain_text.Goals as goal
 
 pub returns : goal.returns

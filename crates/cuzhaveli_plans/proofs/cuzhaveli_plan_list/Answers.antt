@@ -1,5 +1,4 @@
 -- `cuzhaveli_plan_list`: what the call promises.
-use borrow.Author.Rules.{rules}
 use Rattle.cuzhaveli_plans.proofs.cuzhaveli_plan_list.Goals as goal
 
 pub returns : goal.returns

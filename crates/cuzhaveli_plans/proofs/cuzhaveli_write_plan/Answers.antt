@@ -1,5 +1,4 @@
 -- `cuzhaveli_write_plan`: what the call promises.
-use borrow.Author.Rules.{rules}
 use Rattle.cuzhaveli_plans.proofs.cuzhaveli_write_plan.Goals as goal
 
 pub returns : goal.returns

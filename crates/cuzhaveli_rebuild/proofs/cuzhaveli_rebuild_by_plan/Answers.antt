@@ -1,5 +1,4 @@
 -- `cuzhaveli_rebuild_by_plan`: what the call promises.
-use borrow.Author.Rules.{rules}
 use Rattle.cuzhaveli_rebuild.proofs.cuzhaveli_rebuild_by_plan.Goals as goal
 
 pub returns : goal.returns

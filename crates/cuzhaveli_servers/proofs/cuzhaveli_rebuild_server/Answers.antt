@@ -1,5 +1,4 @@
 -- `cuzhaveli_rebuild_server`: what the call promises.
-use borrow.Author.Rules.{rules}
 use Rattle.cuzhaveli_servers.proofs.cuzhaveli_rebuild_server.Goals as goal
 
 pub returns : goal.returns

@@ -1,5 +1,4 @@
 -- `cuzhaveli_write_server`: what the call promises.
-use borrow.Author.Rules.{rules}
 use Rattle.cuzhaveli_servers.proofs.cuzhaveli_write_server.Goals as goal
 
 pub returns : goal.returns

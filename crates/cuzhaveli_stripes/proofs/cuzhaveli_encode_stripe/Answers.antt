@@ -1,5 +1,4 @@
 -- `cuzhaveli_encode_stripe`: what the call promises.
-use borrow.Author.Rules.{rules}
 use Rattle.cuzhaveli_stripes.proofs.cuzhaveli_encode_stripe.Goals as goal
 
 pub returns : goal.returns

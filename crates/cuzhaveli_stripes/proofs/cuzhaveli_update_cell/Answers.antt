@@ -1,5 +1,4 @@
 -- `cuzhaveli_update_cell`: what the call promises.
-use borrow.Author.Rules.{rules}
 use Rattle.cuzhaveli_stripes.proofs.cuzhaveli_update_cell.Goals as goal
 
 pub returns : goal.returns

@@ -1,5 +1,4 @@
 -- `cuzhaveli_film_bytes`: what the call promises.
-use borrow.Author.Rules.{rules}
 use Rattle.cuzhaveli_units.proofs.cuzhaveli_film_bytes.Goals as goal
 
 pub returns : goal.returns

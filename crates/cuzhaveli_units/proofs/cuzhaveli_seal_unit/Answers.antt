@@ -1,5 +1,4 @@
 -- `cuzhaveli_seal_unit`: what the call promises.
-use borrow.Author.Rules.{rules}
 use Rattle.cuzhaveli_units.proofs.cuzhaveli_seal_unit.Goals as goal
 
 pub returns : goal.returns

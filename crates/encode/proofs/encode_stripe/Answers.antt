@@ -1,7 +1,6 @@
 -- `encode_stripe`: a refusal leaves the stripe as it was; else P and Q are written.
 use mathlib.Core.Path.{◌≡◌, sym, ◌∙◌}
 use mathlib.Core.Bool.{true}
-use borrow.Author.Rules.{rules}
 use Rattle.mathematics.specs.Xor.{all_bytes}
 use Rattle.xor.proofs.SourceLaws.{bytes_all}
 use Rattle.refusals.specs.StripeSays.{stripe_refusal}

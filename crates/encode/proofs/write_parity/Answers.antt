@@ -1,6 +1,5 @@
 -- `write_parity`: the groups give the encoded stripe; and so do P by the row sets and then Q by the
 -- diagonal sets.
-use borrow.Author.Rules.{rules}
 use Rattle.encode.proofs.EncodeLaws.{both_kinds}
 use Rattle.encode.proofs.write_parity.Goals as goal
 

@@ -11,7 +11,6 @@ use Rattle.mathematics.proofs.ChoiceLaws.{pick_refused, and_refused}
 use Rattle.liberation.specs.Sets.{plan_refusal, numbers_refusal}
 use Rattle.liberation.specs.Plans.{Step, plan_of, route_word}
 use Rattle.liberation.specs.Judging.{steps_in, judge}
-use Rattle.liberation.specs.Stripes.Stripes.{clean}
 use Rattle.liberation.specs.Scrub.Survivors.{suspect, verdict}
 use Rattle.plan_texts.specs.Form.Reading.{steps_read}
 use Rattle.refusals.specs.declared.Answer.{Answer}

@@ -39,7 +39,7 @@ use Rattle.unit_film.proofs.NoWrongFilm.{no_wrong_film}
 use Rattle.unit_film.proofs.Sealed.{sealed_film}
 use Rattle.guarantees.specs.Limits.Limits.{Within}
 use Rattle.guarantees.specs.Limits.UnitCalls.{seal_unit}
-use Rattle.guarantees.specs.Units.FilmWay.{Cut, Together, SealedFilm, Trusted, FilmWay, RebuiltPiece}
+use Rattle.guarantees.specs.Units.FilmWay.{SealedFilm, Trusted, FilmWay, RebuiltPiece}
 use Rattle.guarantees.proofs.Limits.Demand1.{demand1}
 use Rattle.guarantees.proofs.Stripes.{Encodes, is_stripe_lem, encodes}
 use Rattle.guarantees.proofs.FurtherPlans.Plans.{list_written}

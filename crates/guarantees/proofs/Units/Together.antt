@@ -3,21 +3,21 @@
 use mathlib.Core.Path.{◌≡◌, sym, ap, subst, ◌∙◌}
 use mathlib.Core.Bool.{true}
 use mathlib.Core.List.{List, []}
-use Prim.Native.Nat.{ℕ, ◌+◌, ◌*◌, ◌/◌, ◌%◌, ◌≤◌, ◌<◌}
+use Prim.Native.Nat.{ℕ, ◌+◌, ◌*◌, ◌/◌, ◌%◌, ◌<◌}
 use native.Mathlib.Nat.{mod-lt, div-add-mod', div-lt_iff_lt-mul}
 use native.Mathlib.Omega.{arith}
-use lib.ListN.{length, take, drop, replicate, length-replicate}
+use lib.ListN.{take, drop, replicate, length-replicate}
 use Rattle.mathematics.specs.Lists.{is_in}
 use Rattle.mathematics.proofs.MemberLaws.{in_below}
 use Rattle.liberation.specs.Sets.{place, set_of}
-use Rattle.liberation.specs.Stripes.Stripes.{cell_at, stripe_long, xor_over, clean}
+use Rattle.liberation.specs.Stripes.Stripes.{cell_at, xor_over, clean}
 use Rattle.liberation.proofs.SetLaws.{set_below}
 use Rattle.liberation.proofs.Stripes.OverLaws.{over_long, over_ext}
 use Rattle.liberation.proofs.Stripes.StripeSums.{cell_over}
 use Rattle.liberation.proofs.Stripes.StripeCellLaws.{cell_fits, cell_long, cells_equal, column_cell}
 use Rattle.liberation.proofs.Stripes.Solving.{SetZero, clean_at, clean_of}
 use Rattle.liberation.proofs.TwoDisks.StartLaws.{over_nil}
-use Rattle.unit_film.specs.FilmOrder.{stripe_cell, in_order, film_of}
+use Rattle.unit_film.specs.FilmOrder.{stripe_cell, film_of}
 use Rattle.unit_film.proofs.OrderLaws.{film_long, film_cell_lem}
 use Rattle.guarantees.specs.Units.FilmWay.{Cut, Together}
 

@@ -4,7 +4,6 @@ use Rattle.image_layout.specs.Layouts.{block_at, block_bytes}
 use Rattle.image_layout.specs.Limits.{block_refusal, Accepted}
 use Rattle.image_layout.proofs.LimitLaws.{accepted, block_of}
 use Rattle.image_layout.proofs.PlaceAnswers.{place_refusal, place_done}
-use borrow.Author.Rules.{rules}
 use Rattle.image_layout.proofs.block_place.Goals as goal
 
 none : (c : goal.Else-refusal-ne0) → let a = c.args in block_refusal a.layout a.unit ≡ 0

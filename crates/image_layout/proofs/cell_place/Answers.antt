@@ -4,7 +4,6 @@ use Rattle.image_layout.specs.Layouts.{cell_at}
 use Rattle.image_layout.specs.Limits.{cell_refusal}
 use Rattle.image_layout.proofs.LimitLaws.{accepted, cell_of}
 use Rattle.image_layout.proofs.PlaceAnswers.{place_refusal, place_done}
-use borrow.Author.Rules.{rules}
 use Rattle.image_layout.proofs.cell_place.Goals as goal
 
 none : (c : goal.Else-refusal-ne0) → let a = c.args in cell_refusal a.layout a.row a.stripe ≡ 0

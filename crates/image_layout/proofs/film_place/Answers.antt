@@ -9,7 +9,6 @@ use Rattle.image_layout.proofs.LimitLaws.{accepted, film_of_lem}
 use Rattle.image_layout.proofs.PlaceSums.{cell_small}
 use Rattle.image_layout.proofs.PlaceAnswers.{film_refusal_lem, film_done}
 use Rattle.image_layout.proofs.ImageLaws.{film_cell_lem}
-use borrow.Author.Rules.{rules}
 use native.Mathlib.Omega.{arith}
 use Rattle.image_layout.proofs.film_place.Goals as goal
 

@@ -5,7 +5,6 @@ use Rattle.image_layout.specs.Limits.{layout_refusal}
 use Rattle.image_layout.proofs.SmallLaws.{end_small}
 use Rattle.image_layout.proofs.LimitLaws.{accepted}
 use Rattle.image_layout.proofs.PlaceAnswers.{image_refusal, image_done}
-use borrow.Author.Rules.{rules}
 use native.Mathlib.Omega.{arith}
 use Rattle.image_layout.proofs.image_bytes.Goals as goal
 

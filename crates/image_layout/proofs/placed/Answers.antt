@@ -2,7 +2,6 @@
 use mathlib.Core.Path.{refl, sym}
 use Rattle.mathematics.proofs.ChoiceLaws.{pick_refused, pick_done}
 use Rattle.refusals.proofs.AnswerLaws.{answers_as}
-use borrow.Author.Rules.{rules}
 use Rattle.image_layout.proofs.placed.Goals as goal
 
 pub returns-then-refusal-eq0 : goal.returns-then-refusal-eq0

@@ -5,7 +5,6 @@ use Rattle.image_layout.proofs.LimitLaws.{accepted, unit_of_lem}
 use Rattle.image_layout.proofs.PieceLaws.{first_cell_lem, bytes_small}
 use Rattle.image_layout.proofs.PlaceSums.{first_small}
 use Rattle.image_layout.proofs.PlaceAnswers.{unit_refusal_lem, unit_done}
-use borrow.Author.Rules.{rules}
 use native.Mathlib.Omega.{arith}
 use Rattle.image_layout.proofs.unit_place.Goals as goal
 

@@ -6,7 +6,6 @@ use Prim.Native.Nat.{◌+◌, ◌*◌, ◌≤◌}
 use native.Mathlib.Omega.{arith}
 use lib.ListN.{length, take}
 use lib.Seq.{length-take-le}
-use borrow.Author.Rules.{rules}
 use Rattle.mathematics.proofs.ChoiceLaws.{first_none}
 use Rattle.liberation.specs.Limits.{InArray}
 use Rattle.liberation.specs.Sets.{plan_refusal, long_refusal}

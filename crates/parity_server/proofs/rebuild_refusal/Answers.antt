@@ -7,7 +7,6 @@ use native.Mathlib.Numerals.{add-one}
 use native.Mathlib.Omega.{arith}
 use mathlib.Core.List.{List}
 use lib.Dec.{eqb}
-use borrow.Author.Rules.{rules}
 use Rattle.mathematics.specs.Choice.{when, first_of}
 use Rattle.mathematics.proofs.ChoiceLaws.{first_kept, first_next}
 use Rattle.liberation.specs.Sets.{shape_refusal, long_refusal}

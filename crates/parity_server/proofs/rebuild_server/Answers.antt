@@ -4,7 +4,6 @@ use mathlib.Core.Path.{◌≡◌, sym, ◌∙◌}
 use mathlib.Core.Bool.{true}
 use Prim.Native.Nat.{◌+◌, ◌*◌, ◌≤◌}
 use native.Mathlib.Omega.{arith}
-use borrow.Author.Rules.{rules}
 use Rattle.mathematics.specs.Xor.{all_bytes}
 use Rattle.liberation.specs.ParityServer.Servers.{rebuild_refusal}
 use Rattle.liberation.specs.ParityServer.ServerClaims.{Given, GivenLosses}

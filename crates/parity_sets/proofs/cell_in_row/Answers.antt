@@ -6,7 +6,6 @@ use native.Mathlib.Nat.{mod-lt}
 use native.Mathlib.Omega.{arith}
 use Rattle.liberation.specs.Sets.{extra_row}
 use Rattle.liberation.proofs.SetSizes.{size_most, cell_row, cell_data, cell_parity, cell_extra, place_small}
-use borrow.Author.Rules.{rules}
 use Rattle.parity_sets.proofs.cell_in_row.Goals as goal
 
 -- the row is one of the width's

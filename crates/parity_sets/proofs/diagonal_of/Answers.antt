@@ -1,6 +1,5 @@
 -- `diagonal_of`: the width is added before the disk is taken away, and taken away again where that
 -- is too much.
-use borrow.Author.Rules.{rules}
 use native.Mathlib.Omega.{arith}
 use Rattle.parity_sets.proofs.NumberLaws.{diagonal_after, diagonal_before}
 use Rattle.parity_sets.proofs.diagonal_of.Goals as goal

@@ -2,7 +2,6 @@
 -- the width.
 use mathlib.Core.Logic.{⊎_elim}
 use native.Mathlib.Omega.{arith}
-use borrow.Author.Rules.{rules}
 use Rattle.liberation.proofs.SetLaws.{extra_cases}
 use Rattle.parity_sets.proofs.extra_disk.Goals as goal
 

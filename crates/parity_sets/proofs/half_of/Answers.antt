@@ -1,6 +1,5 @@
 -- `half_of`: an even number has its half; to an odd one the width is added first.
 use native.Mathlib.Omega.{arith}
-use borrow.Author.Rules.{rules}
 use Prim.Native.Nat.{◌/◌}
 use Rattle.parity_sets.proofs.NumberLaws.{half_even, half_odd}
 use Rattle.parity_sets.proofs.half_of.Goals as goal

@@ -1,7 +1,6 @@
 -- `set_size`: a row set and a diagonal without an extra cell have a cell of each data disk and one
 -- parity cell.
 use Rattle.liberation.proofs.SetSizes.{size_row, size_first_diagonal, size_extra, size_absent}
-use borrow.Author.Rules.{rules}
 use Rattle.parity_sets.proofs.set_size.Goals as goal
 
 pub returns-then-kind-eq-ROW_SET : goal.returns-then-kind-eq-ROW_SET

@@ -7,7 +7,6 @@ use native.Mathlib.Omega.{arith}
 use lib.ListN.{length, take}
 use lib.Seq.{length-take-le}
 use Rattle.liberation.proofs.MarkLists.{length_marks, take_marks, cells_most}
-use borrow.Author.Rules.{rules}
 use Rattle.planner.proofs.finished.Goals as goal
 
 -- the widest array has 1,023 cells

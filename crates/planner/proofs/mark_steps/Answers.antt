@@ -1,9 +1,9 @@
 -- `mark_steps`: each turn marks the set of the next step. The invariant: the marks stand for the
 -- cells read so far, and with the steps still to come they give all that the plan reads, whatever
 -- rows its steps have.
-use mathlib.Core.Path.{◌≡◌, refl, ap, ◌∙◌}
+use mathlib.Core.Path.{refl, ap, ◌∙◌}
 use mathlib.Core.List.{List, []}
-use Prim.Native.Nat.{ℕ, ◌+◌, ◌-◌, ◌*◌, ◌≤◌, ◌<◌}
+use Prim.Native.Nat.{ℕ, ◌+◌, ◌*◌, ◌≤◌, ◌<◌}
 use native.Mathlib.Nat.{mul-le-mul}
 use native.Mathlib.Omega.{arith}
 use lib.ListN.{length, get_or}
@@ -13,7 +13,6 @@ use Rattle.liberation.proofs.MarkLists.{length_marks}
 use Rattle.liberation.proofs.RecordLaws.{length_recorded, recorded_at}
 use Rattle.planner.proofs.HeldLaws.{held_passed}
 use Rattle.planner.proofs.MarkingLoop.{Reading, reading_start, reading_turn, reading_end}
-use borrow.Author.Rules.{rules}
 use Rattle.planner.proofs.mark_steps.Goals as goal
 
 small : (c : goal.In-loop-i-unread) → c.args.width ≤ 31

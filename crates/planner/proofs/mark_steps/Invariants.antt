@@ -1,19 +1,12 @@
 -- `mark_steps`: each turn marks the set of the next step. The invariant: the marks stand for the
 -- cells read so far, and with the steps still to come they give all that the plan reads, whatever
 -- rows its steps have.
-use mathlib.Core.Path.{◌≡◌, refl, ap, ◌∙◌}
-use mathlib.Core.List.{List, []}
-use Prim.Native.Nat.{ℕ, ◌+◌, ◌-◌, ◌*◌, ◌≤◌, ◌<◌}
-use native.Mathlib.Nat.{mul-le-mul}
-use native.Mathlib.Omega.{arith}
-use lib.ListN.{length, get_or}
-use Rattle.liberation.specs.Plans.{step}
+use mathlib.Core.Path.{◌≡◌}
+use mathlib.Core.List.{List}
+use Prim.Native.Nat.{ℕ, ◌-◌}
+use lib.ListN.{length}
 use Rattle.liberation.specs.Records.{recorded}
-use Rattle.liberation.proofs.MarkLists.{length_marks}
-use Rattle.liberation.proofs.RecordLaws.{length_recorded, recorded_at}
-use Rattle.planner.proofs.HeldLaws.{held_passed}
-use Rattle.planner.proofs.MarkingLoop.{Reading, reading_start, reading_turn, reading_end}
-use borrow.Author.Rules.{rules}
+use Rattle.planner.proofs.MarkingLoop.{Reading}
 use Rattle.planner.proofs.mark_steps.Given as goal
 
 abbrev pub invariant-loop-i : goal.invariant-loop-i

@@ -1,6 +1,5 @@
 -- `plan_disk`: refusals 1, 13 and 3, else our plan with its reads counted.
 use mathlib.Core.Path.{◌≡◌, sym, ◌∙◌}
-use borrow.Author.Rules.{rules}
 use Rattle.liberation.specs.Sets.{plan_refusal}
 use Rattle.liberation.proofs.RefusalLaws.{plan_of_lem}
 use Rattle.planner.proofs.PlannedLaws.{ours_held, ours_accepted}

@@ -2,8 +2,6 @@
 use mathlib.Core.Path.{◌≡◌, sym, ◌∙◌}
 use mathlib.Core.Bool.{true}
 use native.Mathlib.Omega.{arith}
-use borrow.Author.Tests.{not-true, not-false}
-use borrow.Author.Rules.{rules}
 use Rattle.liberation.proofs.RefusalLaws.{plan_of_lem}
 use Rattle.planner.proofs.PlannedLaws.{held_as, planned_is}
 use Rattle.printed_plan.specs.Input.{is_form}

@@ -1,7 +1,6 @@
 -- `put_line`: the step's index, its three fields and its number of new cells, one behind the other,
 -- are the line.
 use native.Mathlib.Omega.{arith}
-use borrow.Author.Rules.{rules}
 use Rattle.text.proofs.WriteLaws.{wrote_more, wrote_same}
 use Rattle.text.proofs.FieldLaws.{field_most, step_most}
 use Rattle.printed_plan.proofs.TextLaws.{line_fields}

@@ -6,7 +6,6 @@ use Prim.Native.Nat.{ℕ, ◌+◌, ◌*◌, ◌≤◌}
 use native.Mathlib.Omega.{arith}
 use lib.ListN.{length, take}
 use lib.Seq.{length-take-le}
-use borrow.Author.Rules.{rules}
 use Rattle.liberation.proofs.MarkLists.{length_marks, take_marks, cells_most}
 use Rattle.printed_plan.specs.Text.{plan_text}
 use Rattle.text.proofs.WriteLaws.{wrote_more, wrote_long}

@@ -1,5 +1,4 @@
 -- `put_refusal`: the word, then the number on the same line.
-use borrow.Author.Rules.{rules}
 use Rattle.text.proofs.WriteLaws.{wrote_more}
 use Rattle.printed_plan.proofs.put_refusal.Goals as goal
 

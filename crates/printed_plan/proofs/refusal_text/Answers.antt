@@ -1,5 +1,4 @@
 -- `refusal_text`: the refusal's line, written at the start of zeros.
-use borrow.Author.Rules.{rules}
 use Rattle.printed_plan.proofs.TextAnswers.{text_holds}
 use Rattle.printed_plan.proofs.refusal_text.Goals as goal
 

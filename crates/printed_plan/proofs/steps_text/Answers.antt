@@ -1,5 +1,4 @@
 -- `steps_text`: the plan's text, written at the start of zeros.
-use borrow.Author.Rules.{rules}
 use Rattle.printed_plan.proofs.TextAnswers.{text_holds}
 use Rattle.printed_plan.proofs.steps_text.Goals as goal
 

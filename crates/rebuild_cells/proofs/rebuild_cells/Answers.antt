@@ -1,7 +1,6 @@
 -- `rebuild_cells`: a refusal leaves the stripe as it was; else the missing cells are mended in it.
 use mathlib.Core.Path.{◌≡◌, sym, ◌∙◌}
 use mathlib.Core.Bool.{true}
-use borrow.Author.Rules.{rules}
 use Rattle.mathematics.specs.Xor.{all_bytes}
 use Rattle.xor.proofs.SourceLaws.{bytes_all}
 use Rattle.rebuild_cells.specs.Says.{lent_refusal}

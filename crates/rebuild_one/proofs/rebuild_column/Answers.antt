@@ -8,7 +8,6 @@ use Rattle.liberation.specs.Stripes.Stripes.{rebuilt_by, rebuilt}
 use Rattle.liberation.specs.Stripes.StripeLimits.{Sized}
 use Rattle.planner.proofs.PlannedLaws.{ours_held, ours_accepted}
 use Rattle.rebuild_one.proofs.OneRefusals.{refusal_none}
-use borrow.Author.Rules.{rules}
 use Rattle.rebuild_one.proofs.rebuild_column.Goals as goal
 
 -- no refusal

@@ -5,7 +5,6 @@ use Rattle.mathematics.specs.Xor.{all_bytes}
 use Rattle.xor.proofs.SourceLaws.{bytes_all}
 use Rattle.rebuild_one.specs.RebuildOneSays.{one_refusal}
 use Rattle.rebuild_one.proofs.OneRefusals.{refused, accepted}
-use borrow.Author.Rules.{rules}
 use Rattle.rebuild_one.proofs.rebuild_one.Goals as goal
 
 -- the lent stripe is bytes

@@ -2,7 +2,6 @@
 use mathlib.Core.Path.{refl}
 use mathlib.Core.Bool.{true, false}
 use borrow.Author.Tests.{eq-eqb, ne_eqb, le-leb, lt-leb}
-use borrow.Author.Rules.{rules}
 use Rattle.rebuild_runs.proofs.RunRefusals.{next_is}
 use Rattle.rebuild_runs.proofs.next_refusal.Goals as goal
 

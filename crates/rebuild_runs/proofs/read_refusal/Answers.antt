@@ -1,6 +1,5 @@
 -- `read_refusal`: the refusals of the record's numbers, then 10 for too many skipped.
 use mathlib.Core.Path.{◌≡◌, sym, ◌∙◌}
-use borrow.Author.Rules.{rules}
 use Rattle.mathematics.proofs.ChoiceLaws.{first_kept, first_next}
 use Rattle.rebuild_runs.specs.Runs.{run_refusal, skipped_refusal}
 use Rattle.rebuild_runs.proofs.RunRefusals.{skipped_many, skipped_few}

@@ -1,6 +1,5 @@
 -- `skip_refusal`: the refusals of a record that is read, then that of the stripe number.
 use mathlib.Core.Path.{sym, ◌∙◌}
-use borrow.Author.Rules.{rules}
 use Rattle.mathematics.proofs.ChoiceLaws.{first_kept, first_next}
 use Rattle.rebuild_runs.specs.Runs.{read_refusal, next_refusal}
 use Rattle.rebuild_runs.proofs.skip_refusal.Goals as goal

@@ -2,7 +2,6 @@
 -- stays below the stripes.
 use mathlib.Core.Path.{◌≡◌, sym, ◌∙◌}
 use native.Mathlib.Omega.{arith}
-use borrow.Author.Rules.{rules}
 use Rattle.rebuild_runs.specs.Runs.{skip_refusal}
 use Rattle.rebuild_runs.proofs.RunRefusals.{skip_passed, skip_refused, skip_done}
 use Rattle.rebuild_runs.proofs.skip_stripe.Goals as goal

@@ -6,7 +6,6 @@ use Rattle.mathematics.specs.Xor.{all_bytes}
 use Rattle.xor.proofs.SourceLaws.{bytes_all}
 use Rattle.rebuild_tested.specs.Says.{tested_refusal}
 use Rattle.rebuild_tested.proofs.TestedRefusals.{tested, refused, accepted}
-use borrow.Author.Rules.{rules}
 use Rattle.rebuild_tested.proofs.rebuild_tested.Goals as goal
 
 -- the lent stripe is bytes

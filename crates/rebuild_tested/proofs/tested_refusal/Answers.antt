@@ -2,7 +2,6 @@
 use mathlib.Core.Path.{◌≡◌, sym, ap, ◌∙◌}
 use mathlib.Core.Bool.{Bool, not}
 use lib.ListN.{length}
-use borrow.Author.Rules.{rules}
 use Rattle.mathematics.specs.Choice.{when}
 use Rattle.mathematics.proofs.ChoiceLaws.{first_kept}
 use Rattle.rebuild_one.specs.RebuildOneSays.{lengths_refusal}

@@ -1,6 +1,5 @@
 -- `array_refusal`: refusal 1, then 13.
 use mathlib.Core.Path.{sym, ◌∙◌}
-use borrow.Author.Rules.{rules}
 use Rattle.mathematics.proofs.ChoiceLaws.{first_kept, first_next}
 use Rattle.liberation.specs.Sets.{disks_refusal}
 use Rattle.refusals.proofs.array_refusal.Goals as goal

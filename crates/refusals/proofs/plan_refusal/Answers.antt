@@ -1,6 +1,5 @@
 -- `plan_refusal`: refusals 1 and 13, then 3.
 use mathlib.Core.Path.{sym, ◌∙◌}
-use borrow.Author.Rules.{rules}
 use Rattle.mathematics.proofs.ChoiceLaws.{first_kept, first_next}
 use Rattle.liberation.specs.Sets.{disk_refusal}
 use Rattle.refusals.proofs.plan_refusal.Goals as goal

@@ -1,6 +1,5 @@
 -- `shape_refusal`: refusals 1 and 13, then 2.
 use mathlib.Core.Path.{sym, ◌∙◌}
-use borrow.Author.Rules.{rules}
 use Rattle.mathematics.proofs.ChoiceLaws.{first_kept, first_next}
 use Rattle.liberation.specs.Sets.{size_refusal}
 use Rattle.refusals.proofs.shape_refusal.Goals as goal

@@ -2,7 +2,6 @@
 -- that fits.
 use mathlib.Core.Path.{◌≡◌, sym, ◌∙◌}
 use native.Mathlib.Omega.{arith}
-use borrow.Author.Rules.{rules}
 use Rattle.liberation.specs.Stripes.StripeLimits.{Sized}
 use Rattle.refusals.specs.StripeSays.{stripe_refusal}
 use Rattle.refusals.proofs.StripeRefusals.{refusal_none}

@@ -3,7 +3,6 @@
 use mathlib.Core.Path.{◌≡◌, sym, ap, ◌∙◌}
 use Prim.Native.Nat.{ℕ, ◌*◌}
 use native.Mathlib.Omega.{arith}
-use borrow.Author.Rules.{rules}
 use Rattle.space.specs.Refusals.{space_refusal}
 use Rattle.space.proofs.SpaceLaws.{Bounds, small, refusal_says, space_says}
 use Rattle.space.proofs.package_space.Goals as goal

@@ -1,11 +1,6 @@
 -- `sum_stripes`: the stripes so far and those of the files that are left make up the whole, whose
 -- stripes hold less than 2^49 bytes, so no sum wraps.
-use mathlib.Core.Path.{◌≡◌}
-use Prim.Native.Nat.{◌+◌, ◌-◌, ◌≤◌}
 use native.Mathlib.Omega.{arith}
-use lib.ListN.{length, drop}
-use Rattle.mathematics.specs.Sums.{total}
-use Rattle.space.specs.Says.{up_each}
 use Rattle.space.proofs.LeftLaws.{left_next}
 use Rattle.space.proofs.FilesLaws.{left_each, each_none, stripes_small}
 use Rattle.space.proofs.sum_stripes.Goals as goal

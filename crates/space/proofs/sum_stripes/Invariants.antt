@@ -2,12 +2,9 @@
 -- stripes hold less than 2^49 bytes, so no sum wraps.
 use mathlib.Core.Path.{◌≡◌}
 use Prim.Native.Nat.{◌+◌, ◌-◌, ◌≤◌}
-use native.Mathlib.Omega.{arith}
 use lib.ListN.{length, drop}
 use Rattle.mathematics.specs.Sums.{total}
 use Rattle.space.specs.Says.{up_each}
-use Rattle.space.proofs.LeftLaws.{left_next}
-use Rattle.space.proofs.FilesLaws.{left_each, each_none, stripes_small}
 use Rattle.space.proofs.sum_stripes.Given as goal
 
 -- the files before this one take so many stripes, and those left are no longer than all

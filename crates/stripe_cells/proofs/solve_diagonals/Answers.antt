@@ -1,13 +1,10 @@
 -- `solve_diagonals`: each turn does the next step. The invariant: the steps still to come, done to
 -- the stripe as it is, give what all steps give to the stripe as it was.
-use mathlib.Core.Path.{◌≡◌, refl, sym, ◌∙◌}
-use Prim.Native.Nat.{◌+◌, ◌-◌, ◌≤◌}
+use mathlib.Core.Path.{refl, sym, ◌∙◌}
+use Prim.Native.Nat.{◌+◌}
 use native.Mathlib.Omega.{arith}
-use lib.ListN.{length}
 use borrow.Author.Rules.{rules}
-use Rattle.liberation.specs.Plans.{all_of}
-use Rattle.liberation.specs.Stripes.Stripes.{followed}
-use Rattle.stripe_cells.proofs.LoopLaws.{rest, rest_first, rest_turn, rest_last}
+use Rattle.stripe_cells.proofs.LoopLaws.{rest_first, rest_turn, rest_last}
 use Rattle.stripe_cells.proofs.OrdinaryLaws.{parity_own}
 use Rattle.stripe_cells.proofs.solve_diagonals.Goals as goal
 

@@ -1,7 +1,6 @@
 -- `byte_at`: past its end a list has the default, 0.
 use mathlib.Core.Path.{sym}
 use lib.ListN.{get_or-eq_default}
-use borrow.Author.Rules.{rules}
 use Rattle.text.proofs.byte_at.Goals as goal
 
 pub returns-else-at-text : goal.returns-else-at-text

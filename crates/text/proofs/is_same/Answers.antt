@@ -1,10 +1,6 @@
 -- `is_same`: byte by byte. The invariant: what is left of the texts is the same exactly if they are.
-use mathlib.Core.Path.{◌≡◌, refl}
-use Prim.Native.Nat.{◌-◌, ◌≤◌}
+use mathlib.Core.Path.{refl}
 use native.Mathlib.Omega.{arith}
-use lib.ListN.{drop}
-use Rattle.mathematics.specs.Lists.{same}
-use borrow.Author.Rules.{rules}
 use Rattle.text.proofs.SameLaws.{same_long, same_other, same_turn, same_end}
 use Rattle.text.proofs.is_same.Goals as goal
 

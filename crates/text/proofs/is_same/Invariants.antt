@@ -1,11 +1,8 @@
 -- `is_same`: byte by byte. The invariant: what is left of the texts is the same exactly if they are.
-use mathlib.Core.Path.{◌≡◌, refl}
+use mathlib.Core.Path.{◌≡◌}
 use Prim.Native.Nat.{◌-◌, ◌≤◌}
-use native.Mathlib.Omega.{arith}
 use lib.ListN.{drop}
 use Rattle.mathematics.specs.Lists.{same}
-use borrow.Author.Rules.{rules}
-use Rattle.text.proofs.SameLaws.{same_long, same_other, same_turn, same_end}
 use Rattle.text.proofs.is_same.Given as goal
 
 abbrev pub invariant-loop-i : goal.invariant-loop-i

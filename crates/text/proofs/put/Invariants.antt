@@ -1,12 +1,9 @@
 -- `put`: a copy byte by byte. The invariant: the first i bytes of the text are there, and all else
 -- is as it was.
-use mathlib.Core.Path.{◌≡◌, ap, ◌∙◌}
-use Prim.Native.Nat.{ℕ, ◌-◌, ◌≤◌}
-use native.Mathlib.Omega.{arith}
+use mathlib.Core.Path.{◌≡◌}
+use Prim.Native.Nat.{◌-◌, ◌≤◌}
 use lib.ListN.{length}
-use lib.Seq.{paste, paste-zero, length-paste}
-use borrow.Author.Rules.{rules}
-use Rattle.text.proofs.WriteLaws.{copied_more, copied_all}
+use lib.Seq.{paste}
 use Rattle.text.proofs.put.Given as goal
 
 abbrev pub invariant-loop-i : goal.invariant-loop-i

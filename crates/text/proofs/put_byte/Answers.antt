@@ -1,5 +1,4 @@
 -- `put_byte`: one byte stored is the piece of that byte.
-use borrow.Author.Rules.{rules}
 use Rattle.text.proofs.WriteLaws.{wrote_byte}
 use Rattle.text.proofs.put_byte.Goals as goal
 

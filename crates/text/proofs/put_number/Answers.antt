@@ -1,5 +1,4 @@
 -- `put_number`: one digit below 10, else two, one behind the other.
-use borrow.Author.Rules.{rules}
 use Rattle.text.proofs.WriteLaws.{wrote_same, wrote_more}
 use Rattle.text.proofs.DigitLaws.{one_digit, two_digits}
 use Rattle.text.proofs.put_number.Goals as goal

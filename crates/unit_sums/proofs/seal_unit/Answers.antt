@@ -1,9 +1,8 @@
 -- `seal_unit`: a refusal leaves the block unchanged; else it becomes that of the unit.
 use mathlib.Core.Path.{◌≡◌, sym, ◌∙◌}
-use Prim.Native.Nat.{◌*◌, ◌<◌}
+use Prim.Native.Nat.{◌*◌}
 use native.Mathlib.Omega.{arith}
 use lib.ListN.{length}
-use borrow.Author.Rules.{rules}
 use Rattle.unit_sums.specs.UnitLimits.{InUnit}
 use Rattle.unit_sums.specs.Refusals.{unit_refusal}
 use Rattle.unit_sums.proofs.UnitRefusals.{unit_of_lem}

@@ -1,14 +1,14 @@
 -- `add_all`: four sources a turn, then one a turn.
 use mathlib.Core.Path.{◌≡◌, refl, ap, ◌∙◌}
 use mathlib.Core.List.{List}
-use Prim.Native.Nat.{ℕ, ◌+◌, ◌-◌, ◌≤◌, ◌<◌}
+use Prim.Native.Nat.{ℕ, ◌+◌, ◌≤◌, ◌<◌}
 use native.Mathlib.Omega.{arith}
 use lib.ListN.{length, get_or}
 use lib.Seq.{slice, take_all}
 use Rattle.mathematics.specs.Xor.{xor_l}
 use Rattle.xor.specs.Parts.{xor_offsets}
 use Rattle.xor.specs.Reach.{Reached}
-use Rattle.xor.proofs.SourceLaws.{Passed, bytes_all, four_of, one_passed, four_passed, passed_all}
+use Rattle.xor.proofs.SourceLaws.{bytes_all, four_of, one_passed, four_passed, passed_all}
 use Rattle.xor.proofs.add_all.Goals as goal
 
 -- the parts are within reach of a destination of the same length

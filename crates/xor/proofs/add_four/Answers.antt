@@ -1,10 +1,9 @@
 -- `add_four`: each turn stores the next byte of the XOR of the destination and the four parts.
 use mathlib.Core.Path.{refl}
-use Prim.Native.Nat.{◌+◌, ◌-◌, ◌<◌}
+use Prim.Native.Nat.{◌+◌, ◌<◌}
 use native.Mathlib.Omega.{arith}
 use lib.ListN.{length}
-use Rattle.xor.specs.Parts.{add_four}
-use Rattle.xor.proofs.StoreLaws.{Stored, stored_none, stored_more, stored_whole, part_long, xor_long, of_whole, of_part, of_xor}
+use Rattle.xor.proofs.StoreLaws.{stored_none, stored_more, stored_whole, part_long, xor_long, of_whole, of_part, of_xor}
 use Rattle.xor.proofs.add_four.Goals as goal
 
 pub loop-i-init : goal.loop-i-init

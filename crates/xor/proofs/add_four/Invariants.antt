@@ -1,10 +1,8 @@
 -- `add_four`: each turn stores the next byte of the XOR of the destination and the four parts.
-use mathlib.Core.Path.{refl}
-use Prim.Native.Nat.{◌+◌, ◌-◌, ◌<◌}
-use native.Mathlib.Omega.{arith}
+use Prim.Native.Nat.{◌-◌}
 use lib.ListN.{length}
 use Rattle.xor.specs.Parts.{add_four}
-use Rattle.xor.proofs.StoreLaws.{Stored, stored_none, stored_more, stored_whole, part_long, xor_long, of_whole, of_part, of_xor}
+use Rattle.xor.proofs.StoreLaws.{Stored}
 use Rattle.xor.proofs.add_four.Given as goal
 
 -- after i turns the destination holds the first i bytes of the XOR

@@ -1,11 +1,9 @@
 -- `add_one`: each turn stores the next byte of the XOR of the destination and the part.
-use mathlib.Core.Path.{refl}
-use Prim.Native.Nat.{◌+◌, ◌-◌, ◌<◌}
-use native.Mathlib.Omega.{arith}
+use Prim.Native.Nat.{◌-◌}
 use lib.ListN.{length}
 use Rattle.mathematics.specs.Xor.{xor_l}
 use Rattle.xor.specs.Parts.{part}
-use Rattle.xor.proofs.StoreLaws.{Stored, stored_none, stored_more, stored_whole, part_long, xor_long, of_whole, of_part, of_xor}
+use Rattle.xor.proofs.StoreLaws.{Stored}
 use Rattle.xor.proofs.add_one.Given as goal
 
 abbrev pub invariant-loop-i : goal.invariant-loop-i

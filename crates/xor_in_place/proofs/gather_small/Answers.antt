@@ -1,10 +1,9 @@
 -- `gather_small`: block after block of 64 bytes, then the rest, if there is one. The invariant: the
 -- first b bytes from d on are new.
-use mathlib.Core.Path.{◌≡◌, refl}
-use Prim.Native.Nat.{◌+◌, ◌-◌, ◌≤◌}
+use mathlib.Core.Path.{refl}
+use Prim.Native.Nat.{◌+◌, ◌-◌}
 use native.Mathlib.Omega.{arith}
-use lib.ListN.{length, take}
-use Rattle.xor.specs.Parts.{with_part, xor_offsets}
+use lib.ListN.{length}
 use Rattle.xor_in_place.proofs.WithinLaws.{within_none, within_next, within_all, reach_less}
 use Rattle.xor_in_place.proofs.gather_small.Goals as goal
 

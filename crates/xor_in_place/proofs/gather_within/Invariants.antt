@@ -1,12 +1,9 @@
 -- `gather_within`: block after block of 128 bytes, then what is left. The invariant: the first b
 -- bytes from d on are new.
-use mathlib.Core.Path.{◌≡◌, refl}
-use mathlib.Core.List.{◌++◌}
-use Prim.Native.Nat.{◌+◌, ◌-◌, ◌≤◌}
-use native.Mathlib.Omega.{arith}
-use lib.ListN.{length, take, drop}
+use mathlib.Core.Path.{◌≡◌}
+use Prim.Native.Nat.{◌-◌, ◌≤◌}
+use lib.ListN.{length, take}
 use Rattle.xor.specs.Parts.{with_part, xor_offsets}
-use Rattle.xor_in_place.proofs.WithinLaws.{within_none, within_next, within_all, reach_less, beside_tail, put_tail}
 use Rattle.xor_in_place.proofs.gather_within.Given as goal
 
 abbrev pub invariant-loop-b : goal.invariant-loop-b

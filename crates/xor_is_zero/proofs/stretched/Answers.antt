@@ -1,7 +1,6 @@
 -- `stretched`: the lowest eleven bits are the remainder by 2,048.
 use native.Mathlib.Omega.{arith}
 use lib.Bits.{and_mask}
-use borrow.Author.Rules.{rules}
 use Rattle.xor_is_zero.proofs.stretched.Goals as goal
 
 pub overflow_sub-result : goal.overflow_sub-result

@@ -1,17 +1,11 @@
 -- `stretches_are_zero`: stretch after stretch, in one buffer. The invariant: whole stretches are
 -- done, and the answer is that of what is left; what the buffer holds plays no part.
-use mathlib.Core.Path.{◌≡◌, refl, sym, ap, ◌∙◌}
-use mathlib.Core.Bool.{Bool, true, false, ◌&&◌}
-use mathlib.Core.List.{List}
-use Prim.Native.Nat.{ℕ, ◌+◌, ◌-◌, ◌%◌, ◌≤◌}
-use native.Mathlib.Omega.{arith}
-use lib.ListN.{length, replicate, length-replicate}
-use borrow.Author.Rules.{rules}
-use borrow.Author.Tests.{not-true, not-false}
+use mathlib.Core.Path.{◌≡◌}
+use Prim.Native.Nat.{◌-◌, ◌%◌, ◌≤◌}
+use lib.ListN.{length, replicate}
 use Rattle.mathematics.specs.Lists.{same}
 use Rattle.xor.specs.Parts.{xor_offsets}
-use Rattle.xor.proofs.BlockLaws.{tail_is, tail_long, reach_tail}
-use Rattle.xor.proofs.ZeroLaws.{zero_from, zero_all, zero_next, zero_none}
+use Rattle.xor.proofs.ZeroLaws.{zero_from}
 use Rattle.xor_is_zero.proofs.stretches_are_zero.Given as goal
 
 abbrev pub invariant-loop-b : goal.invariant-loop-b

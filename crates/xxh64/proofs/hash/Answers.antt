@@ -1,5 +1,4 @@
 -- `hash`: step by step as in the definition.
-use borrow.Author.Rules.{rules}
 use Rattle.xxh64.specs.Checksum.{xxh64}
 use Rattle.xxh64.proofs.hash.Goals as goal
 

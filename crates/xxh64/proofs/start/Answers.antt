@@ -3,7 +3,6 @@ use mathlib.Core.Path.{◌∙◌, sym}
 use Prim.Native.Nat.{◌/◌}
 use native.Mathlib.Omega.{arith}
 use lib.ListN.{length}
-use borrow.Author.Rules.{rules}
 use Rattle.xxh64.proofs.LoopLaws.{start_none, start_more}
 use Rattle.xxh64.proofs.start.Goals as goal
 

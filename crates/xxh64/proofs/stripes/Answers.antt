@@ -1,10 +1,6 @@
 -- `stripes`: the stripes that are left give what all of them give.
-use mathlib.Core.Path.{◌≡◌, refl}
-use Prim.Native.Nat.{◌+◌, ◌*◌, ◌≤◌}
+use mathlib.Core.Path.{refl}
 use native.Mathlib.Omega.{arith}
-use lib.ListN.{length}
-use borrow.Author.Rules.{rules}
-use Rattle.xxh64.specs.Checksum.{stripes}
 use Rattle.xxh64.proofs.LoopLaws.{stripes_none, stripes_more}
 use Rattle.xxh64.proofs.stripes.Goals as goal
 

@@ -1,11 +1,8 @@
 -- `stripes`: the stripes that are left give what all of them give.
-use mathlib.Core.Path.{◌≡◌, refl}
+use mathlib.Core.Path.{◌≡◌}
 use Prim.Native.Nat.{◌+◌, ◌*◌, ◌≤◌}
-use native.Mathlib.Omega.{arith}
 use lib.ListN.{length}
-use borrow.Author.Rules.{rules}
 use Rattle.xxh64.specs.Checksum.{stripes}
-use Rattle.xxh64.proofs.LoopLaws.{stripes_none, stripes_more}
 use Rattle.xxh64.proofs.stripes.Given as goal
 
 abbrev pub invariant-loop-left : goal.invariant-loop-left

@@ -1,10 +1,7 @@
 -- `with_eights`: what is left gives what the whole gives.
-use mathlib.Core.Path.{◌≡◌, refl}
-use Prim.Native.Nat.{◌+◌, ◌*◌, ◌≤◌}
+use mathlib.Core.Path.{refl}
 use native.Mathlib.Omega.{arith}
-use lib.ListN.{length}
-use borrow.Author.Rules.{rules}
-use Rattle.xxh64.specs.Checksum.{words, eight}
+use Rattle.xxh64.specs.Checksum.{eight}
 use Rattle.xxh64.proofs.LoopLaws.{words_none, words_more}
 use Rattle.xxh64.proofs.with_eights.Goals as goal
 

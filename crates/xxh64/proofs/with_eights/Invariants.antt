@@ -1,11 +1,8 @@
 -- `with_eights`: what is left gives what the whole gives.
-use mathlib.Core.Path.{◌≡◌, refl}
+use mathlib.Core.Path.{◌≡◌}
 use Prim.Native.Nat.{◌+◌, ◌*◌, ◌≤◌}
-use native.Mathlib.Omega.{arith}
 use lib.ListN.{length}
-use borrow.Author.Rules.{rules}
 use Rattle.xxh64.specs.Checksum.{words, eight}
-use Rattle.xxh64.proofs.LoopLaws.{words_none, words_more}
 use Rattle.xxh64.proofs.with_eights.Given as goal
 
 abbrev pub invariant-loop-left : goal.invariant-loop-left

@@ -1,5 +1,4 @@
 -- `with_rest`: step by step as in the definition.
-use borrow.Author.Rules.{rules}
 use Rattle.xxh64.specs.Checksum.{rest}
 use Rattle.xxh64.proofs.with_rest.Goals as goal
 

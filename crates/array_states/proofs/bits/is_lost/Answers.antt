@@ -1,10 +1,8 @@
 -- `is_lost`: the lowest bit of what is left after the shift is its remainder by 2.
 use mathlib.Core.Path.{ap}
-use mathlib.Core.Bool.{Bool}
 use Prim.Native.Nat.{ℕ, ◌/◌, ◌^◌}
 use lib.Bits.{and_mask}
 use lib.Dec.{eqb}
-use borrow.Author.Rules.{rules}
 use Rattle.array_states.proofs.bits.is_lost.Goals as goal
 
 pub returns : goal.returns

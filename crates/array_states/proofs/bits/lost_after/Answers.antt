@@ -1,5 +1,4 @@
 -- `lost_after`: the bit alone, put to the word or taken from it.
-use borrow.Author.Rules.{rules}
 use Rattle.array_states.proofs.bits.lost_after.Goals as goal
 
 pub returns-then-back : goal.returns-then-back

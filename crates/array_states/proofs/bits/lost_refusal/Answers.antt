@@ -1,6 +1,5 @@
 -- `lost_refusal`: a word has a bit past Q exactly if it is at least the bit after Q.
 use Rattle.array_states.proofs.LostLaws.{lost_refused, lost_accepted}
-use borrow.Author.Rules.{rules}
 use Rattle.array_states.proofs.bits.lost_refusal.Goals as goal
 
 pub returns-then-past-lost : goal.returns-then-past-lost

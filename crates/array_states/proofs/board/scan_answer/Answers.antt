@@ -6,7 +6,6 @@ use Rattle.refusals.proofs.AnswerLaws.{answers_as, answer_is}
 use Rattle.array_states.specs.declared.totals.Totals.{Totals}
 use Rattle.array_states.specs.Scanning.{no_totals}
 use Rattle.array_states.specs.Reports.{scan_refusal, scan_answer}
-use borrow.Author.Rules.{rules}
 use Rattle.array_states.proofs.board.scan_answer.Goals as goal
 
 pub returns-then-refusal-ne0 : goal.returns-then-refusal-ne0

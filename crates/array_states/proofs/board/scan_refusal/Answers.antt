@@ -1,7 +1,6 @@
 -- `scan_refusal`: 20 where no record is named, else what the scan has found.
 use mathlib.Core.Path.{sym, ap, ◌∙◌}
 use mathlib.Core.Bool.{Bool}
-use borrow.Author.Rules.{rules}
 use borrow.Author.Tests.{le-leb, lt-leb}
 use Rattle.mathematics.specs.Choice.{when, first_of}
 use Rattle.array_states.specs.Reports.{scan_refusal}

@@ -1,6 +1,5 @@
 -- `first_refusal`: the first, unless it is 0.
 use mathlib.Core.Path.{refl}
-use borrow.Author.Rules.{rules}
 use Rattle.mathematics.proofs.ChoiceLaws.{first_kept}
 use Rattle.array_states.proofs.scan.first_refusal.Goals as goal
 

@@ -1,7 +1,6 @@
 -- `scan_record`: the named record is counted and kept as the report leaves it, any other counted as
 -- it is.
 use mathlib.Core.Path.{◌≡◌, ap, ◌∙◌}
-use borrow.Author.Rules.{rules}
 use Rattle.mathematics.specs.Choice.{first_of}
 use Rattle.array_states.specs.States.{state_refusal}
 use Rattle.array_states.proofs.RecordLaws.{scan_own, scan_other}

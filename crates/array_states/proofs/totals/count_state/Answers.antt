@@ -1,7 +1,6 @@
 -- `count_state`: the number of lost disks is the number of ones of the word, and one total is one
 -- more.
 use lib.Count.{ones}
-use borrow.Author.Rules.{rules}
 use Rattle.array_states.proofs.CountLaws.{count_none, count_one, count_two, count_more}
 use Rattle.array_states.proofs.totals.count_state.Goals as goal
 

@@ -2,7 +2,6 @@
 use mathlib.Core.Path.{ap}
 use Rattle.array_states.specs.declared.totals.Totals.{Totals}
 use Rattle.array_states.specs.Scanning.{no_array}
-use borrow.Author.Rules.{rules}
 use Rattle.array_states.proofs.totals.scan_start.Goals as goal
 
 pub returns : goal.returns

@@ -5,7 +5,6 @@ use mathlib.Core.Bool.{Bool}
 use Prim.Native.Nat.{◌+◌, ◌/◌, ◌%◌}
 use native.Mathlib.Omega.{arith}
 use borrow.Author.Tests.{eq-eqb, ne_eqb}
-use borrow.Author.Rules.{rules}
 use Rattle.mathematics.specs.Choice.{pick}
 use Rattle.billing.specs.Cents.{gib, even_of, nearest}
 use Rattle.billing.proofs.CentsLaws.{rounded_up, rounded_down, rounded_half}

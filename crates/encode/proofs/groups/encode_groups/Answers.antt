@@ -3,14 +3,12 @@
 -- set is clean.
 use mathlib.Core.Path.{◌≡◌, refl, ◌∙◌}
 use mathlib.Core.Bool.{true}
-use Prim.Native.Nat.{◌-◌, ◌≤◌}
 use native.Mathlib.Omega.{arith}
-use lib.ListN.{length}
 use borrow.Author.Rules.{rules}
 use Rattle.mathematics.specs.Xor.{all_bytes}
 use Rattle.xor.proofs.SourceLaws.{bytes_all}
 use Rattle.liberation.proofs.Stripes.SizedLaws.{sized_kept, sized_long}
-use Rattle.encode.proofs.GroupLoops.{Summed, summed_none, summed_turn, summed_all_lem}
+use Rattle.encode.proofs.GroupLoops.{summed_none, summed_turn, summed_all_lem}
 use Rattle.encode.proofs.groups.encode_groups.Goals as goal
 
 -- the lent stripe is bytes

@@ -1,16 +1,12 @@
 -- `encode_groups`: each turn adds the next group to all parity cells. The invariant: they hold the
 -- sums over the data disks below lo, and data cells are as they were. After the last group every
 -- set is clean.
-use mathlib.Core.Path.{◌≡◌, refl, ◌∙◌}
+use mathlib.Core.Path.{◌≡◌}
 use mathlib.Core.Bool.{true}
 use Prim.Native.Nat.{◌-◌, ◌≤◌}
-use native.Mathlib.Omega.{arith}
 use lib.ListN.{length}
-use borrow.Author.Rules.{rules}
 use Rattle.mathematics.specs.Xor.{all_bytes}
-use Rattle.xor.proofs.SourceLaws.{bytes_all}
-use Rattle.liberation.proofs.Stripes.SizedLaws.{sized_kept, sized_long}
-use Rattle.encode.proofs.GroupLoops.{Summed, summed_none, summed_turn, summed_all_lem}
+use Rattle.encode.proofs.GroupLoops.{Summed}
 use Rattle.encode.proofs.groups.encode_groups.Given as goal
 
 abbrev pub invariant-loop-lo : goal.invariant-loop-lo

@@ -4,7 +4,6 @@ use mathlib.Core.List.{[], ◌∷◌}
 use Prim.Native.Nat.{ℕ, ◌+◌, ◌-◌, ◌*◌, ◌≤◌}
 use native.Mathlib.Nat.{mul-le-mul}
 use native.Mathlib.Omega.{arith}
-use borrow.Author.Rules.{rules}
 use Rattle.liberation.specs.Limits.{largest_cell}
 use Rattle.liberation.specs.Sets.{place, extra_row}
 use Rattle.stripe_cells.proofs.OrdinaryLists.{none_pushed, one_pushed}

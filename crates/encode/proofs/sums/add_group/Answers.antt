@@ -2,7 +2,6 @@
 -- with the diagonals that are left, so every set is added once.
 use Prim.Native.Nat.{◌-◌, ◌<◌}
 use native.Mathlib.Omega.{arith}
-use borrow.Author.Rules.{rules}
 use Rattle.liberation.proofs.Widths.{width_least}
 use Rattle.parity_sets.proofs.NumberLaws.{next_below}
 use Rattle.encode.proofs.SetLoops.{still_group, sets_both}

@@ -1,11 +1,8 @@
 -- `add_sets`: each turn adds the next row set and the next diagonal set. The invariant: of each
 -- kind, as many sets as turns have the group added.
-use mathlib.Core.Path.{◌≡◌, refl, ◌∙◌}
-use Prim.Native.Nat.{◌+◌, ◌-◌, ◌≤◌, ◌<◌}
+use mathlib.Core.Path.{refl, ◌∙◌}
+use Prim.Native.Nat.{◌+◌, ◌<◌}
 use native.Mathlib.Omega.{arith}
-use lib.ListN.{length}
-use borrow.Author.Rules.{rules}
-use Rattle.encode.specs.Added.{SetsAdded}
 use Rattle.liberation.proofs.Stripes.SizedLaws.{sized_long}
 use Rattle.encode.proofs.SetLoops.{still_group, sets_none, sets_turn, sets_end}
 use Rattle.encode.proofs.sums.add_sets.Goals as goal

@@ -1,10 +1,9 @@
 -- `steps_in`: each turn copies the three bytes of a step to their places.
 use mathlib.Core.Path.{◌≡◌, refl, ap}
-use Prim.Native.Nat.{ℕ, ◌+◌, ◌-◌, ◌*◌, ◌≤◌, ◌<◌}
+use Prim.Native.Nat.{ℕ, ◌+◌, ◌*◌, ◌<◌}
 use native.Mathlib.Omega.{arith}
 use lib.ListN.{get_or, length-replicate}
-use borrow.Author.Rules.{rules}
-use Rattle.host_plans.proofs.FillLaws.{Has, has_none, has_next, all_steps}
+use Rattle.host_plans.proofs.FillLaws.{has_none, has_next, all_steps}
 use Rattle.host_plans.proofs.bytes.steps_in.Goals as goal
 
 pub loop-i-init : goal.loop-i-init

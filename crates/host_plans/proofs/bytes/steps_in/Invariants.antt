@@ -1,10 +1,6 @@
 -- `steps_in`: each turn copies the three bytes of a step to their places.
-use mathlib.Core.Path.{◌≡◌, refl, ap}
-use Prim.Native.Nat.{ℕ, ◌+◌, ◌-◌, ◌*◌, ◌≤◌, ◌<◌}
-use native.Mathlib.Omega.{arith}
-use lib.ListN.{get_or, length-replicate}
-use borrow.Author.Rules.{rules}
-use Rattle.host_plans.proofs.FillLaws.{Has, has_none, has_next, all_steps}
+use Prim.Native.Nat.{◌-◌, ◌≤◌}
+use Rattle.host_plans.proofs.FillLaws.{Has}
 use Rattle.host_plans.proofs.bytes.steps_in.Given as goal
 
 abbrev pub invariant-loop-i : goal.invariant-loop-i

@@ -1,7 +1,6 @@
 -- `plan_list`: refusals 1, 13, 3 and 5, then the judge's, leave the list as it was; else it is
 -- written.
 use mathlib.Core.Path.{◌≡◌, sym, ◌∙◌}
-use borrow.Author.Rules.{rules}
 use Rattle.judge.proofs.FormRefusals.{after_refused, after_step, after_done}
 use Rattle.judge.proofs.AcceptLaws.{zero_accepts}
 use Rattle.host_plans.specs.PlanListSays.{lists_refusal}

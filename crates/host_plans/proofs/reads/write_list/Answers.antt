@@ -2,7 +2,6 @@
 use mathlib.Core.Path.{ap, ◌∙◌}
 use Prim.Native.Nat.{ℕ}
 use lib.ListN.{replicate}
-use borrow.Author.Rules.{rules}
 use Rattle.liberation.specs.Plans.{list_of}
 use Rattle.liberation.specs.Judging.{accepted}
 use Rattle.liberation.proofs.MarkLists.{no_cells}

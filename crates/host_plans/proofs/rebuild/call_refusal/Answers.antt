@@ -1,7 +1,6 @@
 -- `call_refusal`: refusals 1, 13, 2 and 3, then 5 for the plan, the stripe and the column.
 use mathlib.Core.Path.{◌≡◌, sym, ◌∙◌}
 use native.Mathlib.Omega.{arith}
-use borrow.Author.Rules.{rules}
 use Rattle.mathematics.proofs.ChoiceLaws.{first_kept, first_next}
 use Rattle.liberation.specs.Sets.{numbers_refusal}
 use Rattle.liberation.proofs.RefusalLaws.{numbers_of_lem}

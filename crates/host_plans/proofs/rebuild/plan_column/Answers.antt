@@ -1,7 +1,6 @@
 -- `plan_column`: the steps that the bytes name are followed.
 use mathlib.Core.Path.{ap, ◌∙◌}
 use mathlib.Core.List.{List}
-use borrow.Author.Rules.{rules}
 use Rattle.liberation.specs.Plans.{Step}
 use Rattle.liberation.specs.Judging.{accepted}
 use Rattle.liberation.specs.Stripes.Stripes.{rebuilt_by}

@@ -9,7 +9,6 @@ use Rattle.mathematics.proofs.ChoiceLaws.{first_kept}
 use Rattle.image_layout.specs.Layouts.{units_of}
 use Rattle.image_layout.specs.Limits.{layout_refusal}
 use Rattle.image_layout.proofs.LimitLaws.{accepted, place_accepted, place_refused}
-use borrow.Author.Rules.{rules}
 use native.Mathlib.Omega.{arith}
 use Rattle.image_layout.proofs.limits.block_refusal.Goals as goal
 

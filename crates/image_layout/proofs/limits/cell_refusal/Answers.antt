@@ -8,7 +8,6 @@ use Rattle.mathematics.proofs.ChoiceLaws.{first_kept}
 use Rattle.image_layout.specs.Layouts.{stripes_of}
 use Rattle.image_layout.specs.Limits.{layout_refusal}
 use Rattle.image_layout.proofs.LimitLaws.{accepted, place_accepted, place_refused, row_over, stripe_over, cell_there}
-use borrow.Author.Rules.{rules}
 use native.Mathlib.Omega.{arith}
 use Rattle.image_layout.proofs.limits.cell_refusal.Goals as goal
 

@@ -7,7 +7,6 @@ use Rattle.mathematics.specs.Choice.{when}
 use Rattle.mathematics.proofs.ChoiceLaws.{first_kept}
 use Rattle.image_layout.specs.Limits.{layout_refusal}
 use Rattle.image_layout.proofs.LimitLaws.{place_accepted, place_refused}
-use borrow.Author.Rules.{rules}
 use Rattle.image_layout.proofs.limits.film_refusal.Goals as goal
 
 -- past the refusals of the layout

@@ -4,7 +4,6 @@ use mathlib.Core.Logic.{inl, inr, ⊎_elim}
 use Prim.Native.Nat.{◌*◌, ◌<◌}
 use native.Mathlib.Nat.{le-div_iff_mul-le, div-lt_iff_lt-mul}
 use Rattle.image_layout.proofs.LimitLaws.{group_accepted, group_refused}
-use borrow.Author.Rules.{rules}
 use native.Mathlib.Omega.{arith}
 use Rattle.image_layout.proofs.limits.group_refusal.Goals as goal
 

@@ -8,7 +8,6 @@ use Rattle.liberation.proofs.RefusalLaws.{shape_of}
 use Rattle.space.specs.Refusals.{package_refusal}
 use Rattle.image_layout.specs.Limits.{group_refusal}
 use Rattle.image_layout.proofs.LimitLaws.{length_refused, length_accepted}
-use borrow.Author.Rules.{rules}
 use Rattle.image_layout.proofs.limits.refusal.Goals as goal
 
 -- past refusals 1, 13 and 2

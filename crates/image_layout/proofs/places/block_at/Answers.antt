@@ -6,7 +6,6 @@ use Rattle.image_layout.specs.Layouts.{block_bytes, cell_bytes, group_start, gro
 use Rattle.image_layout.proofs.GroupLaws.{stripes_few}
 use Rattle.image_layout.proofs.BlockPlaces.{UnitIn, unit_in}
 use Rattle.image_layout.proofs.PlaceSums.{block_sum, first_small, number_small}
-use borrow.Author.Rules.{rules}
 use native.Mathlib.Omega.{arith}
 use Rattle.image_layout.proofs.places.block_at.Goals as goal
 

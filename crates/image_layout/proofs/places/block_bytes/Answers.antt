@@ -2,7 +2,6 @@
 use mathlib.Core.Path.{refl}
 use Rattle.image_layout.specs.Layouts.{block_bytes}
 use Rattle.image_layout.proofs.SmallLaws.{block_small}
-use borrow.Author.Rules.{rules}
 use native.Mathlib.Omega.{arith}
 use Rattle.image_layout.proofs.places.block_bytes.Goals as goal
 

@@ -5,7 +5,6 @@ use Prim.Native.Nat.{ℕ, ◌+◌, ◌-◌, ◌*◌, ◌/◌, ◌^◌, ◌≤◌
 use native.Mathlib.Nat.{div-mul-le_self}
 use Rattle.image_layout.specs.Layouts.{stripes_of, group_start, group_stripes, cell_in, cell_at}
 use Rattle.image_layout.proofs.PlaceSums.{cell_sum, cell_number}
-use borrow.Author.Rules.{rules}
 use native.Mathlib.Omega.{arith}
 use Rattle.image_layout.proofs.places.cell_at.Goals as goal
 

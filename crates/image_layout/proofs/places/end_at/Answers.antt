@@ -4,7 +4,6 @@ use Prim.Native.Nat.{ℕ, ◌+◌, ◌*◌, ◌/◌, ◌%◌, ◌≤◌}
 use native.Mathlib.Nat.{div-mul-le_self, mod-lt}
 use Rattle.image_layout.specs.Layouts.{stripes_of, group_bytes, group_start, end_at}
 use Rattle.image_layout.proofs.SmallLaws.{start_small, group_small}
-use borrow.Author.Rules.{rules}
 use native.Mathlib.Omega.{arith}
 use Rattle.image_layout.proofs.places.end_at.Goals as goal
 

@@ -1,6 +1,5 @@
 -- `film_bytes`: k·p·s is small.
 use Rattle.image_layout.proofs.SmallLaws.{disk_small, film_small}
-use borrow.Author.Rules.{rules}
 use native.Mathlib.Omega.{arith}
 use Rattle.image_layout.proofs.places.film_bytes.Goals as goal
 

@@ -4,7 +4,6 @@ use Prim.Native.Nat.{ℕ, ◌+◌, ◌*◌, ◌^◌, ◌<◌}
 use Rattle.space.specs.Says.{up_by}
 use Rattle.image_layout.specs.Layouts.{block_bytes, cell_bytes, rounded, group_bytes}
 use Rattle.image_layout.proofs.SmallLaws.{unit_small, cell_bytes_small, blocks_small}
-use borrow.Author.Rules.{rules}
 use native.Mathlib.Omega.{arith}
 use Rattle.image_layout.proofs.places.group_bytes.Goals as goal
 

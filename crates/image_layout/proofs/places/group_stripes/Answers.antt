@@ -1,6 +1,5 @@
 -- `group_stripes`: what is left of the stripes, at most a whole group.
 use Rattle.image_layout.specs.Layouts.{group_stripes}
-use borrow.Author.Rules.{rules}
 use native.Mathlib.Omega.{arith}
 use Rattle.image_layout.proofs.places.group_stripes.Goals as goal
 

@@ -4,7 +4,6 @@ use mathlib.Core.Path.{ap, ◌∙◌}
 use Rattle.space.specs.Says.{up_by}
 use Rattle.image_layout.specs.Layouts.{stripes_of}
 use Rattle.image_layout.proofs.SmallLaws.{film_pos, film_small}
-use borrow.Author.Rules.{rules}
 use native.Mathlib.Omega.{arith}
 use Rattle.image_layout.proofs.places.stripes.Goals as goal
 

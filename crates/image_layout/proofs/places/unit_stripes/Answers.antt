@@ -3,7 +3,6 @@ use Prim.Native.Nat.{◌*◌, ◌<◌}
 use Rattle.image_layout.specs.Layouts.{stripes_of, unit_stripes}
 use Rattle.image_layout.proofs.BlockPlaces.{unit_first_lem}
 use Rattle.image_layout.proofs.SmallLaws.{stripes_small}
-use borrow.Author.Rules.{rules}
 use native.Mathlib.Omega.{arith}
 use Rattle.image_layout.proofs.places.unit_stripes.Goals as goal
 

@@ -5,7 +5,6 @@ use Prim.Native.Nat.{ℕ}
 use Rattle.space.specs.Says.{up_by}
 use Rattle.image_layout.specs.Layouts.{units_of}
 use Rattle.image_layout.proofs.SmallLaws.{unit_small, stripes_small}
-use borrow.Author.Rules.{rules}
 use native.Mathlib.Omega.{arith}
 use Rattle.image_layout.proofs.places.units.Goals as goal
 

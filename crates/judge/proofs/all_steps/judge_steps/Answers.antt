@@ -3,10 +3,9 @@
 -- give the answer of the whole plan.
 use mathlib.Core.Path.{◌≡◌, refl, ap, ◌∙◌}
 use mathlib.Core.List.{[]}
-use Prim.Native.Nat.{◌+◌, ◌-◌, ◌*◌}
+use Prim.Native.Nat.{◌+◌, ◌*◌}
 use native.Mathlib.Omega.{arith}
 use lib.ListN.{length, set, replicate}
-use borrow.Author.Rules.{rules}
 use Rattle.liberation.specs.Plans.{Step, step, marks_from}
 use Rattle.liberation.proofs.MarkLists.{length_marks}
 use Rattle.judge.proofs.JudgingLoop.{InForm, BytesOf, Halfway, halfway_start, halfway_long, halfway_form, halfway_turn, halfway_refused, halfway_end}

@@ -1,15 +1,8 @@
 -- `judge_steps`: each turn reads three bytes, refuses the step or marks its row and the cells of
 -- its set. The invariant: the rows rebuilt and the cells read so far, with the steps still to come,
 -- give the answer of the whole plan.
-use mathlib.Core.Path.{◌≡◌, refl, ap, ◌∙◌}
-use mathlib.Core.List.{[]}
-use Prim.Native.Nat.{◌+◌, ◌-◌, ◌*◌}
-use native.Mathlib.Omega.{arith}
-use lib.ListN.{length, set, replicate}
-use borrow.Author.Rules.{rules}
-use Rattle.liberation.specs.Plans.{Step, step, marks_from}
-use Rattle.liberation.proofs.MarkLists.{length_marks}
-use Rattle.judge.proofs.JudgingLoop.{InForm, BytesOf, Halfway, halfway_start, halfway_long, halfway_form, halfway_turn, halfway_refused, halfway_end}
+use Prim.Native.Nat.{◌-◌}
+use Rattle.judge.proofs.JudgingLoop.{Halfway}
 use Rattle.judge.proofs.all_steps.judge_steps.Given as goal
 
 abbrev pub invariant-loop-i : goal.invariant-loop-i

@@ -1,11 +1,7 @@
 -- `holds_row`: the cells of the set come one by one and are compared with the row's lost cell. The
 -- invariant: the cells still to come answer for all.
-use mathlib.Core.Path.{◌≡◌, refl, sym, ◌∙◌}
-use Prim.Native.Nat.{◌+◌, ◌-◌, ◌%◌}
+use mathlib.Core.Path.{refl, sym, ◌∙◌}
 use native.Mathlib.Omega.{arith}
-use lib.ListN.{length, drop}
-use borrow.Author.Rules.{rules}
-use Rattle.mathematics.specs.Lists.{is_in}
 use Rattle.mathematics.proofs.SearchLaws.{seek_turn, seek_here, seek_end}
 use Rattle.liberation.specs.Sets.{place, set_of}
 use Rattle.liberation.proofs.DiagonalRows.{row_below, row_on}

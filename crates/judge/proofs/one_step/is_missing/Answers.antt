@@ -7,8 +7,7 @@ use native.Mathlib.Nat.{mod-lt, mul-le-mul}
 use native.Mathlib.Omega.{arith}
 use lib.Dec.{eqb}
 use lib.ListN.{get_or}
-use borrow.Author.Rules.{rules}
-use borrow.Author.Tests.{eqb-true, eqb-false, not-true, not-false}
+use borrow.Author.Tests.{eqb-true, eqb-false}
 use Rattle.liberation.specs.Sets.{disk_at}
 use Rattle.parity_sets.proofs.NumberLaws.{row_of}
 use Rattle.judge.proofs.StepRefusals.{there_elsewhere, there_itself, there_other, byte_none}

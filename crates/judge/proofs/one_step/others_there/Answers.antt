@@ -1,16 +1,11 @@
 -- `others_there`: the cells of the set come one by one, and the first that is missing ends the
 -- loop. The invariant: the cells still to come answer for all.
-use mathlib.Core.Path.{◌≡◌, refl}
-use mathlib.Core.List.{List}
-use Prim.Native.Nat.{ℕ, ◌+◌, ◌-◌, ◌%◌}
+use mathlib.Core.Path.{refl}
 use native.Mathlib.Omega.{arith}
-use lib.ListN.{length, drop}
-use borrow.Author.Rules.{rules}
 use Rattle.liberation.specs.Sets.{set_of}
-use Rattle.liberation.specs.Plans.{marks_from}
 use Rattle.liberation.proofs.DiagonalRows.{row_below, row_on}
 use Rattle.parity_sets.proofs.NumberLaws.{row_first}
-use Rattle.judge.proofs.StepRefusals.{there, there_turn, there_stop, there_end}
+use Rattle.judge.proofs.StepRefusals.{there_turn, there_stop, there_end}
 use Rattle.judge.proofs.one_step.others_there.Goals as goal
 
 pub set_size-size-requires : goal.set_size-size-requires

@@ -1,5 +1,4 @@
 -- `byte_refusal`: 255 is refused by nothing, any other number as a disk.
-use borrow.Author.Rules.{rules}
 use Rattle.parity_server.proofs.LossRefusals.{refusal_none, refusal_disk}
 use Rattle.parity_server.proofs.losses.byte_refusal.Goals as goal
 

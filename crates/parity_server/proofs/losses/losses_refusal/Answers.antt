@@ -1,7 +1,7 @@
 -- `losses_refusal`: each turn tests the next server's losses, and the first refusal ends the loop.
 -- The invariant: the servers passed have none.
 use mathlib.Core.Path.{◌≡◌, sym, ap, ◌∙◌}
-use Prim.Native.Nat.{ℕ, ◌+◌, ◌-◌, ◌≤◌}
+use Prim.Native.Nat.{ℕ, ◌+◌}
 use native.Mathlib.Omega.{arith}
 use Rattle.liberation.specs.ParityServer.Servers.{losses_refusal}
 use Rattle.liberation.proofs.ParityServer.ServerRefusalLaws.{losses_first}

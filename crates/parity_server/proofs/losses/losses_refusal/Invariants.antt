@@ -1,11 +1,8 @@
 -- `losses_refusal`: each turn tests the next server's losses, and the first refusal ends the loop.
 -- The invariant: the servers passed have none.
-use mathlib.Core.Path.{◌≡◌, sym, ap, ◌∙◌}
-use Prim.Native.Nat.{ℕ, ◌+◌, ◌-◌, ◌≤◌}
-use native.Mathlib.Omega.{arith}
+use mathlib.Core.Path.{◌≡◌}
+use Prim.Native.Nat.{◌+◌, ◌-◌, ◌≤◌}
 use Rattle.liberation.specs.ParityServer.Servers.{losses_refusal}
-use Rattle.liberation.proofs.ParityServer.ServerRefusalLaws.{losses_first}
-use Rattle.parity_server.proofs.LossRefusals.{losses_start, losses_more}
 use Rattle.parity_server.proofs.losses.losses_refusal.Given as goal
 
 abbrev pub invariant-loop-i : goal.invariant-loop-i

@@ -1,6 +1,5 @@
 -- `pair_refusal`: 3 for either byte, then 4 for a disk that is named twice.
 use mathlib.Core.Path.{◌≡◌, sym, ◌∙◌}
-use borrow.Author.Rules.{rules}
 use Rattle.mathematics.proofs.ChoiceLaws.{first_kept, first_next}
 use Rattle.liberation.specs.ParityServer.Servers.{byte_refusal}
 use Rattle.parity_server.proofs.LossRefusals.{pair_none, pair_same, pair_apart}

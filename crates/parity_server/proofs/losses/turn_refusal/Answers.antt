@@ -1,7 +1,6 @@
 -- `turn_refusal`: nothing for the lost server, else its two bytes are tested.
 use Prim.Native.Nat.{◌+◌, ◌*◌}
 use native.Mathlib.Omega.{arith}
-use borrow.Author.Rules.{rules}
 use Rattle.parity_server.proofs.LossRefusals.{turn_none, turn_pair}
 use Rattle.parity_server.proofs.losses.turn_refusal.Goals as goal
 

@@ -1,9 +1,8 @@
 -- `mend_all`: each turn mends the next server. The invariant: the slice is as long as before, and
 -- the servers passed are mended in it.
 use mathlib.Core.Path.{◌≡◌, refl, ap, ◌∙◌}
-use Prim.Native.Nat.{ℕ, ◌+◌, ◌-◌, ◌≤◌}
+use Prim.Native.Nat.{ℕ, ◌+◌}
 use native.Mathlib.Omega.{arith}
-use lib.ListN.{length}
 use Rattle.liberation.specs.ParityServer.Servers.{mended_all}
 use Rattle.parity_server.proofs.Turning.{turn_of, turns_none, turns_more}
 use Rattle.parity_server.proofs.mends.mend_all.Goals as goal

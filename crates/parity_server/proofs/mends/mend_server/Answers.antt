@@ -1,7 +1,6 @@
 -- `mend_server`: the one lost disk by our plan; where there is no such one, two by the walk, or
 -- none. A disk that is lost is one of the array.
 use mathlib.Core.Path.{◌≡◌}
-use borrow.Author.Rules.{rules}
 use Rattle.parity_server.proofs.Turning.{none_lost, both_lost, second_none, second_too, only_disk, only_mended, both_disks}
 use Rattle.parity_server.proofs.mends.mend_server.Goals as goal
 

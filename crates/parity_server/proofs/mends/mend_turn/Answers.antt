@@ -4,7 +4,6 @@ use mathlib.Core.Path.{◌≡◌, ap, ◌∙◌}
 use Prim.Native.Nat.{ℕ, ◌+◌, ◌-◌, ◌*◌}
 use native.Mathlib.Omega.{arith}
 use lib.ListN.{length, take, drop}
-use borrow.Author.Rules.{rules}
 use Rattle.liberation.specs.Stripes.Stripes.{stripe_long}
 use Rattle.liberation.proofs.Stripes.StripeCellLaws.{cell_long}
 use Rattle.liberation.specs.ParityServer.Servers.{first_loss, second_loss, mended}

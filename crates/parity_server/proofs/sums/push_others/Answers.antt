@@ -1,9 +1,8 @@
 -- `push_others`: each turn pushes the next server's offset, or none. The invariant: the offsets of
 -- the servers passed are in the list, but that of the server left out.
 use mathlib.Core.Path.{◌≡◌, refl, subst, ◌∙◌}
-use Prim.Native.Nat.{ℕ, ◌+◌, ◌-◌, ◌≤◌}
+use Prim.Native.Nat.{ℕ, ◌+◌}
 use native.Mathlib.Omega.{arith}
-use lib.ListN.{length}
 use Rattle.liberation.specs.Stripes.Stripes.{without}
 use Rattle.liberation.specs.ParityServer.Servers.{up_to}
 use Rattle.stripe_cells.specs.Offsets.{scaled, Pushed}

@@ -1,13 +1,11 @@
 -- `push_others`: each turn pushes the next server's offset, or none. The invariant: the offsets of
 -- the servers passed are in the list, but that of the server left out.
-use mathlib.Core.Path.{◌≡◌, refl, subst, ◌∙◌}
-use Prim.Native.Nat.{ℕ, ◌+◌, ◌-◌, ◌≤◌}
-use native.Mathlib.Omega.{arith}
+use mathlib.Core.Path.{◌≡◌}
+use Prim.Native.Nat.{◌+◌, ◌-◌, ◌≤◌}
 use lib.ListN.{length}
 use Rattle.liberation.specs.Stripes.Stripes.{without}
 use Rattle.liberation.specs.ParityServer.Servers.{up_to}
 use Rattle.stripe_cells.specs.Offsets.{scaled, Pushed}
-use Rattle.parity_server.proofs.OtherServers.{others_none, others_more, others_few}
 use Rattle.parity_server.proofs.sums.push_others.Given as goal
 
 abbrev pub invariant-loop-i : goal.invariant-loop-i

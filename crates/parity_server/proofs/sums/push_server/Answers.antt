@@ -1,7 +1,6 @@
 -- `push_server`: nothing for the server left out, else the offset of its stripe.
 use native.Mathlib.Nat.{mul-le-mul}
 use native.Mathlib.Omega.{arith}
-use borrow.Author.Rules.{rules}
 use Rattle.parity_server.proofs.OtherServers.{turn_out, turn_in}
 use Rattle.parity_server.proofs.sums.push_server.Goals as goal
 

@@ -5,7 +5,6 @@ use Prim.Native.Nat.{◌*◌}
 use native.Mathlib.Omega.{arith}
 use lib.ListN.{length, take}
 use lib.Seq.{length-take-le}
-use borrow.Author.Rules.{rules}
 use Rattle.xor_in_place.specs.Beside.{Apart}
 use Rattle.parity_server.proofs.OtherServers.{others_apart, others_solve}
 use Rattle.parity_server.proofs.sums.solve_server.Goals as goal

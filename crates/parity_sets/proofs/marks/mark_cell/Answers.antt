@@ -6,7 +6,6 @@ use borrow.Author.Tests.{eq-eqb, ne_eqb, eqb-true, eqb-false}
 use Rattle.mathematics.specs.Choice.{when}
 use Rattle.liberation.specs.Sets.{disk_at}
 use Rattle.parity_sets.proofs.MarkLaws.{lost_one, surviving_one, marked_none, marked_one}
-use borrow.Author.Rules.{rules}
 use Rattle.parity_sets.proofs.marks.mark_cell.Goals as goal
 
 -- the cell is on another disk

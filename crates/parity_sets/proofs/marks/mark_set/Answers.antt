@@ -1,11 +1,8 @@
 -- `mark_set`: the cells of the set come one by one, and each turn marks the next. The invariant:
 -- what is marked so far, with the cells still to come, gives the marks and the count of the whole
 -- set; the row is that of a diagonal's cell on the disk that is next.
-use mathlib.Core.Path.{◌≡◌}
-use Prim.Native.Nat.{◌+◌, ◌-◌, ◌*◌, ◌%◌, ◌<◌}
+use Prim.Native.Nat.{◌+◌, ◌*◌}
 use native.Mathlib.Omega.{arith}
-use lib.ListN.{length}
-use borrow.Author.Rules.{rules}
 use Rattle.mathematics.proofs.ListLaws.{below_at}
 use Rattle.liberation.specs.Sets.{set_of}
 use Rattle.liberation.proofs.DiagonalRows.{row_below, row_on}

@@ -2,17 +2,10 @@
 -- what is marked so far, with the cells still to come, gives the marks and the count of the whole
 -- set; the row is that of a diagonal's cell on the disk that is next.
 use mathlib.Core.Path.{◌≡◌}
-use Prim.Native.Nat.{◌+◌, ◌-◌, ◌*◌, ◌%◌, ◌<◌}
-use native.Mathlib.Omega.{arith}
+use Prim.Native.Nat.{◌+◌, ◌-◌, ◌%◌}
 use lib.ListN.{length}
-use borrow.Author.Rules.{rules}
-use Rattle.mathematics.proofs.ListLaws.{below_at}
 use Rattle.liberation.specs.Sets.{set_of}
-use Rattle.liberation.proofs.DiagonalRows.{row_below, row_on}
-use Rattle.liberation.proofs.SetLaws.{set_below}
-use Rattle.liberation.proofs.SetSizes.{size_most}
-use Rattle.parity_sets.proofs.NumberLaws.{row_first}
-use Rattle.parity_sets.proofs.MarkLaws.{Halfway, halfway_start, halfway_turn, halfway_end}
+use Rattle.parity_sets.proofs.MarkLaws.{Halfway}
 use Rattle.parity_sets.proofs.marks.mark_set.Given as goal
 
 abbrev pub invariant-loop-at : goal.invariant-loop-at

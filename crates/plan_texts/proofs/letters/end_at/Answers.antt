@@ -1,5 +1,4 @@
 -- `end_at`: the byte at the place, and after CR the one behind it.
-use borrow.Author.Rules.{rules}
 use Rattle.plan_texts.proofs.LetterTests.{end_lf, end_none, end_cr_lf, end_cr}
 use Rattle.plan_texts.proofs.letters.end_at.Goals as goal
 

@@ -1,7 +1,5 @@
 -- `is_set`: the three bytes from the place on, one after the other.
 use mathlib.Core.Path.{sym, ◌∙◌}
-use borrow.Author.Tests.{not-true, not-false}
-use borrow.Author.Rules.{rules}
 use Rattle.plan_texts.proofs.LetterTests.{set_no_comma, set_no_letter, set_last}
 use Rattle.plan_texts.proofs.letters.is_set.Goals as goal
 

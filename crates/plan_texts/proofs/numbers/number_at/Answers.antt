@@ -1,8 +1,6 @@
 -- `number_at`: the first byte that is no digit ends the number, and three digits do.
 use mathlib.Core.Path.{refl, sym, ap₂, ◌∙◌}
 use Prim.Native.Nat.{ℕ, ◌+◌, ◌*◌}
-use borrow.Author.Tests.{not-true, not-false}
-use borrow.Author.Rules.{rules}
 use Rattle.plan_texts.proofs.NumberReading.{no_number, one_digit, two_digits, three_digits}
 use Rattle.plan_texts.proofs.numbers.number_at.Goals as goal
 

@@ -2,7 +2,6 @@
 -- bytes have room for its plain form.
 use mathlib.Core.Path.{refl}
 use native.Mathlib.Omega.{arith}
-use borrow.Author.Rules.{rules}
 use Rattle.liberation.specs.Judging.{steps_in}
 use Rattle.plan_texts.specs.JudgeTextSays.{Judges}
 use Rattle.plan_texts.proofs.JudgeTextLaws.{plan_small, judges_steps}

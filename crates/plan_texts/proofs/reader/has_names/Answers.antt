@@ -1,7 +1,6 @@
 -- `has_names`: fewer than 14 bytes are not the names; else the first 14 are compared.
 use mathlib.Core.Path.{sym}
 use lib.Seq.{length-take-le}
-use borrow.Author.Rules.{rules}
 use Rattle.plan_texts.proofs.LineLaws.{names_short}
 use Rattle.plan_texts.proofs.reader.has_names.Goals as goal
 

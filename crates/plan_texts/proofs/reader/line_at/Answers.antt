@@ -2,7 +2,6 @@
 use mathlib.Core.Path.{refl}
 use native.Mathlib.Omega.{arith}
 use lib.ListN.{drop}
-use borrow.Author.Rules.{rules}
 use Rattle.plan_texts.proofs.Form.StepwiseLaws.{end_few}
 use Rattle.plan_texts.proofs.LineLaws.{number_ends, line_is}
 use Rattle.plan_texts.proofs.reader.line_at.Goals as goal

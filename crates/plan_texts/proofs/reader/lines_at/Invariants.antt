@@ -1,14 +1,7 @@
 -- `lines_at`: each turn reads a line and puts its step into the plan. The invariant: the lines so
 -- far are lines, their steps are the plan's bytes, and the next line begins behind them.
-use mathlib.Core.Path.{◌≡◌, refl}
-use mathlib.Core.Bool.{true}
 use Prim.Native.Nat.{◌-◌}
-use native.Mathlib.Omega.{arith}
-use borrow.Author.Tests.{not-true, not-false}
-use borrow.Author.Rules.{rules}
-use Rattle.liberation.specs.Plans.{step}
-use Rattle.plan_texts.proofs.Form.StepwiseLaws.{SmallStep}
-use Rattle.plan_texts.proofs.LineLaws.{small_at, Halfway, halfway_start, halfway_place, halfway_turn, halfway_bad, halfway_more, halfway_end}
+use Rattle.plan_texts.proofs.LineLaws.{Halfway}
 use Rattle.plan_texts.proofs.reader.lines_at.Given as goal
 
 abbrev pub invariant-loop-i : goal.invariant-loop-i

@@ -3,8 +3,6 @@ use mathlib.Core.Path.{sym, subst, ◌∙◌}
 use Prim.Native.Nat.{ℕ, ◌+◌, ◌≤◌}
 use native.Mathlib.Omega.{arith}
 use lib.ListN.{drop}
-use borrow.Author.Tests.{not-true, not-false}
-use borrow.Author.Rules.{rules}
 use Rattle.plan_texts.proofs.Form.StepwiseLaws.{end_few}
 use Rattle.plan_texts.specs.ReaderSays.{LinesSay}
 use Rattle.plan_texts.proofs.LineLaws.{no_names, no_end, all_read}

@@ -1,12 +1,10 @@
 -- `put_lines`: each turn reads the three bytes of a step and writes its line behind the others. The
 -- invariant: what is written and the lines still to come are the lines of the whole plan.
-use Prim.Native.Nat.{◌-◌}
 use native.Mathlib.Omega.{arith}
-use borrow.Author.Rules.{rules}
 use Rattle.liberation.specs.Plans.{step}
 use Rattle.judge.proofs.JudgingLoop.{BytesOf}
 use Rattle.text.proofs.WriteLaws.{wrote_long}
-use Rattle.plan_texts.proofs.PlainLoop.{LinesWritten, written_start, two_digits, halfway_turn, halfway_end}
+use Rattle.plan_texts.proofs.PlainLoop.{written_start, two_digits, halfway_turn, halfway_end}
 use Rattle.plan_texts.proofs.writer.put_lines.Goals as goal
 
 -- the step that was read

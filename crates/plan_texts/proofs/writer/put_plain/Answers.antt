@@ -1,5 +1,4 @@
 -- `put_plain`: the names line and the steps' lines, one behind the other, are the plain form.
-use borrow.Author.Rules.{rules}
 use Rattle.text.proofs.WriteLaws.{wrote_more}
 use Rattle.plan_texts.specs.Form.Plain.{plain}
 use Rattle.plan_texts.proofs.writer.put_plain.Goals as goal

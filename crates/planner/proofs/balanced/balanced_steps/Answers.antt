@@ -1,6 +1,5 @@
 -- `balanced_steps`: P and Q as ours; a data disk by its routes.
 use native.Mathlib.Omega.{arith}
-use borrow.Author.Rules.{rules}
 use Rattle.liberation.proofs.BalancedPlan.BalancedPlan.{balanced_data, balanced_parity}
 use Rattle.planner.proofs.PlannedLaws.{word_is, data_given, parity_given}
 use Rattle.planner.proofs.balanced.balanced_steps.Goals as goal

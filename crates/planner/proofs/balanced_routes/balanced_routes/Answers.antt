@@ -1,6 +1,5 @@
 -- `balanced_routes`: the squares from the start row of the balanced plan.
 use native.Mathlib.Omega.{arith}
-use borrow.Author.Rules.{rules}
 use Rattle.liberation.proofs.BalancedPlan.BalancedPlan.{start_below}
 use Rattle.liberation.proofs.Widths.{width_odd}
 use Rattle.planner.proofs.SquareSteps.{balanced_are}

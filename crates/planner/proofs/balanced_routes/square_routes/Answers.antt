@@ -1,10 +1,9 @@
 -- `square_routes`: each turn goes on to the next square.
-use mathlib.Core.Path.{◌≡◌, refl}
-use Prim.Native.Nat.{◌+◌, ◌-◌, ◌*◌, ◌/◌}
+use mathlib.Core.Path.{refl}
+use Prim.Native.Nat.{◌+◌, ◌*◌}
 use native.Mathlib.Nat.{mod-lt}
 use native.Mathlib.Omega.{arith}
-use borrow.Author.Rules.{rules}
-use Rattle.planner.proofs.SquareSteps.{AfterSquares, squares_none, squares_below, squares_next, squares_all}
+use Rattle.planner.proofs.SquareSteps.{squares_none, squares_below, squares_next, squares_all}
 use Rattle.planner.proofs.balanced_routes.square_routes.Goals as goal
 
 pub loop-taken-init : goal.loop-taken-init

@@ -1,10 +1,7 @@
 -- `square_routes`: each turn goes on to the next square.
-use mathlib.Core.Path.{◌≡◌, refl}
-use Prim.Native.Nat.{◌+◌, ◌-◌, ◌*◌, ◌/◌}
-use native.Mathlib.Nat.{mod-lt}
-use native.Mathlib.Omega.{arith}
-use borrow.Author.Rules.{rules}
-use Rattle.planner.proofs.SquareSteps.{AfterSquares, squares_none, squares_below, squares_next, squares_all}
+use mathlib.Core.Path.{◌≡◌}
+use Prim.Native.Nat.{◌-◌, ◌/◌}
+use Rattle.planner.proofs.SquareSteps.{AfterSquares}
 use Rattle.planner.proofs.balanced_routes.square_routes.Given as goal
 
 abbrev pub invariant-loop-taken : goal.invariant-loop-taken

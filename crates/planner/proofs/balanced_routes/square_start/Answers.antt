@@ -2,7 +2,6 @@
 use mathlib.Core.Path.{◌≡◌, ap, ◌∙◌}
 use Prim.Native.Nat.{ℕ, ◌+◌, ◌-◌, ◌%◌, ◌≤◌}
 use native.Mathlib.Omega.{arith}
-use borrow.Author.Rules.{rules}
 use Rattle.mathematics.proofs.ChoiceLaws.{when_most}
 use Rattle.liberation.specs.Plans.{second_row}
 use Rattle.liberation.specs.BalancedPlan.Balanced.{minus_square}

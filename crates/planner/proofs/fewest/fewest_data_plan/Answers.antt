@@ -1,7 +1,6 @@
 -- `fewest_data_plan`: the plans by three routes, and the one that reads fewest.
 use Prim.Native.Nat.{◌<◌}
 use native.Mathlib.Omega.{arith}
-use borrow.Author.Rules.{rules}
 use Rattle.liberation.proofs.Widths.{width_odd, width_least}
 use Rattle.liberation.proofs.FewestPlan.FewestPlan.{fewest_step_lem}
 use Rattle.planner.proofs.PlannedLaws.{word_is}

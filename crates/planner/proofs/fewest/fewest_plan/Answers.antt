@@ -1,6 +1,5 @@
 -- `fewest_plan`: refusals 1, 13 and 3; P and Q as ours; else the fewest plan with its reads counted.
 use mathlib.Core.Path.{◌≡◌, sym, ◌∙◌}
-use borrow.Author.Rules.{rules}
 use Rattle.liberation.specs.Sets.{plan_refusal}
 use Rattle.liberation.proofs.RefusalLaws.{plan_of_lem}
 use Rattle.planner.proofs.PlanAnswers.{plan_refused}

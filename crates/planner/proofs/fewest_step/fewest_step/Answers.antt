@@ -1,8 +1,7 @@
 -- `fewest_step`: each turn tries one step more.
-use mathlib.Core.Path.{◌≡◌, refl}
-use Prim.Native.Nat.{◌+◌, ◌-◌, ◌/◌}
+use mathlib.Core.Path.{refl}
 use native.Mathlib.Omega.{arith}
-use Rattle.planner.proofs.RelievedSteps.{Tried, tried_first, tried_more, tried_same, tried_all}
+use Rattle.planner.proofs.RelievedSteps.{tried_first, tried_more, tried_same, tried_all}
 use Rattle.planner.proofs.fewest_step.fewest_step.Goals as goal
 use Rattle.planner.proofs.fewest_step.fewest_step.Goals.{then-most-sum, else-most-sum}
 
@@ -23,7 +22,7 @@ loop-step-preserved c =
     let v = c.relieved_by-sum in (
       refl,
       (elim c.if-most-sum.branch [
-        then-most-sum w ↦ tried_more a.width a.disks a.lost l.step l.best l.most v.result c.if-most-sum.best c.if-most-sum.most t v.ensures w.if-most-sum.true w.best-is w.most-is l.invariant.1
+        | then-most-sum w ↦ tried_more a.width a.disks a.lost l.step l.best l.most v.result c.if-most-sum.best c.if-most-sum.most t v.ensures w.if-most-sum.true w.best-is w.most-is l.invariant.1
         | else-most-sum w ↦ tried_same a.width a.disks a.lost l.step l.best l.most v.result c.if-most-sum.best c.if-most-sum.most t v.ensures w.if-most-sum.false w.best-is w.most-is l.invariant.1
       ]),
     )

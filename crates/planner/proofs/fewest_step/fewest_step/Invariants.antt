@@ -1,9 +1,7 @@
 -- `fewest_step`: each turn tries one step more.
-use mathlib.Core.Path.{◌≡◌, refl}
-use mathlib.Core.Logic.{⊎_elim}
+use mathlib.Core.Path.{◌≡◌}
 use Prim.Native.Nat.{◌+◌, ◌-◌, ◌/◌}
-use native.Mathlib.Omega.{arith}
-use Rattle.planner.proofs.RelievedSteps.{Tried, tried_first, tried_more, tried_same, tried_all}
+use Rattle.planner.proofs.RelievedSteps.{Tried}
 use Rattle.planner.proofs.fewest_step.fewest_step.Given as goal
 
 abbrev pub invariant-loop-step : goal.invariant-loop-step

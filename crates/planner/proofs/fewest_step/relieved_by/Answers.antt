@@ -1,7 +1,6 @@
 -- `relieved_by`: each turn adds what the next disk of the walk is relieved of.
-use Prim.Native.Nat.{◌-◌}
 use native.Mathlib.Omega.{arith}
-use Rattle.planner.proofs.RelievedSteps.{Summed, summed_none, summed_below, summed_next, summed_room, summed_all_lem}
+use Rattle.planner.proofs.RelievedSteps.{summed_none, summed_below, summed_next, summed_room, summed_all_lem}
 use Rattle.planner.proofs.fewest_step.relieved_by.Goals as goal
 
 pub loop-steps-init : goal.loop-steps-init

@@ -2,7 +2,6 @@
 use mathlib.Core.Path.{sym, ap, ap₂}
 use mathlib.Core.Bool.{Bool}
 use Prim.Native.Nat.{◌-◌}
-use borrow.Author.Rules.{rules}
 use borrow.Author.Tests.{lt-ltb, le-ltb, le-leb, lt-leb}
 use Rattle.mathematics.specs.Choice.{pick, when}
 use Rattle.liberation.specs.ReliefPlan.Relief.{distance}

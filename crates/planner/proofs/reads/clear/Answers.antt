@@ -1,11 +1,6 @@
 -- `clear`: the bytes passed are zeros, the rest still stand.
-use mathlib.Core.Path.{◌≡◌}
-use mathlib.Core.List.{◌++◌}
-use Prim.Native.Nat.{◌+◌, ◌-◌, ◌≤◌}
 use native.Mathlib.Omega.{arith}
-use lib.ListN.{length, drop, replicate}
 use Rattle.mathematics.proofs.ListLaws.{clear_turn, clear_end, length_clear}
-use borrow.Author.Rules.{rules}
 use Rattle.planner.proofs.reads.clear.Goals as goal
 
 pub loop-i-smaller : goal.loop-i-smaller

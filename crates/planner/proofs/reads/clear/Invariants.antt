@@ -1,11 +1,8 @@
 -- `clear`: the bytes passed are zeros, the rest still stand.
 use mathlib.Core.Path.{◌≡◌}
 use mathlib.Core.List.{◌++◌}
-use Prim.Native.Nat.{◌+◌, ◌-◌, ◌≤◌}
-use native.Mathlib.Omega.{arith}
+use Prim.Native.Nat.{◌-◌, ◌≤◌}
 use lib.ListN.{length, drop, replicate}
-use Rattle.mathematics.proofs.ListLaws.{clear_turn, clear_end, length_clear}
-use borrow.Author.Rules.{rules}
 use Rattle.planner.proofs.reads.clear.Given as goal
 
 abbrev pub invariant-loop-i : goal.invariant-loop-i

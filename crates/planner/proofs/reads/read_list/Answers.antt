@@ -11,7 +11,6 @@ use Rattle.liberation.proofs.RefusalLaws.{plan_of_lem}
 use Rattle.liberation.proofs.MarkLists.{no_cells, cells_most}
 use Rattle.planner.proofs.PlannedLaws.{ours_held, ours_accepted}
 use Rattle.planner.proofs.ListAnswers.{list_refused, list_first, list_long, list_says}
-use borrow.Author.Rules.{rules}
 use Rattle.planner.proofs.reads.read_list.Goals as goal
 
 -- past refusals 1, 13 and 3

@@ -1,12 +1,11 @@
 -- `all_steps`: each turn adds the next set of the kind. The invariant: the steps so far, with those
 -- still to come, are all; a set has its row's number.
 use mathlib.Core.Path.{◌≡◌, ap}
-use Prim.Native.Nat.{ℕ, ◌+◌, ◌-◌, ◌≤◌}
+use Prim.Native.Nat.{ℕ, ◌+◌, ◌-◌}
 use native.Mathlib.Omega.{arith}
 use lib.ListN.{replicate}
 use Rattle.liberation.specs.Plans.{step, all_of}
-use Rattle.planner.proofs.StepRecord.{Collected, collect_start, collect_push, collect_skip, collect_end, all_some, all_last}
-use borrow.Author.Rules.{rules}
+use Rattle.planner.proofs.StepRecord.{collect_start, collect_push, collect_skip, collect_end, all_some, all_last}
 use Rattle.planner.proofs.records.all_steps.Goals as goal
 
 pub loop-row-init : goal.loop-row-init

@@ -2,7 +2,7 @@
 -- so far, with those of the rows still to come, are all; in the end they are as many as the rows.
 use mathlib.Core.Path.{◌≡◌, refl, sym, ◌∙◌}
 use mathlib.Core.List.{List, ◌++◌}
-use Prim.Native.Nat.{ℕ, ◌+◌, ◌-◌, ◌≤◌, ◌<◌}
+use Prim.Native.Nat.{ℕ, ◌+◌, ◌≤◌, ◌<◌}
 use native.Mathlib.Omega.{arith}
 use lib.ListN.{length, get_or, take, drop, length-append}
 use lib.Seq.{length-take-le, get_or-take}
@@ -10,7 +10,6 @@ use Rattle.liberation.specs.Plans.{step, diagonal_of, row_steps, diagonal_steps}
 use Rattle.liberation.proofs.RowSteps.{steps_long}
 use Rattle.parity_sets.proofs.NumberLaws.{numbered}
 use Rattle.planner.proofs.StepRecord.{Collected, collect_push, collect_skip, collect_end, collect_room, diagonal_some, diagonal_none, diagonal_last}
-use borrow.Author.Rules.{rules}
 use Rattle.planner.proofs.records.diagonal_steps.Goals as goal
 use Rattle.planner.proofs.records.diagonal_steps.Goals.{then-routes-row-eq-BY_DIAGONAL, else-routes-row-eq-BY_DIAGONAL}
 
@@ -72,12 +71,12 @@ loop-row-preserved c =
     let at = get_or-take a.width a.routes.now l.row 0 c.loop-row-test.true in (
       omega arith,
       elim c.if-routes-row-eq-BY_DIAGONAL.branch [
-        then-routes-row-eq-BY_DIAGONAL w ↦
-          let fits = room a.width a.disk l.row l.count a.routes.now l.rows l.kinds l.numbers (c.requires.0, c.requires.2) c.loop-row-test.true w.if-routes-row-eq-BY_DIAGONAL.true l.invariant.1 in
-          let added = collect_push whole rest all (step l.row 1 (diagonal_of a.width a.disk l.row)) l.rows l.kinds l.numbers l.count (diagonal_some a.width a.disk l.row rs h (at ∙ w.if-routes-row-eq-BY_DIAGONAL.true)) fits l.invariant.1 in
-          rw (w.rows-is, w.kinds-is, w.numbers-is, w.count-is, c.diagonal_of-number.ensures) added
+        | then-routes-row-eq-BY_DIAGONAL w ↦
+            let fits = room a.width a.disk l.row l.count a.routes.now l.rows l.kinds l.numbers (c.requires.0, c.requires.2) c.loop-row-test.true w.if-routes-row-eq-BY_DIAGONAL.true l.invariant.1 in
+            let added = collect_push whole rest all (step l.row 1 (diagonal_of a.width a.disk l.row)) l.rows l.kinds l.numbers l.count (diagonal_some a.width a.disk l.row rs h (at ∙ w.if-routes-row-eq-BY_DIAGONAL.true)) fits l.invariant.1 in
+            rw (w.rows-is, w.kinds-is, w.numbers-is, w.count-is, c.diagonal_of-number.ensures) added
         | else-routes-row-eq-BY_DIAGONAL w ↦
-          rw (w.rows-is, w.kinds-is, w.numbers-is, w.count-is) (collect_skip whole rest all l.rows l.kinds l.numbers l.count (diagonal_none a.width a.disk l.row rs h (λ e. w.if-routes-row-eq-BY_DIAGONAL.false (sym at ∙ e))) l.invariant.1)
+            rw (w.rows-is, w.kinds-is, w.numbers-is, w.count-is) (collect_skip whole rest all l.rows l.kinds l.numbers l.count (diagonal_none a.width a.disk l.row rs h (λ e. w.if-routes-row-eq-BY_DIAGONAL.false (sym at ∙ e))) l.invariant.1)
       ],
     )
 

@@ -1,17 +1,10 @@
 -- `diagonal_steps`: each turn adds the diagonal of a row that takes one. The invariant: the steps
 -- so far, with those of the rows still to come, are all; in the end they are as many as the rows.
-use mathlib.Core.Path.{◌≡◌, refl, sym, ◌∙◌}
 use mathlib.Core.List.{◌++◌}
-use mathlib.Core.Logic.{⊎_elim}
-use Prim.Native.Nat.{◌+◌, ◌-◌, ◌≤◌, ◌<◌}
-use native.Mathlib.Omega.{arith}
-use lib.ListN.{length, take, drop, length-append}
-use lib.Seq.{length-take-le, get_or-take}
-use Rattle.liberation.specs.Plans.{step, diagonal_of, row_steps, diagonal_steps}
-use Rattle.liberation.proofs.RowSteps.{steps_long}
-use Rattle.parity_sets.proofs.NumberLaws.{numbered}
-use Rattle.planner.proofs.StepRecord.{Collected, collect_push, collect_skip, collect_end, collect_room, diagonal_some, diagonal_none, diagonal_last}
-use borrow.Author.Rules.{rules}
+use Prim.Native.Nat.{◌-◌, ◌≤◌}
+use lib.ListN.{take, drop}
+use Rattle.liberation.specs.Plans.{row_steps, diagonal_steps}
+use Rattle.planner.proofs.StepRecord.{Collected}
 use Rattle.planner.proofs.records.diagonal_steps.Given as goal
 
 abbrev pub invariant-loop-row : goal.invariant-loop-row

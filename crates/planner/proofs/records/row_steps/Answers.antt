@@ -1,16 +1,15 @@
 -- `row_steps`: each turn adds the row set of a row that takes no diagonal. The invariant: the steps
 -- so far, with those of the rows still to come, are all; kinds are zeros, and a row set has its
 -- row's number.
-use mathlib.Core.Path.{◌≡◌, refl, sym, subst, ◌∙◌}
+use mathlib.Core.Path.{◌≡◌, sym, subst, ◌∙◌}
 use mathlib.Core.List.{List}
-use Prim.Native.Nat.{ℕ, ◌+◌, ◌-◌, ◌≤◌, ◌<◌}
+use Prim.Native.Nat.{ℕ, ◌+◌, ◌≤◌, ◌<◌}
 use native.Mathlib.Omega.{arith}
 use lib.ListN.{length, get_or, take, drop, set, replicate}
 use lib.Seq.{length-take-le, get_or-take}
 use Rattle.liberation.specs.Plans.{step, row_steps}
 use Rattle.liberation.proofs.RowSteps.{steps_long}
 use Rattle.planner.proofs.StepRecord.{Collected, collect_start, collect_push, collect_skip, collect_end, collect_room, zero_again, row_some, row_none, row_last}
-use borrow.Author.Rules.{rules}
 use Rattle.planner.proofs.records.row_steps.Goals as goal
 use Rattle.planner.proofs.records.row_steps.Goals.{then-routes-row-ne-BY_DIAGONAL, else-routes-row-ne-BY_DIAGONAL}
 
@@ -56,12 +55,12 @@ loop-row-preserved c =
     let at = get_or-take c.args.width c.args.routes.now l.row 0 c.loop-row-test.true in (
       omega arith,
       elim c.if-routes-row-ne-BY_DIAGONAL.branch [
-        then-routes-row-ne-BY_DIAGONAL w ↦
-          let fits = room c.args.width l.row l.count c.args.routes.now l.rows l.numbers (c.requires.0, c.requires.1) c.loop-row-test.true w.if-routes-row-ne-BY_DIAGONAL.true l.invariant.1 in
-          let added = collect_push whole rest all (step l.row 0 l.row) l.rows (replicate 31 0) l.numbers l.count (row_some l.row rs h (λ e. w.if-routes-row-ne-BY_DIAGONAL.true (sym at ∙ e))) fits l.invariant.1 in
-          rw (w.rows-is, w.numbers-is, w.count-is) (subst (λ (x : List ℕ). Collected whole rest (set l.rows l.count l.row) x (set l.numbers l.count l.row) (l.count + 1)) (zero_again 31 l.count) added)
+        | then-routes-row-ne-BY_DIAGONAL w ↦
+            let fits = room c.args.width l.row l.count c.args.routes.now l.rows l.numbers (c.requires.0, c.requires.1) c.loop-row-test.true w.if-routes-row-ne-BY_DIAGONAL.true l.invariant.1 in
+            let added = collect_push whole rest all (step l.row 0 l.row) l.rows (replicate 31 0) l.numbers l.count (row_some l.row rs h (λ e. w.if-routes-row-ne-BY_DIAGONAL.true (sym at ∙ e))) fits l.invariant.1 in
+            rw (w.rows-is, w.numbers-is, w.count-is) (subst (λ (x : List ℕ). Collected whole rest (set l.rows l.count l.row) x (set l.numbers l.count l.row) (l.count + 1)) (zero_again 31 l.count) added)
         | else-routes-row-ne-BY_DIAGONAL w ↦
-          rw (w.rows-is, w.numbers-is, w.count-is) (collect_skip whole rest all l.rows (replicate 31 0) l.numbers l.count (row_none l.row rs h (at ∙ w.if-routes-row-ne-BY_DIAGONAL.false)) l.invariant.1)
+            rw (w.rows-is, w.numbers-is, w.count-is) (collect_skip whole rest all l.rows (replicate 31 0) l.numbers l.count (row_none l.row rs h (at ∙ w.if-routes-row-ne-BY_DIAGONAL.false)) l.invariant.1)
       ],
     )
 

@@ -1,6 +1,5 @@
 -- `relief_plan`: refusals 1, 13, 3 and 4, else the relief plan with its reads counted.
 use mathlib.Core.Path.{◌≡◌, sym, ap, ◌∙◌}
-use borrow.Author.Rules.{rules}
 use Rattle.liberation.specs.Judging.{accepted}
 use Rattle.planner.proofs.PlanAnswers.{plan_gives, plan_refused}
 use Rattle.planner.specs.ReliefPlanSays.{relief_refusal}

@@ -1,10 +1,9 @@
 -- `progression_routes`: each turn takes one step of the walk.
-use mathlib.Core.Path.{◌≡◌, refl}
-use Prim.Native.Nat.{◌+◌, ◌-◌, ◌/◌}
+use mathlib.Core.Path.{refl}
+use Prim.Native.Nat.{◌+◌}
 use native.Mathlib.Nat.{mod-lt}
 use native.Mathlib.Omega.{arith}
-use borrow.Author.Rules.{rules}
-use Rattle.planner.proofs.ProgressionSteps.{After, after_none, after_below, after_next, after_all}
+use Rattle.planner.proofs.ProgressionSteps.{after_none, after_below, after_next, after_all}
 use Rattle.planner.proofs.relief_routes.progression_routes.Goals as goal
 
 pub loop-taken-init : goal.loop-taken-init

@@ -1,11 +1,9 @@
 -- `all_routes`: each turn does one row of the definition, until the ones of the word, which are the
 -- diagonals, are enough. The invariant: the definition, gone on with from the routes so far, ends
 -- in our routes.
-use mathlib.Core.Path.{◌≡◌, refl}
+use mathlib.Core.Path.{◌≡◌}
 use Prim.Native.Nat.{◌-◌, ◌/◌}
-use native.Mathlib.Omega.{arith}
-use borrow.Author.Rules.{rules}
-use Rattle.planner.proofs.RouteLaws.{Under, ones_few, under_start, under_stop, under_turn, under_end}
+use Rattle.planner.proofs.RouteLaws.{Under}
 use Rattle.planner.proofs.routes.all_routes.Given as goal
 
 abbrev pub invariant-loop-row : goal.invariant-loop-row

@@ -7,7 +7,6 @@ use lib.ListN.{get_or}
 use Rattle.liberation.specs.Plans.{partner}
 use Rattle.parity_sets.proofs.NumberLaws.{numbered}
 use Rattle.planner.proofs.RouteLaws.{self_are, taken_are, diagonal_are}
-use borrow.Author.Rules.{rules}
 use Rattle.planner.proofs.routes.decide.Goals as goal
 
 below : (d : goal.After-diagonal_of) → d.diagonal_of.result < d.args.width

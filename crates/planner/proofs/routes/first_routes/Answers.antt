@@ -1,9 +1,8 @@
 -- `first_routes`: row f, and for f > 0 a second row, are the rows that start with a diagonal.
-use Prim.Native.Nat.{◌+◌, ◌*◌, ◌/◌, ◌<◌}
+use Prim.Native.Nat.{◌+◌, ◌*◌, ◌/◌}
 use native.Mathlib.Nat.{mod-lt}
 use native.Mathlib.Omega.{arith}
 use Rattle.planner.proofs.RouteLaws.{first_are, second_are}
-use borrow.Author.Rules.{rules}
 use Rattle.planner.proofs.routes.first_routes.Goals as goal
 
 pub returns-then-disk-eq0 : goal.returns-then-disk-eq0

@@ -1,6 +1,5 @@
 -- `turn`: the test of the definition; a decided row leaves the routes as they are.
 use Rattle.planner.proofs.RouteLaws.{turn_decides, turn_skips}
-use borrow.Author.Rules.{rules}
 use Rattle.planner.proofs.routes.turn.Goals as goal
 
 pub returns-then-routes-row-eq-UNDECIDED : goal.returns-then-routes-row-eq-UNDECIDED

@@ -5,7 +5,6 @@ use native.Mathlib.Nat.{one-mul}
 use native.Mathlib.Omega.{arith}
 use lib.Dec.{lit<}
 use lib.Pow.{shl_exact, pow_pos}
-use borrow.Author.Rules.{rules}
 use Rattle.planner.proofs.steps.all_bits.Goals as goal
 
 exact : (c : goal.Start) → 1 * 2 ^ c.args.width % 4294967296 ≡ 2 ^ c.args.width

@@ -1,5 +1,4 @@
 -- `by_routes`: the steps of the routes, and their word.
-use borrow.Author.Rules.{rules}
 use Rattle.planner.proofs.PlannedLaws.{given_is}
 use Rattle.planner.proofs.steps.by_routes.Goals as goal
 

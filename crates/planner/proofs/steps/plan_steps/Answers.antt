@@ -1,7 +1,6 @@
 -- `plan_steps`: a data disk takes its routes' steps, P all row sets, Q all diagonals.
 use mathlib.Core.Path.{◌∙◌}
 use native.Mathlib.Omega.{arith}
-use borrow.Author.Rules.{rules}
 use Rattle.planner.proofs.PlannedLaws.{word_is, given_is, data_given, ours_given, parity_steps, row_parity_word, diagonal_parity_word}
 use Rattle.liberation.proofs.OurPlan.{plan_data}
 use Rattle.liberation.proofs.Widths.{width_odd}

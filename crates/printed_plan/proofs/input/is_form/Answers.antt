@@ -4,7 +4,6 @@ use mathlib.Core.Path.{sym, ap₂, ◌∙◌}
 use native.Mathlib.Omega.{arith}
 use lib.ListN.{take}
 use lib.Seq.{length-take-le}
-use borrow.Author.Rules.{rules}
 use Rattle.printed_plan.specs.Input.{input_of}
 use Rattle.text.proofs.WriteLaws.{wrote_long, wrote_front}
 use Rattle.printed_plan.proofs.FormLaws.{no_form_first, no_form_second, form_same}

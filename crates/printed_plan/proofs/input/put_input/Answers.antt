@@ -1,6 +1,5 @@
 -- `put_input`: the names line and the two numbers, one behind the other, are the input.
 use native.Mathlib.Omega.{arith}
-use borrow.Author.Rules.{rules}
 use Rattle.text.proofs.WriteLaws.{wrote_more, wrote_same}
 use Rattle.text.proofs.FieldLaws.{field_most}
 use Rattle.printed_plan.proofs.InputLaws.{input_fields}

@@ -1,7 +1,6 @@
 -- `second_value`: the number begins behind the first comma, which is the second or the third byte
 -- of the values line.
 use mathlib.Core.Path.{sym, ◌∙◌}
-use borrow.Author.Rules.{rules}
 use Rattle.printed_plan.proofs.InputLaws.{second_near, second_far}
 use Rattle.printed_plan.proofs.input.second_value.Goals as goal
 

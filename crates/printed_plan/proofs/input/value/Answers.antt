@@ -1,7 +1,6 @@
 -- `value`: the two bytes from the place on, read as one digit or as two.
 use mathlib.Core.Path.{sym, ap, ap₂, ◌∙◌}
 use Prim.Native.Nat.{ℕ, ◌+◌, ◌-◌, ◌*◌}
-use borrow.Author.Rules.{rules}
 use Rattle.printed_plan.proofs.InputLaws.{value_one, value_two}
 use Rattle.printed_plan.proofs.input.value.Goals as goal
 

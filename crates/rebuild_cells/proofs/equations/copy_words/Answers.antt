@@ -1,9 +1,8 @@
 -- `copy_words`: each turn stores the next word.
-use mathlib.Core.Path.{◌≡◌, ◌∙◌}
-use Prim.Native.Nat.{◌-◌, ◌≤◌}
+use mathlib.Core.Path.{◌∙◌}
 use native.Mathlib.Omega.{arith}
-use lib.ListN.{length, get_or, length-set}
-use Rattle.rebuild_cells.proofs.NearestLoops.{Copied, copy_none, copy_turn, copy_end}
+use lib.ListN.{get_or, length-set}
+use Rattle.rebuild_cells.proofs.NearestLoops.{copy_none, copy_turn, copy_end}
 use Rattle.rebuild_cells.proofs.equations.copy_words.Goals as goal
 
 pub loop-i-init : goal.loop-i-init

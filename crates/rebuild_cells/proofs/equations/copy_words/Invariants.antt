@@ -1,9 +1,8 @@
 -- `copy_words`: each turn stores the next word.
-use mathlib.Core.Path.{◌≡◌, ◌∙◌}
+use mathlib.Core.Path.{◌≡◌}
 use Prim.Native.Nat.{◌-◌, ◌≤◌}
-use native.Mathlib.Omega.{arith}
-use lib.ListN.{length, get_or, length-set}
-use Rattle.rebuild_cells.proofs.NearestLoops.{Copied, copy_none, copy_turn, copy_end}
+use lib.ListN.{length}
+use Rattle.rebuild_cells.proofs.NearestLoops.{Copied}
 use Rattle.rebuild_cells.proofs.equations.copy_words.Given as goal
 
 abbrev pub invariant-loop-i : goal.invariant-loop-i

@@ -1,11 +1,9 @@
 -- `count_missing`: the invariant: the count and the marks still to come make all.
-use mathlib.Core.Path.{◌≡◌, refl}
+use mathlib.Core.Path.{refl}
 use mathlib.Core.Logic.{inl, inr}
-use Prim.Native.Nat.{◌+◌, ◌-◌, ◌≤◌}
 use native.Mathlib.Omega.{arith}
-use lib.ListN.{length, get_or}
-use Rattle.rebuild_cells.specs.Theory.Mending.{missing_cells}
-use Rattle.rebuild_cells.proofs.MarkLoops.{rest_from, count_turn, count_end}
+use lib.ListN.{get_or}
+use Rattle.rebuild_cells.proofs.MarkLoops.{count_turn, count_end}
 use Rattle.rebuild_cells.proofs.equations.count_missing.Goals as goal
 use Rattle.rebuild_cells.proofs.equations.count_missing.Goals.{then-missing-x-ne0, else-missing-x-ne0}
 
@@ -18,11 +16,11 @@ loop-x-preserved c =
     let ms = c.args.missing.now in (
       omega arith,
       (elim c.if-missing-x-ne0.branch [
-        then-missing-x-ne0 w ↦ let e = w.n-is in omega arith
+        | then-missing-x-ne0 w ↦ let e = w.n-is in omega arith
         | else-missing-x-ne0 w ↦ let e = w.n-is in omega arith
       ]),
       count_turn ms l.n c.if-missing-x-ne0.n l.x (get_or ms l.x 0) (omega arith) refl ((elim c.if-missing-x-ne0.branch [
-        then-missing-x-ne0 w ↦ inl (w.if-missing-x-ne0.true, w.n-is)
+        | then-missing-x-ne0 w ↦ inl (w.if-missing-x-ne0.true, w.n-is)
         | else-missing-x-ne0 w ↦ inr (w.if-missing-x-ne0.false, w.n-is)
       ])) l.invariant.2,
     )

@@ -1,11 +1,9 @@
 -- `count_missing`: the invariant: the count and the marks still to come make all.
-use mathlib.Core.Path.{◌≡◌, refl}
-use mathlib.Core.Logic.{inl, inr, ⊎_elim}
+use mathlib.Core.Path.{◌≡◌}
 use Prim.Native.Nat.{◌+◌, ◌-◌, ◌≤◌}
-use native.Mathlib.Omega.{arith}
-use lib.ListN.{length, get_or}
+use lib.ListN.{length}
 use Rattle.rebuild_cells.specs.Theory.Mending.{missing_cells}
-use Rattle.rebuild_cells.proofs.MarkLoops.{rest_from, count_turn, count_end}
+use Rattle.rebuild_cells.proofs.MarkLoops.{rest_from}
 use Rattle.rebuild_cells.proofs.equations.count_missing.Given as goal
 
 abbrev pub invariant-loop-x : goal.invariant-loop-x

@@ -1,9 +1,9 @@
 -- `fill_rows`: each turn puts in the row of a set. The invariant: the rows put in, with those still
 -- to come, are all.
 use mathlib.Core.Path.{sym, ◌∙◌}
-use Prim.Native.Nat.{◌*◌, ◌-◌, ◌<◌}
+use Prim.Native.Nat.{◌*◌, ◌<◌}
 use native.Mathlib.Omega.{arith}
-use Rattle.rebuild_cells.proofs.WordLoops.{Filling, fill_start, fill_turn, fill_end}
+use Rattle.rebuild_cells.proofs.WordLoops.{fill_start, fill_turn, fill_end}
 use Rattle.rebuild_cells.proofs.equations.fill_rows.Goals as goal
 
 -- the set of this turn

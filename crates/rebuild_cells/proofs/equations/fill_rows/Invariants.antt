@@ -1,9 +1,7 @@
 -- `fill_rows`: each turn puts in the row of a set. The invariant: the rows put in, with those still
 -- to come, are all.
-use mathlib.Core.Path.{sym, ◌∙◌}
-use Prim.Native.Nat.{◌*◌, ◌-◌, ◌<◌}
-use native.Mathlib.Omega.{arith}
-use Rattle.rebuild_cells.proofs.WordLoops.{Filling, fill_start, fill_turn, fill_end}
+use Prim.Native.Nat.{◌*◌, ◌-◌}
+use Rattle.rebuild_cells.proofs.WordLoops.{Filling}
 use Rattle.rebuild_cells.proofs.equations.fill_rows.Given as goal
 
 abbrev pub invariant-loop-i : goal.invariant-loop-i

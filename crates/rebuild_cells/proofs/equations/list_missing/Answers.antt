@@ -1,11 +1,11 @@
 -- `list_missing`: the invariant: the cells listed, with those still to come, are all.
 use mathlib.Core.Path.{refl, ◌∙◌}
 use mathlib.Core.Logic.{inl, inr}
-use Prim.Native.Nat.{◌-◌, ◌<◌}
+use Prim.Native.Nat.{◌<◌}
 use native.Mathlib.Omega.{arith}
 use lib.ListN.{length, get_or}
 use Rattle.rebuild_cells.specs.Theory.Mending.{missing_cells}
-use Rattle.rebuild_cells.proofs.MarkLoops.{Listing, list_room, list_turn, list_end}
+use Rattle.rebuild_cells.proofs.MarkLoops.{list_room, list_turn, list_end}
 use Rattle.rebuild_cells.proofs.equations.list_missing.Goals as goal
 use Rattle.rebuild_cells.proofs.equations.list_missing.Goals.{then-missing-x-ne0, else-missing-x-ne0}
 
@@ -34,9 +34,9 @@ loop-x-preserved c =
     let ms = c.args.missing.now in
     list_turn ms c.args.cells.now l.cells c.if-missing-x-ne0.cells l.n c.if-missing-x-ne0.n l.x (get_or ms l.x 0) l.invariant c.requires (omega arith) refl
     ((elim c.if-missing-x-ne0.branch [
-        then-missing-x-ne0 w ↦ inl (w.if-missing-x-ne0.true, w.cells-is, w.n-is)
-        | else-missing-x-ne0 w ↦ inr (w.if-missing-x-ne0.false, w.cells-is, w.n-is)
-      ]))
+      | then-missing-x-ne0 w ↦ inl (w.if-missing-x-ne0.true, w.cells-is, w.n-is)
+      | else-missing-x-ne0 w ↦ inr (w.if-missing-x-ne0.false, w.cells-is, w.n-is)
+    ]))
 
 pub shape_of-cells : goal.shape_of-cells
 shape_of-cells c = c.loop-x.invariant.long

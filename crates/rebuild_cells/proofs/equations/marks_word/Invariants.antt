@@ -1,11 +1,8 @@
 -- `marks_word`: the invariant: the word is that of the cells from i on.
-use mathlib.Core.Path.{◌≡◌, ap, ◌∙◌}
-use Prim.Native.Nat.{ℕ, ◌+◌, ◌*◌, ◌-◌, ◌%◌, ◌^◌, ◌≤◌, ◌<◌}
-use native.Mathlib.Omega.{arith}
-use lib.Bits.{bit_and, and_mask}
-use lib.ListN.{length, get_or, drop}
+use mathlib.Core.Path.{◌≡◌}
+use Prim.Native.Nat.{◌≤◌}
+use lib.ListN.{length, drop}
 use Rattle.rebuild_cells.specs.Words.{marks_word}
-use Rattle.rebuild_cells.proofs.WordLoops.{word_none, word_turn, word_end, word_room}
 use Rattle.rebuild_cells.proofs.equations.marks_word.Given as goal
 
 abbrev pub invariant-loop-i : goal.invariant-loop-i

@@ -1,18 +1,11 @@
 -- `toggle_cells`: each turn toggles the mark of the next cell of the set. The invariant: the cells
 -- still to come, toggled in the marks as they are, give what all give in the marks as they were;
 -- the row is that of a diagonal's cell on the disk that is next.
-use mathlib.Core.Path.{◌≡◌, refl, ◌∙◌}
-use Prim.Native.Nat.{◌+◌, ◌*◌, ◌-◌, ◌%◌, ◌<◌}
-use native.Mathlib.Omega.{arith}
-use lib.Bits.{bit_xor}
-use lib.ListN.{length, get_or, drop, length-set}
-use Rattle.mathematics.proofs.ListLaws.{below_at}
+use mathlib.Core.Path.{◌≡◌}
+use Prim.Native.Nat.{◌+◌, ◌-◌, ◌%◌}
+use lib.ListN.{length, drop}
 use Rattle.liberation.specs.Sets.{set_of}
-use Rattle.liberation.proofs.DiagonalRows.{row_below, row_on}
-use Rattle.liberation.proofs.SetLaws.{set_below}
-use Rattle.parity_sets.proofs.NumberLaws.{row_first}
 use Rattle.stripe_cells.specs.Toggled.{toggled_all}
-use Rattle.stripe_cells.proofs.OddLaws.{toggled_next, toggled_end}
 use Rattle.rebuild_cells.proofs.equations.toggle_cells.Given as goal
 
 abbrev pub invariant-loop-at : goal.invariant-loop-at

@@ -4,7 +4,6 @@ use mathlib.Core.Path.{sym, ap, ◌∙◌}
 use mathlib.Core.List.{List}
 use Prim.Native.Nat.{ℕ}
 use native.Mathlib.Omega.{arith}
-use borrow.Author.Rules.{rules}
 use Rattle.stripe_cells.specs.Toggled.{toggled_all}
 use Rattle.rebuild_cells.proofs.NumberedLaws.{numbered_row, numbered_diagonal}
 use Rattle.rebuild_cells.proofs.equations.toggle_set.Goals as goal

@@ -6,7 +6,6 @@ use Prim.Native.Nat.{ℕ, ◌+◌, ◌*◌, ◌≤◌}
 use native.Mathlib.Omega.{arith}
 use lib.ListN.{length, take, drop, length-append}
 use lib.Seq.{take_at, length-take-le}
-use borrow.Author.Rules.{rules}
 use Rattle.mathematics.specs.Lists.{all_below, distinct}
 use Rattle.rebuild_cells.specs.Theory.Mending.{missing_cells, mended_cells}
 use Rattle.rebuild_cells.proofs.Theory.Marked.{missing_below, missing_distinct}

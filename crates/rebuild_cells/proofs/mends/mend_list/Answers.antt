@@ -5,7 +5,6 @@ use Prim.Native.Nat.{ℕ, ◌*◌}
 use native.Mathlib.Omega.{arith}
 use lib.ListN.{length, take, drop, length-append}
 use lib.Seq.{take_at, length-take-le}
-use borrow.Author.Rules.{rules}
 use Rattle.rebuild_cells.specs.Theory.Mending.{mendable, mended_cells}
 use Rattle.rebuild_cells.proofs.NamedLaws.{list_refused}
 use Rattle.rebuild_cells.proofs.WholeLaws.{listed_whole}
@@ -128,18 +127,17 @@ pub slice_bounds-mend_all-end-then-reduce_cells : goal.slice_bounds-mend_all-end
 slice_bounds-mend_all-end-then-reduce_cells c = sym (words_again c)
 
 pub mend_all-requires : goal.mend_all-requires
-mend_all-requires c =
-    (
-      c.requires.0,
-      record {
-        listed = c.requires.1;
-        ok = sym c.reduce_cells.ensures.0 ∙ c.if-reduce_cells.true;
-        sums = made_2 c ∙ c.reduce_cells.ensures.1;
-        long = ap length (made_2 c) ∙ sums_long_3 c;
-        room = c.requires.2;
-      },
-      words_again_2 c,
-    )
+mend_all-requires c = (
+  c.requires.0,
+  record {
+    listed = c.requires.1;
+    ok = sym c.reduce_cells.ensures.0 ∙ c.if-reduce_cells.true;
+    sums = made_2 c ∙ c.reduce_cells.ensures.1;
+    long = ap length (made_2 c) ∙ sums_long_3 c;
+    room = c.requires.2;
+  },
+  words_again_2 c,
+)
 
 pub returns-then-reduce_cells : goal.returns-then-reduce_cells
 returns-then-reduce_cells c =

@@ -1,7 +1,6 @@
 -- `mend_listed`: whole disks are mended by their rebuild, other cells by their equations.
 use mathlib.Core.Path.{◌≡◌, ap}
 use lib.ListN.{length}
-use borrow.Author.Rules.{rules}
 use Rattle.liberation.proofs.Stripes.SizedLaws.{sized_kept}
 use Rattle.rebuild_cells.specs.Theory.Mending.{mendable, mended_cells}
 use Rattle.rebuild_cells.proofs.WholeLaws.{listed_whole, listed_rest}

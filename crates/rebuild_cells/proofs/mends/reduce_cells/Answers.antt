@@ -1,6 +1,5 @@
 -- `reduce_cells`: the rows of all sets, then their reduction.
 use Prim.Native.Nat.{◌+◌, ◌*◌}
-use borrow.Author.Rules.{rules}
 use Rattle.mathematics.proofs.ListLaws.{below_at}
 use Rattle.rebuild_cells.proofs.NamedLaws.{cells_reduced}
 use Rattle.rebuild_cells.proofs.mends.reduce_cells.Goals as goal

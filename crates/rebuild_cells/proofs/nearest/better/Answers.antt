@@ -2,8 +2,6 @@
 use mathlib.Core.Path.{◌≡◌, sym, ◌∙◌}
 use mathlib.Core.Bool.{true}
 use native.Mathlib.Omega.{arith}
-use borrow.Author.Rules.{rules}
-use borrow.Author.Tests.{not-true, not-false}
 use Rattle.mathematics.specs.BitRows.Parity.{bit}
 use Rattle.rebuild_cells.proofs.NearestLoops.{chosen_same, chosen_new, chosen_kept}
 use Rattle.rebuild_cells.proofs.nearest.better.Goals as goal

@@ -1,5 +1,4 @@
 -- `first_single`: the one that is found is left.
-use Prim.Native.Nat.{◌-◌, ◌≤◌}
 use native.Mathlib.Omega.{arith}
 use Rattle.rebuild_cells.proofs.nearest.first_single.Goals as goal
 

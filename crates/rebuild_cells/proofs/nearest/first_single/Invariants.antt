@@ -1,6 +1,5 @@
 -- `first_single`: the one that is found is left.
 use Prim.Native.Nat.{◌-◌, ◌≤◌}
-use native.Mathlib.Omega.{arith}
 use Rattle.rebuild_cells.proofs.nearest.first_single.Given as goal
 
 abbrev pub invariant-loop-x : goal.invariant-loop-x

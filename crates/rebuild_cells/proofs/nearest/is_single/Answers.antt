@@ -1,8 +1,6 @@
 -- `is_single`: it says so only of an unknown that is left.
 use mathlib.Core.Bool.{true≢false}
 use mathlib.Core.Path.{sym, ◌∙◌}
-use borrow.Author.Rules.{rules}
-use borrow.Author.Tests.{not-false}
 use Rattle.rebuild_cells.proofs.nearest.is_single.Goals as goal
 
 pub returns-then-not-has_bit : goal.returns-then-not-has_bit

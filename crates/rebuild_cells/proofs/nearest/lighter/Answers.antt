@@ -1,7 +1,6 @@
 -- `lighter`: it is one of the two.
 use mathlib.Core.Path.{refl}
 use mathlib.Core.Logic.{inl, inr}
-use borrow.Author.Rules.{rules}
 use Rattle.rebuild_cells.proofs.nearest.lighter.Goals as goal
 
 pub returns-then-names_one : goal.returns-then-names_one

@@ -1,7 +1,5 @@
 -- `lightest`: of the unknowns looked at the best one is chosen.
-use Prim.Native.Nat.{◌-◌, ◌≤◌}
 use native.Mathlib.Omega.{arith}
-use Rattle.rebuild_cells.specs.Renewed.{Chosen}
 use Rattle.rebuild_cells.proofs.NearestLoops.{chosen_none, chosen_end}
 use Rattle.rebuild_cells.proofs.nearest.lightest.Goals as goal
 

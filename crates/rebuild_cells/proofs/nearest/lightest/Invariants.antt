@@ -1,8 +1,6 @@
 -- `lightest`: of the unknowns looked at the best one is chosen.
 use Prim.Native.Nat.{◌-◌, ◌≤◌}
-use native.Mathlib.Omega.{arith}
 use Rattle.rebuild_cells.specs.Renewed.{Chosen}
-use Rattle.rebuild_cells.proofs.NearestLoops.{chosen_none, chosen_end}
 use Rattle.rebuild_cells.proofs.nearest.lightest.Given as goal
 
 abbrev pub invariant-loop-x : goal.invariant-loop-x

@@ -1,7 +1,6 @@
 -- `mend_all`: the words that are changed start as the rows' own.
 use mathlib.Core.Path.{sym, ◌∙◌}
 use native.Mathlib.Omega.{arith}
-use borrow.Author.Rules.{rules}
 use Rattle.rebuild_cells.proofs.nearest.mend_all.Goals as goal
 
 pub copy_words-requires : goal.copy_words-requires

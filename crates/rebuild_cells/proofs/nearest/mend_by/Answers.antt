@@ -2,7 +2,6 @@
 use mathlib.Core.Path.{◌∙◌}
 use native.Mathlib.Nat.{mod-lt}
 use native.Mathlib.Omega.{arith}
-use borrow.Author.Rules.{rules}
 use Rattle.rebuild_cells.proofs.SetSteps.{row_ordinary, row_solved}
 use Rattle.rebuild_cells.proofs.nearest.mend_by.Goals as goal
 

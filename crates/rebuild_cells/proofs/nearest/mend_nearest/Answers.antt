@@ -7,8 +7,7 @@ use Rattle.xor.proofs.SourceLaws.{bytes_all}
 use Rattle.liberation.specs.Stripes.Stripes.{is_stripe}
 use Rattle.liberation.proofs.Stripes.SizedLaws.{sized_long, sized_kept}
 use Rattle.liberation.proofs.Stripes.Solving.{stripe_of}
-use Rattle.rebuild_cells.proofs.Theory.NearLaws.{left_to}
-use Rattle.rebuild_cells.proofs.NearestTurns.{Turning, turn_start, turn_falls, turn_next, turn_end}
+use Rattle.rebuild_cells.proofs.NearestTurns.{turn_start, turn_falls, turn_next, turn_end}
 use Rattle.rebuild_cells.proofs.nearest.mend_nearest.Goals as goal
 
 -- the stripe is a stripe

@@ -1,14 +1,7 @@
 -- `mend_nearest`: each turn mends a cell of those left.
-use mathlib.Core.Path.{◌≡◌, sym, ap, ◌∙◌}
-use mathlib.Core.Bool.{true}
-use native.Mathlib.Omega.{arith}
 use lib.ListN.{length}
-use Rattle.xor.proofs.SourceLaws.{bytes_all}
-use Rattle.liberation.specs.Stripes.Stripes.{is_stripe}
-use Rattle.liberation.proofs.Stripes.SizedLaws.{sized_long, sized_kept}
-use Rattle.liberation.proofs.Stripes.Solving.{stripe_of}
 use Rattle.rebuild_cells.proofs.Theory.NearLaws.{left_to}
-use Rattle.rebuild_cells.proofs.NearestTurns.{Turning, turn_start, turn_falls, turn_next, turn_end}
+use Rattle.rebuild_cells.proofs.NearestTurns.{Turning}
 use Rattle.rebuild_cells.proofs.nearest.mend_nearest.Given as goal
 
 abbrev pub invariant-loop-b : goal.invariant-loop-b

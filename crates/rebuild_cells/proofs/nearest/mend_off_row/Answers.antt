@@ -2,8 +2,6 @@
 use mathlib.Core.Path.{◌∙◌}
 use Prim.Native.Nat.{◌+◌, ◌*◌}
 use native.Mathlib.Nat.{mod-lt}
-use native.Mathlib.Omega.{arith}
-use borrow.Author.Rules.{rules}
 use Rattle.mathematics.proofs.MemberLaws.{in_below}
 use Rattle.rebuild_cells.specs.Theory.Mending.{odd_cells}
 use Rattle.rebuild_cells.proofs.Theory.OddCells.{cells_below}

@@ -1,6 +1,5 @@
 -- `next_unknown`: one that one set gives, or the lightest.
 use native.Mathlib.Omega.{arith}
-use borrow.Author.Rules.{rules}
 use Rattle.rebuild_cells.proofs.NearestLoops.{chosen_single}
 use Rattle.rebuild_cells.proofs.nearest.next_unknown.Goals as goal
 

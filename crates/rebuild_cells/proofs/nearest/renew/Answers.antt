@@ -1,10 +1,7 @@
 -- `renew`: each turn renews a word, or leaves it as it is.
-use mathlib.Core.Path.{◌≡◌, sym, ◌∙◌}
-use Prim.Native.Nat.{◌-◌, ◌≤◌}
+use mathlib.Core.Path.{sym, ◌∙◌}
 use native.Mathlib.Omega.{arith}
-use lib.ListN.{length, length-set}
-use borrow.Author.Rules.{rules}
-use Rattle.rebuild_cells.specs.Renewed.{Renewed}
+use lib.ListN.{length-set}
 use Rattle.rebuild_cells.proofs.NearestLoops.{renew_none, renew_turn}
 use Rattle.rebuild_cells.proofs.nearest.renew.Goals as goal
 

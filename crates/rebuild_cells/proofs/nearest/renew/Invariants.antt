@@ -1,11 +1,8 @@
 -- `renew`: each turn renews a word, or leaves it as it is.
-use mathlib.Core.Path.{◌≡◌, sym, ◌∙◌}
+use mathlib.Core.Path.{◌≡◌}
 use Prim.Native.Nat.{◌-◌, ◌≤◌}
-use native.Mathlib.Omega.{arith}
-use lib.ListN.{length, length-set}
-use borrow.Author.Rules.{rules}
+use lib.ListN.{length}
 use Rattle.rebuild_cells.specs.Renewed.{Renewed}
-use Rattle.rebuild_cells.proofs.NearestLoops.{renew_none, renew_turn}
 use Rattle.rebuild_cells.proofs.nearest.renew.Given as goal
 
 abbrev pub invariant-loop-x : goal.invariant-loop-x

@@ -1,5 +1,4 @@
 -- `toggle_if`: two ways out, by the test.
-use borrow.Author.Rules.{rules}
 use Rattle.rebuild_cells.specs.Theory.Mending.{set_numbered}
 use Rattle.rebuild_cells.proofs.NamedLaws.{if_named, if_none}
 use Rattle.rebuild_cells.proofs.one_cell.toggle_if.Goals as goal

@@ -1,11 +1,7 @@
 -- `toggle_named`: each turn toggles for a set. The invariant: the sets still to come, toggled in
 -- the marks as they are, give what all give in the marks as they were.
-use mathlib.Core.Path.{◌≡◌, refl, ◌∙◌}
-use Prim.Native.Nat.{◌*◌, ◌≤◌}
+use mathlib.Core.Path.{refl, ◌∙◌}
 use native.Mathlib.Omega.{arith}
-use lib.ListN.{length}
-use Rattle.rebuild_cells.specs.Theory.Mending.{named_to}
-use Rattle.stripe_cells.specs.Toggled.{toggled_all}
 use Rattle.rebuild_cells.proofs.NamedLaws.{named_turn, named_end}
 use Rattle.rebuild_cells.proofs.one_cell.toggle_named.Goals as goal
 

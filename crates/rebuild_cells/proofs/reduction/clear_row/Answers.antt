@@ -1,5 +1,4 @@
 -- `clear_row`: three ways out, by the two tests.
-use borrow.Author.Rules.{rules}
 use borrow.Author.Tests.{eq-eqb, ne_eqb}
 use Rattle.mathematics.specs.BitRows.Rows.{rows}
 use Rattle.rebuild_cells.proofs.RowLoops.{row_same, row_kept, row_added_lem}

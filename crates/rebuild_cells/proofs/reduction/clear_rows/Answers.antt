@@ -1,10 +1,9 @@
 -- `clear_rows`: each turn clears a row. The invariant: the rows still to come, cleared from the
 -- rows as they are, give what all give from the rows as they were.
-use mathlib.Core.Path.{◌≡◌, refl, sym, ◌∙◌}
-use Prim.Native.Nat.{◌-◌, ◌≤◌}
+use mathlib.Core.Path.{refl, sym, ◌∙◌}
 use native.Mathlib.Omega.{arith}
 use lib.ListN.{length}
-use Rattle.mathematics.specs.BitRows.Rows.{rows, cleared_from}
+use Rattle.mathematics.specs.BitRows.Rows.{rows}
 use Rattle.rebuild_cells.proofs.RowLoops.{clear_start, clear_turn, clear_end}
 use Rattle.rebuild_cells.proofs.reduction.clear_rows.Goals as goal
 

@@ -1,10 +1,8 @@
 -- `has_bit`: the lowest bit of what is left after the shift is its remainder by 2.
 use mathlib.Core.Path.{ap}
-use mathlib.Core.Bool.{Bool}
 use Prim.Native.Nat.{ℕ, ◌/◌, ◌^◌}
 use lib.Bits.{and_mask}
 use lib.Dec.{eqb}
-use borrow.Author.Rules.{rules}
 use Rattle.rebuild_cells.proofs.reduction.has_bit.Goals as goal
 
 pub returns : goal.returns

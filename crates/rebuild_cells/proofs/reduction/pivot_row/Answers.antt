@@ -1,9 +1,7 @@
 -- `pivot_row`: the search goes on from the row that is looked at.
 use mathlib.Core.Path.{◌≡◌, refl, ◌∙◌}
-use Prim.Native.Nat.{◌-◌, ◌≤◌}
 use native.Mathlib.Omega.{arith}
 use lib.ListN.{length, get_or}
-use Rattle.mathematics.specs.Sums.{first_from}
 use Rattle.mathematics.specs.BitRows.Parity.{bit}
 use Rattle.rebuild_cells.proofs.RowLoops.{seek_here, seek_turn, seek_end}
 use Rattle.rebuild_cells.proofs.reduction.pivot_row.Goals as goal

@@ -6,7 +6,7 @@ use native.Mathlib.Omega.{arith}
 use lib.ListN.{length, get_or}
 use Rattle.mathematics.specs.Sums.{first_from}
 use Rattle.mathematics.specs.BitRows.Parity.{bit}
-use Rattle.mathematics.specs.BitRows.Rows.{rows, pivot, column_done, reduced_from}
+use Rattle.mathematics.specs.BitRows.Rows.{rows, pivot, column_done}
 use Rattle.mathematics.proofs.BitRows.Reducing.{first_low}
 use Rattle.rebuild_cells.proofs.RowLoops.{reduce_start, reduce_turn, reduce_stop, reduce_end}
 use Rattle.rebuild_cells.proofs.reduction.reduce.Goals as goal

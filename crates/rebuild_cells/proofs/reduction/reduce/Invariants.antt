@@ -1,14 +1,9 @@
 -- `reduce`: each turn does an unknown. The invariant: the unknowns still to come, reduced from the
 -- rows as they are, give what all give from the rows as they were.
-use mathlib.Core.Path.{◌≡◌, refl, sym, ap, ◌∙◌}
-use Prim.Native.Nat.{ℕ, ◌-◌, ◌≤◌}
-use native.Mathlib.Omega.{arith}
-use lib.ListN.{length, get_or}
-use Rattle.mathematics.specs.Sums.{first_from}
-use Rattle.mathematics.specs.BitRows.Parity.{bit}
-use Rattle.mathematics.specs.BitRows.Rows.{rows, pivot, column_done, reduced_from}
-use Rattle.mathematics.proofs.BitRows.Reducing.{first_low}
-use Rattle.rebuild_cells.proofs.RowLoops.{reduce_start, reduce_turn, reduce_stop, reduce_end}
+use mathlib.Core.Path.{◌≡◌}
+use Prim.Native.Nat.{◌-◌, ◌≤◌}
+use lib.ListN.{length}
+use Rattle.mathematics.specs.BitRows.Rows.{rows, reduced_from}
 use Rattle.rebuild_cells.proofs.reduction.reduce.Given as goal
 
 abbrev pub invariant-loop-b : goal.invariant-loop-b

@@ -1,5 +1,4 @@
 -- `reduce_column`: the one call after the other.
-use borrow.Author.Rules.{rules}
 use lib.ListN.{length}
 use Rattle.mathematics.specs.BitRows.Rows.{rows}
 use Rattle.rebuild_cells.proofs.RowLoops.{column_is}

@@ -1,6 +1,5 @@
 -- `take_pivot`: the words are exchanged, and the sums.
 use mathlib.Core.Path.{ap₂}
-use borrow.Author.Rules.{rules}
 use Rattle.mathematics.specs.BitRows.Rows.{rows}
 use Rattle.rebuild_cells.proofs.reduction.take_pivot.Goals as goal
 

@@ -1,9 +1,7 @@
 -- `is_run`: the numbers passed are a run.
 use mathlib.Core.Bool.{true≢false}
 use mathlib.Core.Path.{sym}
-use Prim.Native.Nat.{◌-◌, ◌≤◌}
 use native.Mathlib.Omega.{arith}
-use Rattle.rebuild_cells.specs.Listed.{RunFrom}
 use Rattle.rebuild_cells.proofs.RunLaws.{run_none, run_turn, run_end}
 use Rattle.rebuild_cells.proofs.whole_disks.is_run.Goals as goal
 

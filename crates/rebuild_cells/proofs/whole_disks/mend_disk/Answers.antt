@@ -2,7 +2,6 @@
 use mathlib.Core.Path.{◌≡◌, sym, subst, ◌∙◌}
 use Prim.Native.Nat.{ℕ, ◌+◌, ◌*◌, ◌≤◌}
 use native.Mathlib.Omega.{arith}
-use borrow.Author.Rules.{rules}
 use Rattle.liberation.proofs.Stripes.SizedLaws.{sized_long}
 use Rattle.rebuild_cells.specs.Listed.{RunFrom}
 use Rattle.rebuild_cells.proofs.Theory.OneDisk.{disk_mendable, disk_mended, q_mendable, q_mended}

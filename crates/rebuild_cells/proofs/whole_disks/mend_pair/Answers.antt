@@ -2,7 +2,6 @@
 use mathlib.Core.Path.{◌≡◌, sym, ◌∙◌}
 use Prim.Native.Nat.{◌+◌, ◌<◌}
 use native.Mathlib.Omega.{arith}
-use borrow.Author.Rules.{rules}
 use Rattle.xor.proofs.SourceLaws.{bytes_all}
 use Rattle.liberation.proofs.Stripes.SizedLaws.{sized_long}
 use Rattle.liberation.proofs.Stripes.Solving.{stripe_of}

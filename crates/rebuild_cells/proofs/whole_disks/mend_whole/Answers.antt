@@ -1,5 +1,4 @@
 -- `mend_whole`: so many cells may be those of one disk or of two.
-use borrow.Author.Rules.{rules}
 use Rattle.rebuild_cells.proofs.WholeLaws.{whole_none}
 use Rattle.rebuild_cells.proofs.whole_disks.mend_whole.Goals as goal
 

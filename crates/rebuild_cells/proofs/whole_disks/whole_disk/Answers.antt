@@ -2,7 +2,6 @@
 use Prim.Native.Nat.{◌*◌, ◌/◌, ◌≤◌}
 use native.Mathlib.Omega.{arith}
 use lib.ListN.{get_or}
-use borrow.Author.Rules.{rules}
 use Rattle.mathematics.proofs.ListLaws.{below_at}
 use Rattle.rebuild_cells.proofs.WholeLaws.{disk_start}
 use Rattle.rebuild_cells.proofs.whole_disks.whole_disk.Goals as goal

@@ -8,7 +8,6 @@ use Rattle.liberation.specs.Stripes.Stripes.{rebuilt_by}
 use Rattle.liberation.specs.Stripes.StripeLimits.{Sized}
 use Rattle.planner.proofs.BalancedLaws.{balanced_held, held_accepted}
 use Rattle.rebuild_one.proofs.OneRefusals.{refusal_none}
-use borrow.Author.Rules.{rules}
 use Rattle.rebuild_one.proofs.balanced.balanced_column.Goals as goal
 
 -- no refusal

@@ -3,14 +3,12 @@
 -- it was.
 use mathlib.Core.Path.{◌≡◌, refl, sym, ap, ◌∙◌}
 use mathlib.Core.List.{List}
-use Prim.Native.Nat.{ℕ, ◌-◌, ◌≤◌}
+use Prim.Native.Nat.{ℕ, ◌≤◌}
 use native.Mathlib.Omega.{arith}
-use lib.ListN.{length, get_or}
-use borrow.Author.Rules.{rules}
+use lib.ListN.{get_or}
 use Rattle.liberation.specs.Plans.{plan_of}
 use Rattle.liberation.proofs.RecordLaws.{StepAt, step_at_lem, plan_length}
-use Rattle.liberation.specs.Stripes.Stripes.{followed}
-use Rattle.rebuild_one.proofs.InPlaceSteps.{plan_ordinary, steps_rest, steps_turn, steps_last}
+use Rattle.rebuild_one.proofs.InPlaceSteps.{plan_ordinary, steps_turn, steps_last}
 use Rattle.liberation.proofs.Stripes.SizedLaws.{sized_kept}
 use Rattle.rebuild_one.proofs.in_place.follow_within.Goals as goal
 

@@ -1,17 +1,12 @@
 -- `follow_within`: each turn does the next step of our plan, which solves an ordinary cell. The invariant:
 -- the steps still to come, done to the stripe as it is, give what all steps give to the stripe as
 -- it was.
-use mathlib.Core.Path.{◌≡◌, refl, sym, ap, ◌∙◌}
-use mathlib.Core.List.{List}
-use Prim.Native.Nat.{ℕ, ◌-◌, ◌≤◌}
-use native.Mathlib.Omega.{arith}
-use lib.ListN.{length, get_or}
-use borrow.Author.Rules.{rules}
+use mathlib.Core.Path.{◌≡◌}
+use Prim.Native.Nat.{◌-◌, ◌≤◌}
+use lib.ListN.{length}
 use Rattle.liberation.specs.Plans.{plan_of}
-use Rattle.liberation.proofs.RecordLaws.{StepAt, step_at_lem, plan_length}
 use Rattle.liberation.specs.Stripes.Stripes.{followed}
-use Rattle.rebuild_one.proofs.InPlaceSteps.{plan_ordinary, steps_rest, steps_turn, steps_last}
-use Rattle.liberation.proofs.Stripes.SizedLaws.{sized_kept}
+use Rattle.rebuild_one.proofs.InPlaceSteps.{steps_rest}
 use Rattle.rebuild_one.proofs.in_place.follow_within.Given as goal
 
 abbrev pub invariant-loop-i : goal.invariant-loop-i

@@ -1,5 +1,4 @@
 -- `rebuild_within`: our plan is made and followed.
-use borrow.Author.Rules.{rules}
 use Rattle.rebuild_one.proofs.in_place.rebuild_within.Goals as goal
 
 pub plan_steps-plan-requires : goal.plan_steps-plan-requires

@@ -1,14 +1,13 @@
 -- `follow`: each turn does the next step of the plan. The invariant: the steps still to come, on
 -- the stripe with the column as it stands, give what all steps give; one list serves for all.
-use mathlib.Core.Path.{◌≡◌, sym, ◌∙◌}
-use Prim.Native.Nat.{◌-◌, ◌≤◌}
+use mathlib.Core.Path.{sym, ◌∙◌}
+use Prim.Native.Nat.{◌≤◌}
 use native.Mathlib.Omega.{arith}
-use lib.ListN.{length}
 use borrow.Author.Rules.{rules}
 use Rattle.planner.specs.StepRecords.{held}
 use Rattle.planner.proofs.HeldLaws.{step_at, held_at, held_passed}
 use Rattle.xor.proofs.SourceLaws.{bytes_all}
-use Rattle.rebuild_one.proofs.FollowLaws.{Stepping, stepping_start, stepping_turn, stepping_end}
+use Rattle.rebuild_one.proofs.FollowLaws.{stepping_start, stepping_turn, stepping_end}
 use Rattle.rebuild_one.proofs.into_column.follow.Goals as goal
 
 small : (c : goal.In-loop-i) → c.args.width ≤ 31

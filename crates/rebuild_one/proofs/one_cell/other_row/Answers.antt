@@ -2,7 +2,6 @@
 -- elsewhere or absent. Of two cells there, one is that of the row.
 use mathlib.Core.Path.{◌≡◌, sym, ◌∙◌}
 use native.Mathlib.Omega.{arith}
-use borrow.Author.Rules.{rules}
 use Rattle.liberation.specs.Sets.{extra_disk}
 use Rattle.rebuild_one.proofs.LostLaws.{alone_row, alone_first, alone_parity, alone_off, other_extra, other_ordinary}
 use Rattle.rebuild_one.proofs.one_cell.other_row.Goals as goal

@@ -3,7 +3,6 @@
 use mathlib.Core.Path.{◌≡◌, refl, sym, ap, ◌∙◌}
 use Prim.Native.Nat.{ℕ, ◌-◌, ◌*◌, ◌^◌, ◌<◌}
 use native.Mathlib.Omega.{arith}
-use borrow.Author.Rules.{rules}
 use Rattle.rebuild_runs.specs.Runs.{read_refusal}
 use Rattle.rebuild_runs.proofs.RunRefusals.{read_passed}
 use Rattle.rebuild_runs.proofs.ProgressLaws.{progress_refused, reads_are, progress_done, product_fits}

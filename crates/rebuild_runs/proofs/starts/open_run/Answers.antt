@@ -1,6 +1,5 @@
 -- `open_run`: a refusal gives the record of zeros, else the new record.
 use mathlib.Core.Path.{sym, ◌∙◌}
-use borrow.Author.Rules.{rules}
 use Rattle.rebuild_runs.proofs.OpenLaws.{open_refused, open_done}
 use Rattle.rebuild_runs.proofs.starts.open_run.Goals as goal
 

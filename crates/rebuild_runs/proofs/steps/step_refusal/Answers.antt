@@ -2,7 +2,6 @@
 -- of the stripe number.
 use mathlib.Core.Path.{◌≡◌, sym, ◌∙◌}
 use native.Mathlib.Omega.{arith}
-use borrow.Author.Rules.{rules}
 use Rattle.mathematics.specs.Choice.{first_of}
 use Rattle.mathematics.proofs.ChoiceLaws.{first_kept, first_next}
 use Rattle.rebuild_one.specs.RebuildOneSays.{lengths_refusal}

@@ -2,7 +2,6 @@
 -- the record moves on by one.
 use mathlib.Core.Path.{◌≡◌, sym, ◌∙◌}
 use native.Mathlib.Omega.{arith}
-use borrow.Author.Rules.{rules}
 use Rattle.xor.proofs.SourceLaws.{bytes_all}
 use Rattle.rebuild_runs.specs.StepSays.{run_step_refusal}
 use Rattle.rebuild_runs.proofs.StepRefusals.{step_passed, step_refused, step_done}

@@ -1,6 +1,5 @@
 -- `tested_column`: a data disk or P by the row sets, which give the rebuilt column since the disk
 -- fits; Q by our plan.
-use borrow.Author.Rules.{rules}
 use Rattle.xor.proofs.SourceLaws.{bytes_all}
 use Rattle.rebuild_tested.proofs.TestedRows.{rows_ask, rows_tested}
 use Rattle.rebuild_tested.proofs.columns.tested_column.Goals as goal

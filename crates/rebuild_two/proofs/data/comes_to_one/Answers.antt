@@ -1,10 +1,7 @@
 -- `comes_to_one`: each turn tries one multiple. The invariant: 1 is among those still to come
 -- exactly if it is among all.
-use mathlib.Core.Path.{◌≡◌, refl, sym, ◌∙◌}
-use Prim.Native.Nat.{◌-◌, ◌/◌, ◌<◌}
+use mathlib.Core.Path.{refl, sym, ◌∙◌}
 use native.Mathlib.Omega.{arith}
-use borrow.Author.Rules.{rules}
-use Rattle.liberation.specs.TwoDisks.Pairs.{comes_to_one}
 use Rattle.parity_sets.proofs.NumberLaws.{next_below}
 use Rattle.rebuild_two.proofs.RoleLaws.{one_found, one_turn, one_none}
 use Rattle.rebuild_two.proofs.data.comes_to_one.Goals as goal

@@ -1,6 +1,5 @@
 -- `goes_forward`: never from disk 0; else by the multiples of the gap.
 use mathlib.Core.Path.{sym, ◌∙◌}
-use borrow.Author.Rules.{rules}
 use Rattle.rebuild_two.proofs.RoleLaws.{forward_zero, forward_other}
 use Rattle.rebuild_two.proofs.data.goes_forward.Goals as goal
 

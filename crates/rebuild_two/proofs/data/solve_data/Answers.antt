@@ -1,7 +1,6 @@
 -- `solve_data`: the walk goes from a to b, or from b to a.
 use mathlib.Core.Path.{◌≡◌}
 use mathlib.Core.Bool.{true}
-use borrow.Author.Rules.{rules}
 use Rattle.mathematics.specs.Xor.{all_bytes}
 use Rattle.xor.proofs.SourceLaws.{bytes_all}
 use Rattle.rebuild_two.proofs.DataLaws.{solved_forward, solved_back, walked_forward, walked_back}

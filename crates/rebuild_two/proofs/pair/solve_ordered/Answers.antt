@@ -1,6 +1,5 @@
 -- `solve_ordered`: by the higher disk, which is a data disk, P or Q.
 use native.Mathlib.Omega.{arith}
-use borrow.Author.Rules.{rules}
 use Rattle.rebuild_two.proofs.DiskLaws.{ordered_data, ordered_row, ordered_diagonal}
 use Rattle.rebuild_two.proofs.pair.solve_ordered.Goals as goal
 

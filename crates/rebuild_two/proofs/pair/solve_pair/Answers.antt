@@ -1,5 +1,4 @@
 -- `solve_pair`: the lower disk first.
-use borrow.Author.Rules.{rules}
 use Rattle.rebuild_two.proofs.DiskLaws.{pair_ordered, pair_turned}
 use Rattle.rebuild_two.proofs.pair.solve_pair.Goals as goal
 

@@ -1,17 +1,13 @@
 -- `up_diagonals`: each turn does the next step. The invariant: the steps still to come, done to the
 -- stripe as it is, give what all steps give to the stripe as it was.
-use mathlib.Core.Path.{◌≡◌, refl, sym, ap, ◌∙◌}
-use Prim.Native.Nat.{ℕ, ◌+◌, ◌-◌, ◌%◌, ◌≤◌}
+use mathlib.Core.Path.{refl, sym, ap, ◌∙◌}
+use Prim.Native.Nat.{ℕ, ◌+◌, ◌%◌}
 use native.Mathlib.Omega.{arith}
-use lib.ListN.{length}
-use borrow.Author.Rules.{rules}
 use Rattle.liberation.proofs.RowSteps.{ordinary_row}
-use Rattle.liberation.specs.Stripes.Stripes.{followed}
-use Rattle.liberation.specs.TwoDisks.Pairs.{up_diagonals}
 use Rattle.parity_sets.proofs.NumberLaws.{numbered}
 use Rattle.stripe_cells.proofs.OrdinaryLaws.{diagonal_own}
 use Rattle.liberation.proofs.Stripes.SizedLaws.{sized_kept}
-use Rattle.rebuild_two.proofs.UpLaws.{up_rest, up_first, up_turn, up_last}
+use Rattle.rebuild_two.proofs.UpLaws.{up_first, up_turn, up_last}
 use Rattle.rebuild_two.proofs.with_parity.up_diagonals.Goals as goal
 
 pub loop-i-init : goal.loop-i-init

@@ -1,5 +1,4 @@
 -- `with_diagonal_parity`: one disk after the other.
-use borrow.Author.Rules.{rules}
 use Rattle.rebuild_two.proofs.ParityLaws.{diagonal_done}
 use Rattle.rebuild_two.proofs.with_parity.with_diagonal_parity.Goals as goal
 

@@ -1,6 +1,5 @@
 -- `with_row_parity`: one disk after the other.
 use native.Mathlib.Omega.{arith}
-use borrow.Author.Rules.{rules}
 use Rattle.liberation.proofs.Stripes.SizedLaws.{sized_kept}
 use Rattle.rebuild_two.proofs.ParityLaws.{row_done}
 use Rattle.rebuild_two.proofs.with_parity.with_row_parity.Goals as goal

@@ -1,7 +1,6 @@
 -- `disk_refusal`: a disk past the data disks is P, Q, or refused.
 use mathlib.Core.Path.{sym}
 use native.Mathlib.Omega.{arith}
-use borrow.Author.Rules.{rules}
 use Rattle.liberation.proofs.RefusalLaws.{disk_refused, disk_accepted}
 use Rattle.refusals.proofs.limits.disk_refusal.Goals as goal
 

@@ -1,7 +1,6 @@
 -- `check_stripe`: a refusal, or whether the stripe is clean.
 use mathlib.Core.Path.{◌≡◌, sym, ◌∙◌}
 use mathlib.Core.Bool.{true}
-use borrow.Author.Rules.{rules}
 use Rattle.mathematics.specs.Xor.{all_bytes}
 use Rattle.xor.proofs.SourceLaws.{bytes_all}
 use Rattle.liberation.specs.Stripes.StripeLimits.{Sized}

@@ -1,13 +1,10 @@
 -- `diagonals_are_clean`: the sets so far are clean, and the first that is not ends the loop.
-use mathlib.Core.Path.{◌≡◌, sym}
+use mathlib.Core.Path.{◌≡◌}
 use mathlib.Core.Bool.{true}
 use Prim.Native.Nat.{◌-◌, ◌≤◌}
-use native.Mathlib.Omega.{arith}
 use lib.ListN.{length}
-use borrow.Author.Rules.{rules}
 use Rattle.mathematics.specs.Sums.{all_to}
 use Rattle.liberation.specs.Stripes.Stripes.{set_clean}
-use Rattle.mathematics.proofs.AllLaws.{all_start, all_more, all_fails, all_seen}
 use Rattle.scrub.proofs.clean.diagonals_are_clean.Given as goal
 
 abbrev pub invariant-loop-number : goal.invariant-loop-number

@@ -1,6 +1,4 @@
 -- `is_clean`: the sets of both kinds, the diagonals only where all rows are clean.
-use borrow.Author.Tests.{not-true, not-false}
-use borrow.Author.Rules.{rules}
 use Rattle.scrub.proofs.CheckLaws.{clean_rows, clean_both}
 use Rattle.scrub.proofs.clean.is_clean.Goals as goal
 

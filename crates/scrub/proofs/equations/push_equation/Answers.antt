@@ -1,7 +1,6 @@
 -- `push_equation`: a row set for Q, a diagonal set for P, a diagonal set and the row sets of its
 -- rows there for a data disk.
 use native.Mathlib.Omega.{arith}
-use borrow.Author.Rules.{rules}
 use Rattle.scrub.proofs.EquationLists.{last_pushed, row_parity_pushed, data_pushed}
 use Rattle.scrub.proofs.equations.push_equation.Goals as goal
 

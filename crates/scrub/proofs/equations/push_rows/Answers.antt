@@ -4,7 +4,6 @@ use mathlib.Core.Path.{◌≡◌}
 use Prim.Native.Nat.{◌+◌, ◌%◌, ◌<◌}
 use native.Mathlib.Nat.{mod-lt}
 use native.Mathlib.Omega.{arith}
-use borrow.Author.Rules.{rules}
 use Rattle.scrub.proofs.EquationLists.{rows_zero, rows_apart, rows_both}
 use Rattle.scrub.proofs.equations.push_rows.Goals as goal
 

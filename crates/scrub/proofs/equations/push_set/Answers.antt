@@ -1,7 +1,6 @@
 -- `push_set`: the set's list is made in the part of the lent list that starts after the first
 -- `count` numbers.
 use native.Mathlib.Omega.{arith}
-use borrow.Author.Rules.{rules}
 use Rattle.scrub.proofs.EquationLists.{set_after}
 use Rattle.scrub.proofs.equations.push_set.Goals as goal
 

@@ -1,5 +1,4 @@
 -- `disk_fits`: all equations hold exactly if the disk fits.
-use borrow.Author.Rules.{rules}
 use Rattle.scrub.proofs.fit.disk_fits.Goals as goal
 
 pub equations_passed-requires : goal.equations_passed-requires

@@ -1,6 +1,5 @@
 -- `extra_diagonal`: the answers are below the width.
 use native.Mathlib.Omega.{arith}
-use borrow.Author.Rules.{rules}
 use Prim.Native.Nat.{◌/◌}
 use Rattle.parity_sets.proofs.NumberLaws.{numbered}
 use Rattle.scrub.proofs.suspects.extra_diagonal.Goals as goal

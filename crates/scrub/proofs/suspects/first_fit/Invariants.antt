@@ -1,13 +1,9 @@
 -- `first_fit`: no disk so far fits, and the first that does ends the loop.
 use mathlib.Core.Path.{◌≡◌}
 use Prim.Native.Nat.{◌+◌, ◌-◌, ◌≤◌}
-use native.Mathlib.Omega.{arith}
-use lib.Dec.{eqb}
 use lib.ListN.{length}
-use borrow.Author.Rules.{rules}
-use borrow.Author.Tests.{eq-eqb, ne_eqb}
 use Rattle.liberation.specs.Scrub.Survivors.{suspect}
-use Rattle.scrub.proofs.FitLaws.{first_on, first_all, first_here, first_after, first_none}
+use Rattle.scrub.proofs.FitLaws.{first_on}
 use Rattle.scrub.proofs.suspects.first_fit.Given as goal
 
 abbrev pub invariant-loop-disk : goal.invariant-loop-disk

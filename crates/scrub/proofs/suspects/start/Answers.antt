@@ -1,6 +1,5 @@
 -- `start`: each of the three numbers is below the width.
 use native.Mathlib.Omega.{arith}
-use borrow.Author.Rules.{rules}
 use Rattle.parity_sets.proofs.NumberLaws.{numbered}
 use Rattle.scrub.proofs.suspects.start.Goals as goal
 

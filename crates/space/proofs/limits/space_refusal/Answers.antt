@@ -3,7 +3,6 @@ use mathlib.Core.Path.{◌≡◌, refl, sym, ◌∙◌}
 use mathlib.Core.Bool.{true, false}
 use lib.ListN.{length}
 use borrow.Author.Tests.{lt-ltb, le-ltb}
-use borrow.Author.Rules.{rules}
 use Rattle.mathematics.specs.Choice.{first_of}
 use Rattle.mathematics.specs.Sums.{total}
 use Rattle.mathematics.proofs.ChoiceLaws.{first_kept}

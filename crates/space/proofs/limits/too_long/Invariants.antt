@@ -1,12 +1,9 @@
 -- `too_long`: what has been seen and what is left of the list make up the whole, and a length above
 -- what 2^48 leaves takes the whole over it, since the lengths after it only add to it.
-use mathlib.Core.Path.{◌≡◌, sym}
+use mathlib.Core.Path.{◌≡◌}
 use Prim.Native.Nat.{◌+◌, ◌-◌, ◌^◌, ◌≤◌}
-use native.Mathlib.Omega.{arith}
 use lib.ListN.{length, drop}
-use borrow.Author.Tests.{lt-ltb, le-ltb}
 use Rattle.mathematics.specs.Sums.{total}
-use Rattle.space.proofs.LeftLaws.{left_none, left_next}
 use Rattle.space.proofs.limits.too_long.Given as goal
 
 -- the lengths before place i add up to seen, which is at most 2^48

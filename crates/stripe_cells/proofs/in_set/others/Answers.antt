@@ -3,7 +3,6 @@ use mathlib.Core.Path.{sym, ap}
 use mathlib.Core.List.{List, ◌++◌}
 use Prim.Native.Nat.{ℕ}
 use native.Mathlib.Omega.{arith}
-use borrow.Author.Rules.{rules}
 use Rattle.stripe_cells.specs.OrdinaryCells.{survivors, ordinary_of}
 use Rattle.stripe_cells.specs.SetCells.{extra_in}
 use Rattle.stripe_cells.proofs.OrdinaryLists.{both_pushed}

@@ -4,7 +4,6 @@ use mathlib.Core.Path.{ap, subst, sym, ◌∙◌}
 use mathlib.Core.List.{List, [], ◌∷◌}
 use Prim.Native.Nat.{ℕ}
 use native.Mathlib.Omega.{arith}
-use borrow.Author.Rules.{rules}
 use Rattle.liberation.specs.Sets.{place, extra_row}
 use Rattle.stripe_cells.specs.Offsets.{scaled, Pushed}
 use Rattle.stripe_cells.specs.OrdinaryCells.{survivors}

@@ -1,6 +1,5 @@
 -- `surviving`: the ordinary cells, then the extra cell, each but on the lost disks.
 use native.Mathlib.Omega.{arith}
-use borrow.Author.Rules.{rules}
 use Rattle.stripe_cells.proofs.SetLists.{ordinary_most, set_pushed}
 use Rattle.stripe_cells.proofs.in_set.surviving.Goals as goal
 

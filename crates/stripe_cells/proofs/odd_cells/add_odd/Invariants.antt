@@ -1,11 +1,9 @@
 -- `add_odd`: list after list. The invariant: what stands in the cell, with the odd cells still to
 -- come, is the XOR of all.
-use mathlib.Core.Path.{◌≡◌, refl}
-use Prim.Native.Nat.{◌-◌, ◌*◌}
-use native.Mathlib.Omega.{arith}
-use lib.ListN.{length, set, length-set}
-use Rattle.xor.proofs.SourceLaws.{bytes_all}
-use Rattle.stripe_cells.proofs.GatherLaws.{Gathering, own_first, start_own, gathering_none, gathering_next, gathering_end, still_marked, own_small}
+use mathlib.Core.Path.{◌≡◌}
+use Prim.Native.Nat.{◌-◌}
+use lib.ListN.{length}
+use Rattle.stripe_cells.proofs.GatherLaws.{Gathering}
 use Rattle.stripe_cells.proofs.odd_cells.add_odd.Given as goal
 
 abbrev pub invariant-loop-next : goal.invariant-loop-next

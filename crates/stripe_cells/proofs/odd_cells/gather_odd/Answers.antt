@@ -1,6 +1,5 @@
 -- `gather_odd`: the first list, and the rest added.
 use native.Mathlib.Omega.{arith}
-use borrow.Author.Rules.{rules}
 use Rattle.stripe_cells.proofs.GatherLaws.{start_none, all_gathered, still_marked}
 use Rattle.stripe_cells.proofs.odd_cells.gather_odd.Goals as goal
 

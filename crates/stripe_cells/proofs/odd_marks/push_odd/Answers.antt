@@ -1,13 +1,13 @@
 -- `push_odd`: each turn pushes the offset of an odd place, or passes over it; a full list ends the
 -- loop.
 use mathlib.Core.Path.{refl, sym, ◌∙◌}
-use mathlib.Core.Logic.{inl, inr, ⊎_elim}
-use Prim.Native.Nat.{◌-◌, ◌≤◌}
+use mathlib.Core.Logic.{inl, inr}
+use Prim.Native.Nat.{◌≤◌}
 use native.Mathlib.Nat.{mul-le-mul}
 use native.Mathlib.Omega.{arith}
 use lib.Bits.{and_mask}
 use lib.ListN.{get_or}
-use Rattle.stripe_cells.proofs.ListedLaws.{OddPushing, odd_turn}
+use Rattle.stripe_cells.proofs.ListedLaws.{odd_turn}
 use Rattle.stripe_cells.proofs.odd_marks.push_odd.Goals as goal
 use Rattle.stripe_cells.proofs.odd_marks.push_odd.Goals.{then-marks-x-eq1, else-marks-x-eq1}
 
@@ -36,7 +36,7 @@ loop-x-preserved c =
     let low = and_mask (get_or a.marks.now l.x 0) 1 in
     odd_turn l.invariant (omega arith) c.if-marks-x-eq1.at c.if-marks-x-eq1.n (omega arith)
     (elim c.if-marks-x-eq1.branch [
-      then-marks-x-eq1 w ↦ inl (sym low ∙ w.if-marks-x-eq1.true, w.at-is, w.n-is)
+      | then-marks-x-eq1 w ↦ inl (sym low ∙ w.if-marks-x-eq1.true, w.at-is, w.n-is)
       | else-marks-x-eq1 w ↦ inr ((λ e. w.if-marks-x-eq1.false (low ∙ e)), w.at-is, w.n-is)
     ])
 

@@ -1,13 +1,7 @@
 -- `push_odd`: each turn pushes the offset of an odd place, or passes over it; a full list ends the
 -- loop.
-use mathlib.Core.Path.{refl, sym, ◌∙◌}
-use mathlib.Core.Logic.{inl, inr, ⊎_elim}
-use Prim.Native.Nat.{◌-◌, ◌≤◌}
-use native.Mathlib.Nat.{mul-le-mul}
-use native.Mathlib.Omega.{arith}
-use lib.Bits.{and_mask}
-use lib.ListN.{get_or}
-use Rattle.stripe_cells.proofs.ListedLaws.{OddPushing, odd_turn}
+use Prim.Native.Nat.{◌-◌}
+use Rattle.stripe_cells.proofs.ListedLaws.{OddPushing}
 use Rattle.stripe_cells.proofs.odd_marks.push_odd.Given as goal
 
 abbrev pub invariant-loop-x : goal.invariant-loop-x

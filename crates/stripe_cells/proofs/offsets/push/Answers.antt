@@ -1,7 +1,6 @@
 -- `push`: a row for kind 0, else a diagonal.
 use mathlib.Core.Bool.{true, false}
 use Prim.Native.Nat.{◌-◌}
-use borrow.Author.Rules.{rules}
 use borrow.Author.Tests.{eq-eqb, ne_eqb}
 use Rattle.stripe_cells.proofs.PushLaws.{pushed_kind}
 use Rattle.stripe_cells.proofs.offsets.push.Goals as goal

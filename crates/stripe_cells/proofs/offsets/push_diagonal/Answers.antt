@@ -1,12 +1,11 @@
 -- `push_diagonal`: each turn stores the offset of the diagonal's cell on the next disk.
 use mathlib.Core.Path.{◌≡◌, refl, ap, ◌∙◌}
-use Prim.Native.Nat.{ℕ, ◌+◌, ◌-◌, ◌*◌, ◌%◌, ◌≤◌, ◌<◌}
+use Prim.Native.Nat.{ℕ, ◌+◌, ◌*◌, ◌%◌, ◌≤◌, ◌<◌}
 use native.Mathlib.Omega.{arith}
 use Rattle.liberation.specs.Limits.{largest_cell}
-use Rattle.liberation.specs.Sets.{place, diagonal_from}
+use Rattle.liberation.specs.Sets.{place}
 use Rattle.liberation.proofs.DiagonalRows.{row_below, row_on}
-use Rattle.stripe_cells.specs.Offsets.{scaled}
-use Rattle.stripe_cells.proofs.PushLaws.{Pushing, diagonal_walk_lem, pushing_none, pushing_one, pushing_all, small}
+use Rattle.stripe_cells.proofs.PushLaws.{diagonal_walk_lem, pushing_none, pushing_one, pushing_all, small}
 use Rattle.stripe_cells.proofs.offsets.push_diagonal.Goals as goal
 
 -- the row of this turn, and that the numbers are small

@@ -1,12 +1,9 @@
 -- `push_diagonal`: each turn stores the offset of the diagonal's cell on the next disk.
-use mathlib.Core.Path.{◌≡◌, refl, ap, ◌∙◌}
-use Prim.Native.Nat.{ℕ, ◌+◌, ◌-◌, ◌*◌, ◌%◌, ◌≤◌, ◌<◌}
-use native.Mathlib.Omega.{arith}
-use Rattle.liberation.specs.Limits.{largest_cell}
-use Rattle.liberation.specs.Sets.{place, diagonal_from}
-use Rattle.liberation.proofs.DiagonalRows.{row_below, row_on}
+use mathlib.Core.Path.{◌≡◌}
+use Prim.Native.Nat.{◌+◌, ◌-◌, ◌*◌, ◌%◌, ◌≤◌}
+use Rattle.liberation.specs.Sets.{diagonal_from}
 use Rattle.stripe_cells.specs.Offsets.{scaled}
-use Rattle.stripe_cells.proofs.PushLaws.{Pushing, diagonal_walk_lem, pushing_none, pushing_one, pushing_all, small}
+use Rattle.stripe_cells.proofs.PushLaws.{Pushing}
 use Rattle.stripe_cells.proofs.offsets.push_diagonal.Given as goal
 
 -- `top` is the offset of the disk's column, `row` the row of the diagonal's cell on it

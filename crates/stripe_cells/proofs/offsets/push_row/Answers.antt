@@ -1,10 +1,7 @@
 -- `push_row`: each turn stores the offset of the row's cell on the next disk.
-use mathlib.Core.Path.{◌≡◌, refl}
-use Prim.Native.Nat.{◌+◌, ◌-◌, ◌*◌, ◌≤◌}
+use mathlib.Core.Path.{refl}
 use native.Mathlib.Omega.{arith}
-use Rattle.liberation.specs.Sets.{row_from}
-use Rattle.stripe_cells.specs.Offsets.{scaled}
-use Rattle.stripe_cells.proofs.PushLaws.{Pushing, row_walk_lem, pushing_none, pushing_one, pushing_all, small}
+use Rattle.stripe_cells.proofs.PushLaws.{row_walk_lem, pushing_none, pushing_one, pushing_all, small}
 use Rattle.stripe_cells.proofs.offsets.push_row.Goals as goal
 
 pub overflow_mul-column : goal.overflow_mul-column

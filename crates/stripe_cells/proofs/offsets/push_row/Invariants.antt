@@ -1,10 +1,9 @@
 -- `push_row`: each turn stores the offset of the row's cell on the next disk.
-use mathlib.Core.Path.{◌≡◌, refl}
+use mathlib.Core.Path.{◌≡◌}
 use Prim.Native.Nat.{◌+◌, ◌-◌, ◌*◌, ◌≤◌}
-use native.Mathlib.Omega.{arith}
 use Rattle.liberation.specs.Sets.{row_from}
 use Rattle.stripe_cells.specs.Offsets.{scaled}
-use Rattle.stripe_cells.proofs.PushLaws.{Pushing, row_walk_lem, pushing_none, pushing_one, pushing_all, small}
+use Rattle.stripe_cells.proofs.PushLaws.{Pushing}
 use Rattle.stripe_cells.proofs.offsets.push_row.Given as goal
 
 -- `offset` is that of the row's cell on the disk

@@ -2,7 +2,6 @@
 use Prim.Native.Nat.{◌+◌, ◌*◌, ◌≤◌}
 use native.Mathlib.Nat.{mul-le-mul}
 use native.Mathlib.Omega.{arith}
-use borrow.Author.Rules.{rules}
 use Rattle.liberation.specs.Limits.{largest_cell}
 use Rattle.liberation.specs.Sets.{place}
 use Rattle.stripe_cells.proofs.OrdinaryLists.{one_lost_x, one_lost_y, one_kept, none_pushed, one_pushed}

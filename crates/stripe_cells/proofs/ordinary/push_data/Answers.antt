@@ -2,7 +2,6 @@
 -- cells on x and y.
 use Prim.Native.Nat.{◌+◌, ◌-◌}
 use native.Mathlib.Omega.{arith}
-use borrow.Author.Rules.{rules}
 use Rattle.stripe_cells.proofs.OrdinaryLists.{data_count, data_pushed, room_after}
 use Rattle.stripe_cells.proofs.ordinary.push_data.Goals as goal
 

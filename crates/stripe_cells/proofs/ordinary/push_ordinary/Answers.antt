@@ -1,6 +1,5 @@
 -- `push_ordinary`: the cells on data disks, then the parity cell.
 use native.Mathlib.Omega.{arith}
-use borrow.Author.Rules.{rules}
 use Rattle.stripe_cells.proofs.OrdinaryLists.{data_most, ordinary_pushed, parity_most}
 use Rattle.stripe_cells.proofs.ordinary.push_ordinary.Goals as goal
 

@@ -1,6 +1,5 @@
 -- `put_field`: the digits, of which there are at most two, and the byte behind them.
 use native.Mathlib.Omega.{arith}
-use borrow.Author.Rules.{rules}
 use Rattle.text.proofs.WriteLaws.{wrote_more}
 use Rattle.text.proofs.FieldLaws.{digits_most}
 use Rattle.text.proofs.steps.put_field.Goals as goal

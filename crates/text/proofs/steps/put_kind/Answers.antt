@@ -1,5 +1,4 @@
 -- `put_kind`: `R,` for a row set, else `D,`.
-use borrow.Author.Rules.{rules}
 use Rattle.text.proofs.WriteLaws.{wrote_same}
 use Rattle.text.proofs.FieldLaws.{letter_row, letter_diagonal}
 use Rattle.text.proofs.steps.put_kind.Goals as goal

@@ -1,7 +1,6 @@
 -- `put_step`: the three fields one behind the other; a number with its byte takes at most three
 -- bytes, the letter with its comma two.
 use native.Mathlib.Omega.{arith}
-use borrow.Author.Rules.{rules}
 use Rattle.text.proofs.WriteLaws.{wrote_more, wrote_same}
 use Rattle.text.proofs.FieldLaws.{step_fields_lem, field_most}
 use Rattle.text.proofs.steps.put_step.Goals as goal

@@ -1,12 +1,10 @@
 -- `toggle_sets`: each turn toggles for the two sets of a row. The invariant: the rows still to
 -- come, toggled in the marks as they are, give what all rows give in the marks as they were.
-use mathlib.Core.Path.{◌≡◌, refl, sym, ◌∙◌}
+use mathlib.Core.Path.{refl, sym, ◌∙◌}
 use Prim.Native.Nat.{◌<◌}
 use native.Mathlib.Omega.{arith}
-use lib.ListN.{length}
-use borrow.Author.Rules.{rules}
 use Rattle.parity_sets.proofs.NumberLaws.{numbered}
-use Rattle.two_disk_walk.proofs.ToggleLaws.{rows_rest, rows_turn, rows_last}
+use Rattle.two_disk_walk.proofs.ToggleLaws.{rows_turn, rows_last}
 use Rattle.two_disk_walk.proofs.first_cell.toggle_sets.Goals as goal
 
 -- the diagonal's number

@@ -1,19 +1,11 @@
 -- `push_sums`: each turn pushes the two cells of a row. The invariant: what the list holds, with
 -- the cells of the rows still to come, are the cells of all rows.
-use mathlib.Core.Path.{◌≡◌, refl, ◌∙◌}
+use mathlib.Core.Path.{◌≡◌}
 use mathlib.Core.List.{◌++◌}
-use Prim.Native.Nat.{ℕ, ◌+◌, ◌*◌, ◌<◌, ◌≤◌}
-use native.Mathlib.Nat.{mul-le-mul}
-use native.Mathlib.Omega.{arith}
-use lib.ListN.{length, take, set, length-set}
-use borrow.Author.Rules.{rules}
-use Rattle.liberation.specs.Limits.{largest_cell}
-use Rattle.liberation.specs.Plans.{diagonal_of}
-use Rattle.liberation.specs.TwoDisks.Pairs.{next_row}
+use Prim.Native.Nat.{◌+◌, ◌*◌, ◌<◌}
+use lib.ListN.{length, take}
 use Rattle.liberation.specs.TwoDisksBySums.Sums.{start_steps, cells_of}
-use Rattle.parity_sets.proofs.NumberLaws.{numbered, next_below, next_is}
 use Rattle.stripe_cells.specs.Offsets.{scaled}
-use Rattle.two_disk_walk.proofs.StartCells.{cells_turn, cells_last}
 use Rattle.two_disk_walk.proofs.first_cell_by_sums.push_sums.Given as goal
 
 abbrev pub invariant-loop-left : goal.invariant-loop-left

@@ -6,7 +6,6 @@ use native.Mathlib.Nat.{mul-le-mul}
 use native.Mathlib.Omega.{arith}
 use lib.ListN.{length, take}
 use lib.Seq.{length-take-le}
-use borrow.Author.Rules.{rules}
 use Rattle.liberation.specs.Sets.{place}
 use Rattle.xor_in_place.specs.Beside.{Beside}
 use Rattle.two_disk_walk.specs.SumDisks.{Lost}

@@ -4,10 +4,7 @@ use mathlib.Core.Path.{◌≡◌, refl, sym, ◌∙◌}
 use mathlib.Core.Logic.{inl, inr}
 use Prim.Native.Nat.{◌+◌, ◌%◌, ◌<◌}
 use native.Mathlib.Omega.{arith}
-use lib.ListN.{length}
-use borrow.Author.Rules.{rules}
 use Rattle.parity_sets.proofs.NumberLaws.{numbered, next_below}
-use Rattle.liberation.specs.TwoDisksBySums.Sums.{summed_all, start_steps}
 use Rattle.two_disk_walk.proofs.SumLoops.{still_lost, sums_turn, sums_last}
 use Rattle.two_disk_walk.proofs.set_sums.sum_sets.Goals as goal
 

@@ -1,14 +1,9 @@
 -- `sum_sets`: each turn sums the two sets of a row. The invariant: the rows still to come, summed
 -- in the stripe as it is, give what all rows give in the stripe as it was.
-use mathlib.Core.Path.{◌≡◌, refl, sym, ◌∙◌}
-use mathlib.Core.Logic.{inl, inr}
-use Prim.Native.Nat.{◌+◌, ◌%◌, ◌<◌}
-use native.Mathlib.Omega.{arith}
+use mathlib.Core.Path.{◌≡◌}
+use Prim.Native.Nat.{◌<◌}
 use lib.ListN.{length}
-use borrow.Author.Rules.{rules}
-use Rattle.parity_sets.proofs.NumberLaws.{numbered, next_below}
 use Rattle.liberation.specs.TwoDisksBySums.Sums.{summed_all, start_steps}
-use Rattle.two_disk_walk.proofs.SumLoops.{still_lost, sums_turn, sums_last}
 use Rattle.two_disk_walk.proofs.set_sums.sum_sets.Given as goal
 
 abbrev pub invariant-loop-left : goal.invariant-loop-left

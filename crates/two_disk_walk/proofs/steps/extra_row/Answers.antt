@@ -2,7 +2,6 @@
 use mathlib.Core.Path.{ap}
 use Prim.Native.Nat.{ℕ, ◌-◌}
 use native.Mathlib.Omega.{arith}
-use borrow.Author.Rules.{rules}
 use Rattle.two_disk_walk.proofs.NumberLaws.{extra_below}
 use Rattle.two_disk_walk.proofs.steps.extra_row.Goals as goal
 

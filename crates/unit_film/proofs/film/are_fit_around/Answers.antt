@@ -1,15 +1,12 @@
 -- `are_fit_around`: the pieces one after the other, up to the first that does not fit; the place
 -- steps on and returns to 0, as the remainder does.
-use mathlib.Core.Path.{◌≡◌, refl, sym, ap, ◌∙◌}
-use mathlib.Core.Bool.{Bool, true, not}
-use mathlib.Core.Logic.{◌⊎◌, inl, inr, ⊎_elim}
-use Prim.Native.Nat.{ℕ, ◌+◌, ◌-◌, ◌*◌, ◌%◌, ◌≤◌, ◌<◌}
+use mathlib.Core.Path.{◌≡◌, sym, ap, ◌∙◌}
+use mathlib.Core.Bool.{Bool, not}
+use Prim.Native.Nat.{ℕ, ◌+◌, ◌*◌, ◌%◌, ◌≤◌, ◌<◌}
 use native.Mathlib.Nat.{mod-lt, mul-pos}
 use native.Mathlib.Omega.{arith}
-use borrow.Author.Rules.{rules}
 use Rattle.mathematics.proofs.AllLaws.{all_start, all_more, all_fails, all_seen}
 use Rattle.unit_sums.specs.Sums.{fits}
-use Rattle.unit_film.specs.Says.{fit_around}
 use Rattle.unit_sums.proofs.UnitRefusals.{unit_most}
 use Rattle.unit_film.proofs.FilmRefusals.{around_back, around_on}
 use Rattle.unit_film.proofs.film.are_fit_around.Goals as goal
@@ -96,7 +93,7 @@ loop-i-preserved c =
     let e : c.args.first + c.loop-i.i + 1 ≡ c.args.first + (c.loop-i.i + 1) = omega arith in (
       omega arith,
       (elim c.if-x-places.branch [
-        then-x-places w ↦ w.x-is ∙ around_back n v c.loop-i.x c.loop-i.invariant.1 w.if-x-places.true ∙ ap (λ (y : ℕ). y % n) e
+        | then-x-places w ↦ w.x-is ∙ around_back n v c.loop-i.x c.loop-i.invariant.1 w.if-x-places.true ∙ ap (λ (y : ℕ). y % n) e
         | else-x-places w ↦ w.x-is ∙ around_on n v c.loop-i.x c.loop-i.invariant.1 (some_2 c) w.if-x-places.false ∙ ap (λ (y : ℕ). y % n) e
       ]),
       all_more c.loop-i.i (test_3 c) c.is_fit.result c.loop-i.invariant.2 (answered_2 c) (ap not c.if-not-is_fit.false),

@@ -1,17 +1,9 @@
 -- `are_fit_around`: the pieces one after the other, up to the first that does not fit; the place
 -- steps on and returns to 0, as the remainder does.
-use mathlib.Core.Path.{◌≡◌, refl, sym, ap, ◌∙◌}
-use mathlib.Core.Bool.{Bool, true}
-use mathlib.Core.Logic.{◌⊎◌, inl, inr, ⊎_elim}
-use Prim.Native.Nat.{ℕ, ◌+◌, ◌-◌, ◌*◌, ◌%◌, ◌≤◌, ◌<◌}
-use native.Mathlib.Nat.{mod-lt, mul-pos}
-use native.Mathlib.Omega.{arith}
-use borrow.Author.Rules.{rules}
-use Rattle.mathematics.proofs.AllLaws.{all_start, all_more, all_fails, all_seen}
-use Rattle.unit_sums.specs.Sums.{fits}
+use mathlib.Core.Path.{◌≡◌}
+use mathlib.Core.Bool.{true}
+use Prim.Native.Nat.{◌+◌, ◌-◌, ◌*◌, ◌%◌, ◌≤◌}
 use Rattle.unit_film.specs.Says.{fit_around}
-use Rattle.unit_sums.proofs.UnitRefusals.{unit_most}
-use Rattle.unit_film.proofs.FilmRefusals.{around_back, around_on}
 use Rattle.unit_film.proofs.film.are_fit_around.Given as goal
 
 abbrev pub invariant-loop-i : goal.invariant-loop-i

@@ -1,9 +1,9 @@
 -- `copy_film`: a turn copies what is left of a cell, or of out; the place steps on, and from the last
 -- place to the first of the next stripe. Until all is copied the cell and the byte in it are those of
 -- the film's byte that comes next.
-use mathlib.Core.Path.{◌≡◌, refl, sym, ap, ◌∙◌}
-use mathlib.Core.Logic.{◌⊎◌, inl, inr, ⊎_elim}
-use Prim.Native.Nat.{ℕ, ◌+◌, ◌-◌, ◌*◌, ◌/◌, ◌≤◌, ◌<◌}
+use mathlib.Core.Path.{◌≡◌, refl, ◌∙◌}
+use mathlib.Core.Logic.{◌⊎◌, inr, ⊎_elim}
+use Prim.Native.Nat.{ℕ, ◌+◌, ◌*◌, ◌/◌, ◌≤◌, ◌<◌}
 use native.Mathlib.Nat.{mod-lt}
 use native.Mathlib.Omega.{arith}
 use lib.ListN.{length, take, drop}
@@ -114,29 +114,27 @@ pub loop-done-smaller-then-x-places : goal.loop-done-smaller-then-x-places
 loop-done-smaller-then-x-places c = omega (arith, c.least-count.ensures)
 
 pub loop-done-preserved-then-x-places : goal.loop-done-preserved-then-x-places
-loop-done-preserved-then-x-places c =
-    (
-      omega (arith, c.least-count.ensures),
-      long c ∙ c.loop-done.invariant.1,
-      c.requires.0,
-      c.requires.1,
-      moved c 0 (c.loop-done.stripe + 1) (next_stripe c.args.places c.loop-done.x c.loop-done.stripe c.if-x-places.true),
-      copied c,
-    )
+loop-done-preserved-then-x-places c = (
+  omega (arith, c.least-count.ensures),
+  long c ∙ c.loop-done.invariant.1,
+  c.requires.0,
+  c.requires.1,
+  moved c 0 (c.loop-done.stripe + 1) (next_stripe c.args.places c.loop-done.x c.loop-done.stripe c.if-x-places.true),
+  copied c,
+)
 
 pub loop-done-smaller : goal.loop-done-smaller
 loop-done-smaller c = omega (arith, c.least-count.ensures)
 
 pub loop-done-preserved : goal.loop-done-preserved
-loop-done-preserved c =
-    (
-      omega (arith, c.least-count.ensures),
-      long_2 c ∙ c.loop-done.invariant.1,
-      omega (arith, c.loop-done.invariant.2, c.if-x-places.false),
-      c.requires.1,
-      moved_2 c (c.loop-done.x + 1) c.loop-done.stripe (next_place c.args.places c.loop-done.x c.loop-done.stripe),
-      copied_2 c,
-    )
+loop-done-preserved c = (
+  omega (arith, c.least-count.ensures),
+  long_2 c ∙ c.loop-done.invariant.1,
+  omega (arith, c.loop-done.invariant.2, c.if-x-places.false),
+  c.requires.1,
+  moved_2 c (c.loop-done.x + 1) c.loop-done.stripe (next_place c.args.places c.loop-done.x c.loop-done.stripe),
+  copied_2 c,
+)
 
 pub returns : goal.returns
 returns c =

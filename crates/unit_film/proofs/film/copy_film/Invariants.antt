@@ -1,16 +1,12 @@
 -- `copy_film`: a turn copies what is left of a cell, or of out; the place steps on, and from the last
 -- place to the first of the next stripe. Until all is copied the cell and the byte in it are those of
 -- the film's byte that comes next.
-use mathlib.Core.Path.{◌≡◌, refl, sym, ap, ◌∙◌}
-use mathlib.Core.Logic.{◌⊎◌, inl, inr, ⊎_elim}
-use Prim.Native.Nat.{ℕ, ◌+◌, ◌-◌, ◌*◌, ◌/◌, ◌≤◌, ◌<◌}
-use native.Mathlib.Nat.{mod-lt}
-use native.Mathlib.Omega.{arith}
+use mathlib.Core.Path.{◌≡◌}
+use mathlib.Core.Logic.{◌⊎◌}
+use Prim.Native.Nat.{◌+◌, ◌-◌, ◌*◌, ◌≤◌, ◌<◌}
 use lib.ListN.{length, take, drop}
-use borrow.Author.Rules.{rules}
 use Rattle.liberation.specs.Sets.{place}
 use Rattle.unit_film.specs.FilmOrder.{in_order}
-use Rattle.unit_film.proofs.CopyLaws.{place_start, turn_stripe, turn_within, turn_next, turn_copied, copy_end, next_place, next_stripe}
 use Rattle.unit_film.proofs.film.copy_film.Given as goal
 
 abbrev pub invariant-loop-done : goal.invariant-loop-done

@@ -1,8 +1,7 @@
 -- `copy_part`: one part is copied over another of the same length.
-use mathlib.Core.Path.{◌≡◌, refl, ap, ◌∙◌}
+use mathlib.Core.Path.{refl, ap, ◌∙◌}
 use mathlib.Core.List.{List}
-use Prim.Native.Nat.{ℕ, ◌+◌, ◌-◌}
-use borrow.Author.Rules.{rules}
+use Prim.Native.Nat.{ℕ}
 use Rattle.xor.specs.Parts.{with_part}
 use Rattle.xor.proofs.PartLaws.{put_part}
 use Rattle.unit_sums.proofs.PieceLaws.{part_is}

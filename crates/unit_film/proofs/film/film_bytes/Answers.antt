@@ -5,7 +5,6 @@ use Prim.Native.Nat.{◌+◌, ◌*◌, ◌≤◌, ◌<◌}
 use native.Mathlib.Nat.{mul-pos}
 use native.Mathlib.Omega.{arith}
 use lib.ListN.{length}
-use borrow.Author.Rules.{rules}
 use Rattle.unit_sums.specs.UnitLimits.{InUnit}
 use Rattle.unit_sums.proofs.UnitRefusals.{unit_most}
 use Rattle.unit_film.proofs.FilmRefusals.{limits, film_within, film_refused, film_done, film_unproved}

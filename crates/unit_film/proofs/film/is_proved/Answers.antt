@@ -1,9 +1,8 @@
 -- `is_proved`: the guard first, then the pieces that the bytes lie in.
-use mathlib.Core.Path.{◌≡◌, ap}
+use mathlib.Core.Path.{ap}
 use mathlib.Core.Bool.{not}
 use Prim.Native.Nat.{◌+◌, ◌-◌, ◌*◌, ◌/◌, ◌≤◌}
 use native.Mathlib.Omega.{arith}
-use borrow.Author.Rules.{rules}
 use Rattle.unit_sums.proofs.UnitRefusals.{unit_most}
 use Rattle.unit_film.proofs.FilmRefusals.{cell_order, film_unsealed, film_by_pieces, cell_of_piece}
 use Rattle.unit_film.proofs.film.is_proved.Goals as goal

@@ -1,14 +1,11 @@
 -- `compare_mended`: each turn writes the mark of the next piece.
-use mathlib.Core.Path.{◌≡◌, ap, ◌∙◌}
+use mathlib.Core.Path.{ap, ◌∙◌}
 use mathlib.Core.Bool.{Bool}
-use mathlib.Core.List.{◌++◌}
-use Prim.Native.Nat.{ℕ, ◌+◌, ◌-◌, ◌*◌, ◌≤◌, ◌<◌}
+use Prim.Native.Nat.{ℕ, ◌+◌, ◌*◌, ◌<◌}
 use native.Mathlib.Omega.{arith}
-use lib.ListN.{length, take, length-set}
-use borrow.Author.Rules.{rules}
+use lib.ListN.{length-set}
 use Rattle.mathematics.specs.Choice.{pick}
 use Rattle.unit_sums.specs.Sums.{fits}
-use Rattle.unit_opening.specs.Opening.{marks_from}
 use Rattle.unit_opening.proofs.MarkLaws.{marks_start, marks_more, marks_end}
 use Rattle.unit_opening.proofs.opening.compare_mended.Goals as goal
 

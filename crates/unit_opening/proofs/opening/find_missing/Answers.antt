@@ -1,14 +1,13 @@
 -- `find_missing`: each turn writes the mark of the next piece; there is room for all.
-use mathlib.Core.Path.{◌≡◌, ap, ◌∙◌}
+use mathlib.Core.Path.{ap, ◌∙◌}
 use mathlib.Core.Bool.{Bool}
-use mathlib.Core.List.{◌++◌}
-use Prim.Native.Nat.{ℕ, ◌+◌, ◌-◌, ◌*◌, ◌≤◌}
+use Prim.Native.Nat.{ℕ, ◌+◌, ◌*◌, ◌≤◌}
 use native.Mathlib.Omega.{arith}
-use lib.ListN.{length, take, length-set}
+use lib.ListN.{length-set}
 use borrow.Author.Rules.{rules}
 use Rattle.mathematics.specs.Choice.{pick}
 use Rattle.liberation.proofs.MarkLists.{cells_most}
-use Rattle.unit_opening.specs.Opening.{marks_from, is_present}
+use Rattle.unit_opening.specs.Opening.{is_present}
 use Rattle.unit_opening.proofs.MarkLaws.{marks_start, marks_more, marks_done}
 use Rattle.unit_opening.proofs.opening.find_missing.Goals as goal
 

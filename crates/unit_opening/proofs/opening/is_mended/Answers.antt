@@ -1,6 +1,5 @@
 -- `is_mended`: a piece that was not missing fits, as is required; the others are compared.
 use mathlib.Core.Path.{sym}
-use borrow.Author.Rules.{rules}
 use Rattle.unit_opening.proofs.opening.is_mended.Goals as goal
 
 pub returns-then-missing-x-eq0 : goal.returns-then-missing-x-eq0

@@ -8,12 +8,11 @@ use native.Mathlib.Omega.{arith}
 use lib.ListN.{length, get_or, take}
 use lib.Seq.{length-take-le}
 use borrow.Author.Rules.{rules}
-use Rattle.mathematics.specs.Xor.{all_bytes}
 use Rattle.xor.proofs.SourceLaws.{bytes_all}
 use Rattle.liberation.proofs.MarkLists.{cells_most}
 use Rattle.rebuild_cells.specs.Theory.Mending.{missing_cells, mendable, mended_cells}
 use Rattle.unit_sums.specs.Sums.{fits}
-use Rattle.unit_opening.specs.Opening.{missing_marks, missing_pieces}
+use Rattle.unit_opening.specs.Opening.{missing_pieces}
 use Rattle.unit_opening.proofs.OpenLaws.{unit_kept, still_fits, mended_is, opened, unopened}
 use Rattle.unit_opening.proofs.opening.open.Goals as goal
 

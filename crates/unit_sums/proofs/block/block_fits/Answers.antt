@@ -1,16 +1,14 @@
 -- `block_fits`: past the refusals before 24 name and block have their lengths; then the guard decides.
 use mathlib.Core.Path.{◌≡◌, sym, ap, ◌∙◌}
 use mathlib.Core.Bool.{Bool, not}
-use Prim.Native.Nat.{◌+◌, ◌*◌}
 use lib.ListN.{length}
-use borrow.Author.Rules.{rules}
 use Rattle.mathematics.specs.Choice.{when, first_of}
 use Rattle.mathematics.proofs.ChoiceLaws.{first_none, first_kept, first_next}
 use Rattle.liberation.specs.Limits.{InArray}
 use Rattle.liberation.specs.Sets.{array_refusal}
 use Rattle.liberation.proofs.RefusalLaws.{array_of}
 use Rattle.refusals.proofs.AnswerLaws.{answers_as}
-use Rattle.unit_sums.specs.Sums.{block_long, is_sealed}
+use Rattle.unit_sums.specs.Sums.{block_long}
 use Rattle.unit_sums.specs.Refusals.{length_refusal}
 use Rattle.unit_sums.specs.OneBlock.{block_refusal, guard_refusal}
 use Rattle.unit_sums.proofs.UnitRefusals.{length_of}

@@ -2,7 +2,6 @@
 use mathlib.Core.Path.{sym, ◌∙◌}
 use Prim.Native.Nat.{◌+◌, ◌*◌, ◌≤◌}
 use native.Mathlib.Omega.{arith}
-use borrow.Author.Rules.{rules}
 use Rattle.mathematics.proofs.ChoiceLaws.{first_kept, first_next}
 use Rattle.liberation.proofs.MarkLists.{cells_most}
 use Rattle.unit_sums.proofs.limits.lengths_refusal.Goals as goal

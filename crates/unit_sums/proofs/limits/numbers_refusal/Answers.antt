@@ -1,6 +1,5 @@
 -- `numbers_refusal`: the shape, then the stripes.
 use mathlib.Core.Path.{◌≡◌, sym, ◌∙◌}
-use borrow.Author.Rules.{rules}
 use Rattle.mathematics.proofs.ChoiceLaws.{first_kept, first_next}
 use Rattle.liberation.specs.Sets.{shape_refusal}
 use Rattle.liberation.proofs.RefusalLaws.{shape_of}

@@ -1,7 +1,6 @@
 -- `stripes_refusal`: the two tests are those of the definition; a quotient is compared, so that no
 -- product can wrap.
 use mathlib.Core.Path.{sym}
-use borrow.Author.Rules.{rules}
 use Rattle.unit_sums.proofs.UnitRefusals.{stripes_none, stripes_over, stripes_accepted}
 use Rattle.unit_sums.proofs.limits.stripes_refusal.Goals as goal
 

@@ -1,11 +1,6 @@
 -- `is_number`: what is left of the bytes is compared with the bytes of the rest of the number; the
 -- first byte that differs decides.
-use mathlib.Core.Path.{◌≡◌}
-use Prim.Native.Nat.{◌-◌, ◌≤◌}
 use native.Mathlib.Omega.{arith}
-use lib.ListN.{length, drop}
-use Rattle.mathematics.specs.Lists.{same}
-use Rattle.unit_sums.specs.Sums.{little_endian}
 use Rattle.unit_sums.proofs.NumberLaws.{alike_start, alike_more, alike_fails, alike_end}
 use Rattle.unit_sums.proofs.numbers.is_number.Goals as goal
 

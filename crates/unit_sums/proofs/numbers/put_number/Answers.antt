@@ -1,11 +1,9 @@
 -- `put_number`: each turn stores the lowest byte of the rest, so what is stored and the bytes of
 -- the rest are always all bytes of the number.
-use mathlib.Core.Path.{◌≡◌, refl, ◌∙◌}
-use mathlib.Core.List.{◌++◌}
-use Prim.Native.Nat.{◌-◌, ◌%◌, ◌≤◌}
+use mathlib.Core.Path.{refl, ◌∙◌}
+use Prim.Native.Nat.{◌%◌}
 use native.Mathlib.Omega.{arith}
-use lib.ListN.{length, take, length-set}
-use Rattle.unit_sums.specs.Sums.{little_endian}
+use lib.ListN.{length, length-set}
 use Rattle.unit_sums.proofs.NumberLaws.{little_start, little_more, little_end}
 use Rattle.unit_sums.proofs.numbers.put_number.Goals as goal
 

@@ -1,12 +1,10 @@
 -- `put_number`: each turn stores the lowest byte of the rest, so what is stored and the bytes of
 -- the rest are always all bytes of the number.
-use mathlib.Core.Path.{◌≡◌, refl, ◌∙◌}
+use mathlib.Core.Path.{◌≡◌}
 use mathlib.Core.List.{◌++◌}
-use Prim.Native.Nat.{◌-◌, ◌%◌, ◌≤◌}
-use native.Mathlib.Omega.{arith}
-use lib.ListN.{length, take, length-set}
+use Prim.Native.Nat.{◌-◌, ◌≤◌}
+use lib.ListN.{length, take}
 use Rattle.unit_sums.specs.Sums.{little_endian}
-use Rattle.unit_sums.proofs.NumberLaws.{little_start, little_more, little_end}
 use Rattle.unit_sums.proofs.numbers.put_number.Given as goal
 
 abbrev pub invariant-loop-i : goal.invariant-loop-i

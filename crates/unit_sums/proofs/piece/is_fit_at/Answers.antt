@@ -1,6 +1,4 @@
 -- `is_fit_at`: the eight bytes of the block at the place are compared with the checksum.
-use Prim.Native.Nat.{◌+◌, ◌*◌, ◌≤◌}
-use borrow.Author.Rules.{rules}
 use Rattle.unit_sums.proofs.FitLaws.{fit_at_is}
 use Rattle.unit_sums.proofs.piece.is_fit_at.Goals as goal
 

@@ -1,7 +1,6 @@
 -- `guard_of`: the checksum of the checksums, under the seed of no place.
 use mathlib.Core.Path.{ap, ◌∙◌}
 use Prim.Native.Nat.{ℕ}
-use borrow.Author.Rules.{rules}
 use Rattle.xxh64.specs.Checksum.{xxh64}
 use Rattle.unit_sums.proofs.pieces.guard_of.Goals as goal
 

@@ -3,7 +3,6 @@
 use Prim.Native.Nat.{◌+◌, ◌*◌, ◌≤◌}
 use native.Mathlib.Omega.{arith}
 use lib.ListN.{length}
-use borrow.Author.Rules.{rules}
 use Rattle.unit_sums.proofs.PieceLaws.{fit_is, piece_within}
 use Rattle.unit_sums.proofs.pieces.is_fit.Goals as goal
 

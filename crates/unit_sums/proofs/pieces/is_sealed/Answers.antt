@@ -3,7 +3,6 @@ use mathlib.Core.Path.{sym}
 use Prim.Native.Nat.{◌+◌, ◌*◌}
 use native.Mathlib.Omega.{arith}
 use lib.Seq.{length-take-le}
-use borrow.Author.Rules.{rules}
 use Rattle.unit_sums.proofs.PieceLaws.{sealed_is}
 use Rattle.unit_sums.proofs.pieces.is_sealed.Goals as goal
 

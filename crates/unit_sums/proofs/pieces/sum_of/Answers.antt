@@ -1,7 +1,6 @@
 -- `sum_of`: the checksum of the piece, under the seed of its place.
 use mathlib.Core.Path.{ap, ◌∙◌}
 use Prim.Native.Nat.{ℕ}
-use borrow.Author.Rules.{rules}
 use Rattle.xxh64.specs.Checksum.{xxh64}
 use Rattle.unit_sums.proofs.pieces.sum_of.Goals as goal
 

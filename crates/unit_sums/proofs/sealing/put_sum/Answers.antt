@@ -3,7 +3,6 @@
 use Prim.Native.Nat.{◌+◌, ◌*◌, ◌≤◌}
 use native.Mathlib.Omega.{arith}
 use lib.ListN.{length}
-use borrow.Author.Rules.{rules}
 use Rattle.unit_sums.proofs.PieceLaws.{piece_within}
 use Rattle.unit_sums.proofs.SealLaws.{sum_put}
 use Rattle.unit_sums.proofs.sealing.put_sum.Goals as goal

@@ -1,18 +1,10 @@
 -- `put_sums`: after x turns the first x places of the block hold the checksums of the first x
 -- pieces.
-use mathlib.Core.Path.{◌≡◌, refl, ap, ◌∙◌}
-use mathlib.Core.List.{List}
-use Prim.Native.Nat.{ℕ, ◌+◌, ◌-◌, ◌*◌, ◌≤◌, ◌<◌}
-use native.Mathlib.Omega.{arith}
+use mathlib.Core.Path.{◌≡◌}
+use Prim.Native.Nat.{ℕ, ◌-◌, ◌≤◌, ◌<◌}
 use lib.ListN.{length}
 use Rattle.liberation.specs.Stripes.Stripes.{cell_at}
-use Rattle.liberation.proofs.MarkLists.{cells_most}
-use Rattle.liberation.proofs.Stripes.StripeCellLaws.{length_with}
 use Rattle.unit_sums.specs.Sums.{little_endian, sum_of}
-use Rattle.unit_sums.specs.UnitLimits.{InUnit}
-use Rattle.unit_sums.proofs.NumberLaws.{length_little}
-use Rattle.unit_sums.proofs.PieceLaws.{piece_within}
-use Rattle.unit_sums.proofs.SealLaws.{block_kept, sums_more, sums_end}
 use Rattle.unit_sums.proofs.sealing.put_sums.Given as goal
 
 abbrev pub invariant-loop-x : goal.invariant-loop-x

@@ -5,7 +5,6 @@ use Prim.Native.Nat.{ℕ, ◌+◌, ◌*◌, ◌≤◌}
 use native.Mathlib.Omega.{arith}
 use lib.ListN.{length}
 use lib.Seq.{length-take-le}
-use borrow.Author.Rules.{rules}
 use Rattle.liberation.proofs.MarkLists.{cells_most}
 use Rattle.unit_sums.specs.Sums.{block_long}
 use Rattle.unit_sums.proofs.SealLaws.{block_made}

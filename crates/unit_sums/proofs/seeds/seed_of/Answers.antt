@@ -2,7 +2,6 @@
 use mathlib.Core.Path.{ap, ◌∙◌}
 use mathlib.Core.List.{List}
 use Prim.Native.Nat.{ℕ}
-use borrow.Author.Rules.{rules}
 use Rattle.xxh64.specs.Checksum.{xxh64}
 use Rattle.unit_sums.specs.Sums.{seed_of}
 use Rattle.unit_sums.proofs.seeds.seed_of.Goals as goal

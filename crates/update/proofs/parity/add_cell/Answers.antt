@@ -1,7 +1,6 @@
 -- `add_cell`: the gather of the cell itself and the other one, which lies before it.
 use mathlib.Core.Path.{◌∙◌}
 use native.Mathlib.Omega.{arith}
-use borrow.Author.Rules.{rules}
 use Rattle.liberation.proofs.Stripes.StripeCellLaws.{cell_fits}
 use Rattle.xor.proofs.SourceLaws.{bytes_all}
 use Rattle.update.proofs.FromCell.{two_beside, two_added}

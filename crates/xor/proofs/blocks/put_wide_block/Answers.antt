@@ -3,7 +3,6 @@ use mathlib.Core.Path.{ap, ◌∙◌}
 use mathlib.Core.List.{List}
 use Prim.Native.Nat.{ℕ}
 use lib.ListN.{length, drop}
-use borrow.Author.Rules.{rules}
 use Rattle.xor.specs.Parts.{xor_offsets}
 use Rattle.xor.proofs.PartLaws.{put_part}
 use Rattle.xor.proofs.BlockLaws.{tail_is, reach_tail}

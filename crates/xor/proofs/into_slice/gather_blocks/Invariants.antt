@@ -1,13 +1,8 @@
 -- `gather_blocks`: block after block of 128 bytes, then what is left.
-use mathlib.Core.Path.{◌≡◌, refl, sym, subst, ap, ap₂, ◌∙◌}
-use mathlib.Core.List.{List, ◌++◌}
-use Prim.Native.Nat.{ℕ, ◌+◌, ◌-◌, ◌≤◌}
-use native.Mathlib.Omega.{arith}
-use lib.ListN.{length, take, drop}
-use lib.Seq.{drop-drop}
+use mathlib.Core.Path.{◌≡◌}
+use Prim.Native.Nat.{◌-◌, ◌≤◌}
+use lib.ListN.{length, take}
 use Rattle.xor.specs.Parts.{xor_offsets}
-use Rattle.xor.specs.Reach.{Reached}
-use Rattle.xor.proofs.BlockLaws.{block_next, block_last, tail_is, tail_long, reach_tail}
 use Rattle.xor.proofs.into_slice.gather_blocks.Given as goal
 
 -- the first b bytes stand

@@ -1,9 +1,8 @@
 -- `gather_small`: block after block of 64 bytes, then the rest, if there is one.
-use mathlib.Core.Path.{◌≡◌, refl, sym, subst}
+use mathlib.Core.Path.{refl, sym, subst}
 use Prim.Native.Nat.{ℕ, ◌+◌, ◌-◌, ◌≤◌}
 use native.Mathlib.Omega.{arith}
-use lib.ListN.{length, take}
-use Rattle.xor.specs.Parts.{xor_offsets}
+use lib.ListN.{length}
 use Rattle.xor.specs.Reach.{Reached}
 use Rattle.xor.proofs.BlockLaws.{block_next, block_last, block_all}
 use Rattle.xor.proofs.into_slice.gather_small.Goals as goal

@@ -1,11 +1,7 @@
 -- `all_zero`: the OR of the bytes passed is 0 exactly if all of them are.
-use mathlib.Core.Path.{◌≡◌, refl}
-use Prim.Native.Nat.{◌-◌, ◌≤◌}
+use mathlib.Core.Path.{refl}
 use native.Mathlib.Omega.{arith}
-use lib.Dec.{eqb}
-use lib.ListN.{length}
-use borrow.Author.Rules.{rules}
-use Rattle.xor.proofs.ZeroLaws.{none_to, none_more, none_all}
+use Rattle.xor.proofs.ZeroLaws.{none_more, none_all}
 use Rattle.xor.proofs.slices.all_zero.Goals as goal
 
 pub loop-i-init : goal.loop-i-init

@@ -1,11 +1,9 @@
 -- `all_zero`: the OR of the bytes passed is 0 exactly if all of them are.
-use mathlib.Core.Path.{◌≡◌, refl}
+use mathlib.Core.Path.{◌≡◌}
 use Prim.Native.Nat.{◌-◌, ◌≤◌}
-use native.Mathlib.Omega.{arith}
 use lib.Dec.{eqb}
 use lib.ListN.{length}
-use borrow.Author.Rules.{rules}
-use Rattle.xor.proofs.ZeroLaws.{none_to, none_more, none_all}
+use Rattle.xor.proofs.ZeroLaws.{none_to}
 use Rattle.xor.proofs.slices.all_zero.Given as goal
 
 -- the OR is 0 exactly if the first i bytes are

@@ -1,9 +1,9 @@
 -- `copy`: each turn stores the next byte of the source.
 use mathlib.Core.Path.{refl}
-use Prim.Native.Nat.{◌-◌, ◌<◌}
+use Prim.Native.Nat.{◌<◌}
 use native.Mathlib.Omega.{arith}
 use lib.ListN.{length}
-use Rattle.xor.proofs.StoreLaws.{Stored, stored_none, stored_more, stored_whole}
+use Rattle.xor.proofs.StoreLaws.{stored_none, stored_more, stored_whole}
 use Rattle.xor.proofs.slices.copy.Goals as goal
 
 pub loop-i-init : goal.loop-i-init

@@ -1,9 +1,7 @@
 -- `copy`: each turn stores the next byte of the source.
-use mathlib.Core.Path.{refl}
-use Prim.Native.Nat.{◌-◌, ◌<◌}
-use native.Mathlib.Omega.{arith}
+use Prim.Native.Nat.{◌-◌}
 use lib.ListN.{length}
-use Rattle.xor.proofs.StoreLaws.{Stored, stored_none, stored_more, stored_whole}
+use Rattle.xor.proofs.StoreLaws.{Stored}
 use Rattle.xor.proofs.slices.copy.Given as goal
 
 -- after i turns the destination holds the first i bytes of the source

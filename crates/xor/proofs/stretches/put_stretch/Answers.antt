@@ -5,7 +5,6 @@ use mathlib.Core.List.{List}
 use Prim.Native.Nat.{ℕ, ◌+◌, ◌-◌, ◌≤◌}
 use native.Mathlib.Omega.{arith}
 use lib.ListN.{length, take, drop}
-use borrow.Author.Rules.{rules}
 use Rattle.xor.specs.Parts.{xor_offsets}
 use Rattle.xor.specs.Reach.{Reached}
 use Rattle.xor.proofs.PartLaws.{put_part}

@@ -4,7 +4,6 @@ use mathlib.Core.List.{List}
 use Prim.Native.Nat.{ℕ, ◌+◌}
 use native.Mathlib.Omega.{arith}
 use lib.ListN.{drop}
-use borrow.Author.Rules.{rules}
 use Rattle.xor.specs.Parts.{xor_offsets}
 use Rattle.xor.proofs.PartLaws.{put_part}
 use Rattle.xor.proofs.BlockLaws.{tail_is, reach_tail}

@@ -1,14 +1,10 @@
 -- `add_lists`: each turn adds the next sources by a list that has the destination in front. The
 -- invariant: those before i are added, and the list is as it was from i on.
-use mathlib.Core.Path.{◌≡◌, refl, ◌∙◌}
+use mathlib.Core.Path.{◌≡◌}
 use Prim.Native.Nat.{◌-◌, ◌≤◌, ◌<◌}
-use native.Mathlib.Omega.{arith}
-use lib.ListN.{length, take, drop, length-set}
-use borrow.Author.Rules.{rules}
+use lib.ListN.{length, take, drop}
 use Rattle.mathematics.specs.Xor.{xor_l}
 use Rattle.xor.specs.Parts.{part, with_part, xor_offsets}
-use Rattle.xor.proofs.SourceLaws.{bytes_all}
-use Rattle.xor_in_place.proofs.ListLaws.{none_added, next_beside, next_rest, next_added, all_added}
 use Rattle.xor_in_place.proofs.lists.add_lists.Given as goal
 
 abbrev pub invariant-loop-i : goal.invariant-loop-i

@@ -2,7 +2,6 @@
 use mathlib.Core.Path.{sym}
 use native.Mathlib.Omega.{arith}
 use lib.Seq.{length-take-le}
-use borrow.Author.Rules.{rules}
 use Rattle.xor_in_place.proofs.ListLaws.{first_beside, lists_done, still_apart}
 use Rattle.xor_in_place.proofs.lists.gather_lists.Goals as goal
 

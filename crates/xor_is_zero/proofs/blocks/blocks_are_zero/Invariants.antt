@@ -1,16 +1,11 @@
 -- `blocks_are_zero`: block after block of 128 bytes, then what is left. The invariant: the answer
 -- is that of what is left.
-use mathlib.Core.Path.{◌≡◌, sym, ap, ◌∙◌}
-use mathlib.Core.Bool.{Bool, true, false, ◌&&◌}
-use mathlib.Core.List.{List}
-use Prim.Native.Nat.{ℕ, ◌+◌, ◌-◌, ◌≤◌}
-use native.Mathlib.Omega.{arith}
+use mathlib.Core.Path.{◌≡◌}
+use Prim.Native.Nat.{◌-◌, ◌≤◌}
 use lib.ListN.{replicate}
-use borrow.Author.Tests.{not-true, not-false}
 use Rattle.mathematics.specs.Lists.{same}
 use Rattle.xor.specs.Parts.{xor_offsets}
-use Rattle.xor.proofs.BlockLaws.{tail_is, reach_tail}
-use Rattle.xor.proofs.ZeroLaws.{zero_from, zero_all, zero_next}
+use Rattle.xor.proofs.ZeroLaws.{zero_from}
 use Rattle.xor_is_zero.proofs.blocks.blocks_are_zero.Given as goal
 
 abbrev pub invariant-loop-b : goal.invariant-loop-b

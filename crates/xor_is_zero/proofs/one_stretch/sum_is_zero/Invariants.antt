@@ -1,16 +1,10 @@
 -- `sum_is_zero`: block after block of 128 bytes. The invariant: the XOR is zero up to byte b. A
 -- block in which it is not settles the answer.
-use mathlib.Core.Path.{◌≡◌, refl, sym, subst, ap, ap₂, ◌∙◌}
-use mathlib.Core.Bool.{Bool, true, false, ◌&&◌}
-use Prim.Native.Nat.{ℕ, ◌+◌, ◌-◌, ◌%◌, ◌≤◌}
-use native.Mathlib.Omega.{arith}
-use lib.ListN.{length, replicate}
-use borrow.Author.Tests.{not-true, not-false}
-use Rattle.mathematics.specs.Lists.{same}
-use Rattle.xor.specs.Parts.{part}
-use Rattle.xor.specs.Reach.{Reached}
+use mathlib.Core.Path.{◌≡◌}
+use mathlib.Core.Bool.{true}
+use Prim.Native.Nat.{◌-◌, ◌%◌, ◌≤◌}
 use Rattle.xor.proofs.ZeroLaws.{none_to}
-use Rattle.xor_is_zero.proofs.LastLaws.{sum_with, sum_next, sum_split, sum_all}
+use Rattle.xor_is_zero.proofs.LastLaws.{sum_with}
 use Rattle.xor_is_zero.proofs.one_stretch.sum_is_zero.Given as goal
 
 abbrev pub invariant-loop-b : goal.invariant-loop-b

@@ -1,5 +1,4 @@
 -- `avalanche`: step by step as in the definition.
-use borrow.Author.Rules.{rules}
 use Rattle.xxh64.specs.Checksum.{avalanche}
 use Rattle.xxh64.proofs.mixing.avalanche.Goals as goal
 

@@ -1,5 +1,4 @@
 -- `converged`: step by step as in the definition.
-use borrow.Author.Rules.{rules}
 use Rattle.xxh64.specs.Checksum.{converge}
 use Rattle.xxh64.proofs.mixing.converged.Goals as goal
 

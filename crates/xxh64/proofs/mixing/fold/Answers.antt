@@ -1,5 +1,4 @@
 -- `fold`: the two operations are those of the definition.
-use borrow.Author.Rules.{rules}
 use Rattle.xxh64.specs.Checksum.{folded}
 use Rattle.xxh64.proofs.mixing.fold.Goals as goal
 

@@ -1,5 +1,4 @@
 -- `merged`: step by step as in the definition.
-use borrow.Author.Rules.{rules}
 use Rattle.xxh64.specs.Checksum.{merge}
 use Rattle.xxh64.proofs.mixing.merged.Goals as goal
 

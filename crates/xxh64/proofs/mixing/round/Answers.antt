@@ -1,5 +1,4 @@
 -- `round`: step by step as in the definition.
-use borrow.Author.Rules.{rules}
 use Rattle.xxh64.specs.Checksum.{round}
 use Rattle.xxh64.proofs.mixing.round.Goals as goal
 

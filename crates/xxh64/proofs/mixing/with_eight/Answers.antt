@@ -1,5 +1,4 @@
 -- `with_eight`: step by step as in the definition.
-use borrow.Author.Rules.{rules}
 use Rattle.xxh64.specs.Checksum.{eight}
 use Rattle.xxh64.proofs.mixing.with_eight.Goals as goal
 

@@ -1,5 +1,4 @@
 -- `with_four`: step by step as in the definition.
-use borrow.Author.Rules.{rules}
 use Rattle.xxh64.specs.Checksum.{four}
 use Rattle.xxh64.proofs.mixing.with_four.Goals as goal
 

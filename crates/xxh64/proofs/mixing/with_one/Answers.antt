@@ -1,5 +1,4 @@
 -- `with_one`: step by step as in the definition.
-use borrow.Author.Rules.{rules}
 use Rattle.xxh64.specs.Checksum.{one}
 use Rattle.xxh64.proofs.mixing.with_one.Goals as goal
 

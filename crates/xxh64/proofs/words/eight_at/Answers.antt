@@ -1,6 +1,5 @@
 -- `eight_at`: a word of two halves.
 use native.Mathlib.Omega.{arith}
-use borrow.Author.Rules.{rules}
 use Rattle.xxh64.proofs.ByteLaws.{word_add}
 use Rattle.xxh64.proofs.words.eight_at.Goals as goal
 

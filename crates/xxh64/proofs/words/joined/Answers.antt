@@ -1,5 +1,4 @@
 -- `joined`: two words that have no digit in common.
-use borrow.Author.Rules.{rules}
 use Rattle.xxh64.proofs.WordLaws.{joined_is}
 use Rattle.xxh64.proofs.words.joined.Goals as goal
 

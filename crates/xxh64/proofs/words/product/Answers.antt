@@ -4,7 +4,6 @@ use Prim.Native.Nat.{◌*◌, ◌/◌, ◌^◌}
 use native.Mathlib.Omega.{arith}
 use lib.Bits.{bit_and, mask_lt}
 use lib.Pow.{shr_lt}
-use borrow.Author.Rules.{rules}
 use Rattle.xxh64.specs.Checksum.{add}
 use Rattle.xxh64.proofs.WordLaws.{half_product, product_is}
 use Rattle.xxh64.proofs.words.product.Goals as goal

@@ -1,5 +1,4 @@
 -- `rotated`: two shifts.
-use borrow.Author.Rules.{rules}
 use Rattle.xxh64.proofs.WordLaws.{rotation_is}
 use Rattle.xxh64.proofs.words.rotated.Goals as goal
 

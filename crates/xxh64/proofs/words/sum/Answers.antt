@@ -1,6 +1,5 @@
 -- `sum`: with and without a carry.
 use native.Mathlib.Omega.{arith}
-use borrow.Author.Rules.{rules}
 use Rattle.xxh64.specs.Checksum.{add}
 use Rattle.xxh64.proofs.words.sum.Goals as goal
 
