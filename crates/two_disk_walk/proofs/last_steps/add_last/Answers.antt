@@ -1,5 +1,4 @@
 -- `add_last`: the first of the last steps, then the others.
-use borrow.Author.Rules.{rules}
 use Rattle.two_disk_walk.proofs.SumLoops.{still_lost}
 use Rattle.two_disk_walk.proofs.AddLoops.{adds_first}
 use Rattle.two_disk_walk.proofs.last_steps.add_last.Goals as goal

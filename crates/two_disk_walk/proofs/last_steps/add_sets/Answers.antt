@@ -3,11 +3,7 @@
 use mathlib.Core.Path.{◌≡◌, refl, sym, ◌∙◌}
 use Prim.Native.Nat.{◌+◌, ◌%◌, ◌<◌}
 use native.Mathlib.Omega.{arith}
-use lib.ListN.{length}
-use borrow.Author.Rules.{rules}
 use Rattle.parity_sets.proofs.NumberLaws.{numbered, next_below}
-use Rattle.liberation.specs.TwoDisks.PairSteps.{walk_steps}
-use Rattle.liberation.specs.TwoDisksBySums.Sums.{added_all}
 use Rattle.two_disk_walk.proofs.SumLoops.{still_lost}
 use Rattle.two_disk_walk.proofs.AddLoops.{adds_turn, adds_last}
 use Rattle.two_disk_walk.proofs.last_steps.add_sets.Goals as goal

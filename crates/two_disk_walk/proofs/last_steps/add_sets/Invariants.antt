@@ -1,15 +1,10 @@
 -- `add_sets`: each turn does the two steps of a row. The invariant: the rows still to come, done to
 -- the stripe as it is, give what all rows give to the stripe as it was.
-use mathlib.Core.Path.{◌≡◌, refl, sym, ◌∙◌}
-use Prim.Native.Nat.{◌+◌, ◌%◌, ◌<◌}
-use native.Mathlib.Omega.{arith}
+use mathlib.Core.Path.{◌≡◌}
+use Prim.Native.Nat.{◌<◌}
 use lib.ListN.{length}
-use borrow.Author.Rules.{rules}
-use Rattle.parity_sets.proofs.NumberLaws.{numbered, next_below}
 use Rattle.liberation.specs.TwoDisks.PairSteps.{walk_steps}
 use Rattle.liberation.specs.TwoDisksBySums.Sums.{added_all}
-use Rattle.two_disk_walk.proofs.SumLoops.{still_lost}
-use Rattle.two_disk_walk.proofs.AddLoops.{adds_turn, adds_last}
 use Rattle.two_disk_walk.proofs.last_steps.add_sets.Given as goal
 
 abbrev pub invariant-loop-left : goal.invariant-loop-left
