@@ -41,30 +41,6 @@ impl Reader {
                 self.read_blocks(*disk, image, *first..last + 1, *soon);
             }
         }
-        self.vote(&all);
-    }
-
-    /// Takes for each block that no image has whole what most of its copies have, byte by byte, if
-    /// that fits its guard.
-    fn vote(&mut self, all: &[(usize, &Image)]) {
-        let unknown: Vec<usize> = self.blocks.unknown().collect();
-        for unit in unknown {
-            let copies: Vec<Vec<u8>> =
-                all.iter().filter_map(|(disk, image)| self.copy_of(*disk, image, unit)).collect();
-            self.blocks.take(unit, &majority(&copies));
-        }
-    }
-
-    /// The block of a unit as the image of a disk has it.
-    fn copy_of(&mut self, disk: usize, image: &Image, unit: usize) -> Option<Vec<u8>> {
-        let at = self.geometry.block_at(self.cells.batch.unit + unit as u64);
-        let mut bytes = vec![0; self.geometry.block_len()];
-        match &self.source {
-            Some(source) => source.soon(disk, image, &mut bytes, at).ok()?,
-            None => image.read(&mut bytes, at, &mut self.bounces[0]).ok()?,
-        };
-        self.count(disk, bytes.len());
-        Some(bytes)
     }
 
     /// Reads the blocks of units from the image of a disk.
@@ -114,34 +90,5 @@ impl Reader {
         set.present().for_each(|disk| self.read[disk] += all as u64);
         self.pace.spend(set.present().map(|disk| (disk, all as u64)));
         bad
-    }
-}
-
-/// The bytes that most copies have, each place by itself.
-fn majority(copies: &[Vec<u8>]) -> Vec<u8> {
-    let len = copies.iter().map(Vec::len).min().unwrap_or(0);
-    let most = |place: usize| {
-        let votes = |byte: u8| copies.iter().filter(|copy| copy[place] == byte).count();
-        copies.iter().map(|copy| copy[place]).max_by_key(|byte| votes(*byte)).unwrap_or(0)
-    };
-    (0..len).map(most).collect()
-}
-
-#[cfg(test)]
-mod tests {
-    use super::majority;
-
-    #[test]
-    fn copies_with_a_flip_each_have_the_block() {
-        let right: Vec<u8> = (0..40).collect();
-        let flipped = |place: usize| {
-            let mut copy = right.clone();
-            copy[place] ^= 0x80;
-            copy
-        };
-        let copies: Vec<Vec<u8>> = [3, 17, 39].map(flipped).into();
-        assert_eq!(majority(&copies), right);
-        assert_eq!(majority(&copies[..1]), copies[0]);
-        assert_eq!(majority(&[]), []);
     }
 }
