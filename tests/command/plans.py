@@ -2,8 +2,7 @@
 
 import re
 
-from drives import linked, put, with_drives
-from harness import LABEL, TOP, expect, noise
+from harness import TOP, expect, noise
 
 
 def shares(setting, images, lost, *options):
@@ -28,7 +27,7 @@ def rebuilt(setting, images, lost, *options):
 def every_plan(setting):
     """Balanced, fewest, own, rows, relief of each disk, files: by -n and by the rebuild as in the picture; and which is taken unasked."""
     count = 0
-    for p, k, s, unit, group in [(5, None, 64, 2, 4), (7, 5, 24, None, None), (11, None, 8, 1, 1)]:
+    for p, k, s, unit, group in [(5, None, 64, 2, 4), (7, 4, 24, None, None), (11, None, 8, 1, 1)]:
         images = setting.encoded(noise(9 * (k or p) * p * s - 5), p, k, s, group, unit=unit)
         each = s * images.stripes
         file = setting.new()
@@ -38,7 +37,7 @@ def every_plan(setting):
             own, balanced, fewest = (shares(setting, images, lost, *words) for words in ([], ["--balanced"], ["--fewest"]))
             wanted = [(["--plan", "own"], own, "own"), (["--plan=balanced"], balanced, "balanced" if data else "own"),
                       (["--plan", "fewest"], fewest, "fewest" if data else "own")]
-            wanted.append(([], *wanted[2 if sum(fewest) < sum(balanced) else 1][1:]))  # all images are on one device
+            wanted.append(([], balanced, "balanced") if data and sum(balanced) <= sum(own) else ([], own, "own"))
             if data:
                 rows = [p] * images.k
                 wanted += [(["--plan", "rows"], rows, "rows"), (["--plan", file], rows, "file")]
@@ -78,38 +77,10 @@ def fewest_plans(setting):
     (balanced,), (few, alike) = ({*seen["balanced"]}, sorted({*seen["fewest"]}))
     expect([lost for lost in range(5) if seen["fewest"][lost] == few] == [2], f"of 5 of 7 bays: {seen}")
     said = (f"row parity reads {told[0]['rows']} cells of a stripe, the balanced plan {balanced[0]}, of a disk at most {balanced[1]}. "
-            f"The fewest plan reads {alike[0]}, of a disk at most {alike[1]}; for disk 2 it reads {few[0]}, at most {few[1]},")
+            f"The fewest plan reads {alike[0]}, of a disk at most {alike[1]}; for disk 2 it reads {few[0]}, at most {few[1]}.")
     text = " ".join((TOP / "docs/man/cuzhaveli.1").read_text().split())
     expect(said in text, f"docs/man/cuzhaveli.1 does not say: {said}")
     return f"{count} plans"
-
-
-@with_drives
-def plans_of_drives(setting, loops):
-    """Unasked, 5 of 7 bays: on drives of their own the busiest one decides, and the cells in all where it gives as much by both."""
-    images = setting.encoded(noise(9 * 5 * 7 * 512), 7, 5, 512, 4, unit=2, where=setting.on_disk)
-    good, count = images.images(), 0
-    drives = {disk: loops.new(images.image_bytes()) for disk in good}
-    if None in drives.values():
-        return "left out: not enough loop devices"
-    for disk, drive in drives.items():
-        put(drive, 0, good[disk])
-        linked(images, disk, drive)
-    for names in (["balanced", "balanced", "fewest", "balanced", "balanced", "own", "own"], ["fewest"] * 5 + ["own"]):
-        for lost, name in enumerate(names):
-            would = setting.told("rebuild", "-n", "--disk", lost, images.folder)
-            put(images.path(lost), LABEL, bytes(images.end() - LABEL))  # else what fits is kept
-            done = setting.told("rebuild", "--disk", lost, images.folder)
-            expect(done["read"] == would["read"] + images.block_len * images.units(), f"would {would.told()}, did {done.told()}")
-            expect(images.images() == good, f"lost {lost}: other bytes")
-            given = shares(setting, images, lost, *([] if name == "own" else [f"--{name}"]))
-            wanted = {"plan": name, "read": sum(given) * 512 * images.stripes, "busiest": max(given) * 512 * images.stripes}
-            expect(wanted.items() <= would.figures().items(), f"lost {lost}, {wanted} expected: {would.told()}")
-            count += 1
-        for disk in (5, 6):  # from now on these two are on one device
-            images.path(disk).unlink()
-            images.path(disk).write_bytes(good[disk])
-    return f"{count} rebuilds"
 
 
 def wrong_plans(setting):
@@ -133,4 +104,4 @@ def wrong_plans(setting):
     return "14 calls"
 
 
-CHECKS = [every_plan, fewest_plans, plans_of_drives, wrong_plans]
+CHECKS = [every_plan, fewest_plans, wrong_plans]

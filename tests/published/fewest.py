@@ -20,12 +20,12 @@ import page  # noqa: E402  the library's plans as lines
 TOP = page.TOP
 WIDTHS = (3, 5, 7, 11, 13, 17, 19, 23, 29, 31)
 NUMBER, COUNT = r"(\d+(?:\.\d)?)", r"([\d,]+\d)"
-# where the numbers stand, for k from 3p/4 on, from p/2 on and below: ours and those of the balanced plan, and these alone
+# where the numbers stand: ours for k from 3p/4 on, from p/2 on and below; in docs/SCOPE.md those of the balanced plan too
 SAID = {
-    TOP / "docs/SCOPE.md": (rf"ours reads up to {NUMBER} % more for k ≥ 3p/4, up to {NUMBER} % for k ≥ p/2, up to {NUMBER} % below, "
-                            rf"the balanced plan up to {NUMBER}, {NUMBER} and {NUMBER} %", 0),
-    TOP / "docs/man/cuzhaveli.1": (rf"reads up to {NUMBER} % more from three quarters of WIDTH on, "
-                                   rf"up to {NUMBER} % from a half on, and up to {NUMBER} % below", 3),
+    TOP / "docs/SCOPE.md": rf"ours reads up to {NUMBER} % more for k ≥ 3p/4, up to {NUMBER} % for k ≥ p/2, up to {NUMBER} % below, "
+                           rf"the balanced plan up to {NUMBER}, {NUMBER} and {NUMBER} %",
+    TOP / "docs/man/cuzhaveli.1": rf"reads up to {NUMBER} % more than the fewest from three quarters of WIDTH on, "
+                              rf"up to {NUMBER} % from a half on, and up to {NUMBER} % below",
 }
 COUNTS = TOP / "docs/SCOPE.md", rf"reads the fewest in {COUNT} of {COUNT} arrays and lost disks, one cell more in {COUNT}"
 
@@ -112,8 +112,7 @@ def main():
     if not one_more(fewest, plans_of("own", lines))[0]:
         found.append("our plan passes for the fewest one")
     counted = excess(fewest, lines)
-    said = [(path, pattern, counted[first:]) for path, (pattern, first) in SAID.items()]
-    for path, pattern, numbers in [*said, (*COUNTS, counts)]:
+    for path, pattern, numbers in [*((*said, counted) for said in SAID.items()), (*COUNTS, counts)]:
         text = path.read_text()
         found += [f"{path.relative_to(TOP)}: {problem}" for problem in wrong(text, pattern, numbers)]
         if not list(wrong(text, pattern, [number + 1 for number in numbers])):

@@ -95,28 +95,6 @@ def unmounted(setting, mounts):
     return "6 views"
 
 
-def plans_of_disks(setting):
-    """A rebuild by the plan that suits the disks: 5 of 7 bays with devices of their own, and on one."""
-    if os.geteuid() != 0 or not shutil.which("mount"):
-        return "left out: this user mounts nothing"
-    film = setting.new()
-    film.write_bytes(FILM)
-    with Mounts(setting, 7) as mounts, Mounts(setting, 7) as together:
-        if not all(mounts.mount(disk) for disk in range(7)):
-            return "left out: no file system can be mounted"
-        for store, options, cells in ((mounts, [], (27, 27, 25)), (together, ["--same-device"], (26, 26, 25))):
-            setting.call("create", "-p", 7, "-k", 5, "-s", 64, *options, store.folder, status=0)
-            setting.call("put", store.folder, "a", film, status=0)
-            for disk, wanted in enumerate(cells):
-                (image,) = store.path(disk).glob("*.img")
-                before = image.read_bytes()
-                image.unlink()
-                would, done = (setting.told("rebuild", *words, store.folder) for words in (["-n"], []))
-                expect(would["read"] == wanted * 64 * would["stripes"] > 0, f"disk {disk}, {options}: {wanted} cells expected: {would.told()}")
-                expect(would["read"] <= done["read"] < 1.1 * would["read"] and image.read_bytes() == before, done.told())
-    return "6 rebuilds"
-
-
 @with_mounts
 def full_disks(setting, mounts):
     """What does not fit is refused before a byte is written, by bytes and by inodes; removing makes room."""
@@ -160,4 +138,4 @@ def full_disks(setting, mounts):
     return "bytes and inodes"
 
 
-CHECKS = [unmounted, plans_of_disks, full_disks]
+CHECKS = [unmounted, full_disks]

@@ -33,10 +33,9 @@ pub const COMMAND: Command = Command {
                 name: "--plan",
                 value: Some(("PLAN", Kind::WordOrFile(PLANS))),
                 about: "the plan for one lost data disk: balanced, which spreads the reads over the survivors; fewest, \
-                        which reads the fewest cells of these; own, which reads as few where DISKS is WIDTH; rows, as row parity \
-                        alone, for comparison; or a file with a plan, as cuzhaveli-judge(1) takes it (- for standard \
-                        input). If it is not given, balanced where each image has a device of its own, else fewest; \
-                        cuzhaveli(1) says more",
+                        which reads the fewest cells of these; own, the library's usual one; rows, as row parity alone, \
+                        for comparison; or a file with a plan, as cuzhaveli-judge(1) takes it (- for standard input). \
+                        If it is not given, balanced where it reads as few cells as own, else own",
             }),
             Use::Opt(&Opt {
                 name: "--relieve",

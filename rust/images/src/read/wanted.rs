@@ -39,21 +39,12 @@ fn runs(list: &ReadList) -> Vec<Reading> {
     list.runs().map(|(disk, rows)| Reading { disk, rows }).collect()
 }
 
-/// The plan that is taken unasked, and its cells: of the balanced and the fewest one that which
-/// asks less of its busiest survivor, where each image has a drive of its own, else that which
-/// reads less. Where they are alike in that, the other number decides.
-fn unasked(set: &Set, lost: usize) -> Result<(Way, ReadList), Refusal> {
-    let (shape, own_drives) = (set.label.geometry.shape, set.has_own_drives());
-    let price = |list: &ReadList| {
-        let busiest = (0..shape.disks() + 2).map(|disk| list.share(disk)).max().unwrap_or(0);
-        match own_drives {
-            true => [busiest, list.len()],
-            false => [list.len(), busiest],
-        }
-    };
-    let balanced = chosen(shape, lost, &Choice::Balanced)?;
-    let fewest = chosen(shape, lost, &Choice::Fewest)?;
-    Ok(if price(&fewest.1) < price(&balanced.1) { fewest } else { balanced })
+/// The plan that is taken unasked, and its cells: of ours and the balanced one that which reads
+/// fewer cells, the balanced one if there are two.
+fn unasked(shape: Shape, lost: usize) -> Result<(Way, ReadList), Refusal> {
+    let ours = shape.read_list(lost)?;
+    let (way, list) = chosen(shape, lost, &Choice::Balanced)?;
+    Ok(if list.len() <= ours.len() { (way, list) } else { (Way::Ours(lost), ours) })
 }
 
 /// The plan of a choice for one lost disk, and its cells. For P and Q there is one plan alone.
@@ -73,6 +64,7 @@ fn chosen(shape: Shape, lost: usize, choice: &Choice) -> Result<(Way, ReadList),
         Choice::Fewest if lost < shape.disks() => {
             listed(shape.fewest_plan(lost)?.bytes(), Way::Fewest)
         }
+        Choice::Unasked => unasked(shape, lost),
         _ => Ok((Way::Ours(lost), shape.read_list(lost)?)),
     }
 }
@@ -114,10 +106,7 @@ impl Wanted {
             (Choice::Tested, [one]) => Wanted::of(all(), &all(), Way::Tested(*one)),
             (Choice::Rows, [one]) if *one < shape.disks() => Wanted::by_rows(set, *one),
             (_, [one]) => {
-                let (way, list) = match choice {
-                    Choice::Unasked => unasked(set, *one)?,
-                    asked => chosen(shape, *one, asked)?,
-                };
+                let (way, list) = chosen(shape, *one, choice)?;
                 Wanted::of(runs(&list), &runs(&list), way)
             }
             (_, [first, second, ..]) => Wanted::of(all(), &all(), Way::Two([*first, *second])),
@@ -160,8 +149,8 @@ impl Wanted {
         self.needs.iter_mut().filter(|need| need.disk == p).for_each(|need| need.as_disk = lost);
     }
 
-    /// What the film needs: the data disks and, for one that is lost, the parity cells of a plan,
-    /// of which every plan reads as many as there are rows; all of the others where two are lost.
+    /// What the film needs: the data disks and, for one that is lost, the parity cells of a plan;
+    /// all of the others where two are lost.
     pub fn film(set: &Set) -> Result<Wanted, Refusal> {
         Wanted::film_but(set, &[])
     }
@@ -177,7 +166,7 @@ impl Wanted {
             present.into_iter().filter(data).map(|disk| whole(shape, disk)).collect();
         match lost[..] {
             [one] if data(&one) => {
-                let (way, list) = chosen(shape, one, &Choice::Balanced)?;
+                let (way, list) = unasked(shape, one)?;
                 let needed = runs(&list);
                 let parity = needed.iter().filter(|reading| !data(&reading.disk)).cloned();
                 Ok(Wanted::of(readings.into_iter().chain(parity).collect(), &needed, way))

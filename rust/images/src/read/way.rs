@@ -29,7 +29,7 @@ pub enum Way {
 /// How a rebuild of one disk was asked for.
 #[derive(Clone, Debug, PartialEq, Eq)]
 pub enum Choice {
-    /// By the balanced or the fewest plan, whichever suits the drives.
+    /// By the balanced plan where it reads as few cells as ours, else by ours.
     Unasked,
     Tested,
     Rows,

@@ -17,13 +17,6 @@ impl Set {
         self.medium.each_alone()
     }
 
-    /// Whether each image that is there has a device of its own.
-    pub fn has_own_drives(&self) -> bool {
-        let images: Vec<&Image> = self.present().filter_map(|disk| self.image(disk)).collect();
-        let devices: BTreeSet<u64> = images.iter().filter_map(|image| image.device()).collect();
-        devices.len() == images.len()
-    }
-
     /// From now on images are read past the page cache; the disks where that cannot be had.
     pub fn go_direct(&mut self) -> Vec<usize> {
         let mut cached = Vec::new();
@@ -38,7 +31,9 @@ impl Set {
             image.go_direct();
         }
         self.bad_labels = self.labels_now();
-        self.medium = Medium::direct(self.has_own_drives());
+        let images: Vec<&Image> = self.present().filter_map(|disk| self.image(disk)).collect();
+        let devices: BTreeSet<u64> = images.iter().filter_map(|image| image.device()).collect();
+        self.medium = Medium::direct(devices.len() == images.len());
         cached
     }
 
