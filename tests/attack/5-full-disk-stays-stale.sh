@@ -29,7 +29,7 @@ fill 0 1 2 3 4
 $C remove "$W/s" a >"$W/told" 2>"$W/err" || bad "all disks full: $(cat "$W/err")"
 [ "$(images 0)" = 0 ] || bad 'the image stays'
 drain
-# All are, and the removal is killed before each of its texts: the same command ends it.
+# All are, and the removal is killed before each of its texts: the same command ends it, or a rebuild where it stands already.
 for call in create rename; do
     for nth in 1 4 6 9; do
         two
@@ -38,6 +38,7 @@ for call in create rename; do
         [ $? = 137 ] || bad 'it was not killed'
         $C remove "$W/s" b >/dev/null 2>"$W/err"; status=$?
         [ $status -lt 2 ] || bad "killed at $call $nth: status $status, $(cat "$W/err")"
+        [ $status = 0 ] || $C rebuild -q "$W/s" >/dev/null 2>"$W/err" || bad "killed at $call $nth: rebuild, $(cat "$W/err")"
         [ "$(images 2)" = 1 ] || bad "killed at $call $nth: the image stays"
         drain
         $C rebuild -q "$W/s" >/dev/null || bad 'rebuild'
@@ -45,12 +46,13 @@ for call in create rename; do
         $C remove "$W/s" a >/dev/null || bad 'remove'
     done
 done
-# A store of 1.0.0, which keeps no room: a full disk lacks the change and is freed by it.
+# A store of 1.0.0, which keeps no room: a full disk lacks the change until it has room again.
 two
 rm "$W"/s/disk-0?/reserve
 fill 4
 $C remove "$W/s" b >"$W/told" 2>"$W/err" || bad "without room: $(cat "$W/err")"
-[ "$(images 4)" = 1 ] || bad 'without room: the image stays on the full disk'
+grep -q lack "$W/told" || bad "without room: $(cat "$W/told")"
+drain
 $C put -q "$W/s" c "$W/g" >/dev/null || bad 'put after it'
 $C rebuild -q "$W/s" >/dev/null || bad 'rebuild'
 whole

@@ -7,7 +7,6 @@ import shutil
 from collections import Counter
 
 from harness import can_trace, noise
-from cuts import named_sets
 from record import Recorder, keepers, states_after
 from shelf import REFUSED, Shelf, expect, generation
 
@@ -24,7 +23,7 @@ class Week:
         p, k = self.rng.choice(SHAPES)
         self.shelf = Shelf(setting, p, k, self.rng.choice([5, 16]), *self.rng.choice([(1, 1), (1, 3), (2, 4)]))
         self.allowed = {name: {None} for name in NAMES}
-        self.taken_out, self.acknowledged, self.base, self.empty = {}, self.shelf.catalogues()[0][1], {}, set()
+        self.taken_out, self.acknowledged = {}, self.shelf.catalogues()[0][1]
         self.whole = True  # every disk has all, and nothing was cut off since
         self.told = f"seed {seed}, p {p}, k {k}"
 
@@ -82,8 +81,6 @@ class Week:
         if not before or before == REFUSED:
             return None, None
         file, old = self.rng.choice(before)
-        if not old:
-            self.empty.add(name)
         at, more = self.rng.randrange(len(old) + 1), noise(self.rng.randrange(1, 60), self.rng.random())
         new = old[:at] + more + old[at + len(more):]
         other = self.setting.new()
@@ -100,7 +97,6 @@ class Week:
         empty = [disk for disk in away if self.rng.random() < 0.5]
         self.present = [disk for disk in range(self.shelf.count) if disk not in away]
         view, name = self.shelf.view(away, empty=empty), self.rng.choice(NAMES)
-        self.view = view
         before = {one: self.shelf.get(one, view) for one in NAMES}
         words, new = self.words(kind, view, before[name], name)
         if words is None:
@@ -126,7 +122,7 @@ class Week:
         stands = bool(said) and json.loads(said).get("catalogues") != 0
         same = kind in ("rebuild", "repair")
         if stands:
-            self.acknowledge(name, None if same else new, same, words)
+            self.acknowledge(name, None if same else new, same, before)
         elif operations and not same:
             self.allowed[name] = self.allowed[name] | {new}
         if cut or away or recorder.status != 0:
@@ -137,24 +133,14 @@ class Week:
             self.swept(kind)
         return cut
 
-    def acknowledge(self, name, new, same, words):
-        """Every package is now what the command made, or the one version on which the store was settled."""
+    def acknowledge(self, name, new, same, before):
+        """Every package is now what the command saw, or made."""
         self.acknowledged = max(self.shelf.catalogues().values(), key=lambda found: found[0])[1]
         for one in NAMES:
             if one == name and not same:
                 self.allowed[one] = {new}
-                continue
-            now = self.shelf.get(one, self.view)
-            self.expect(now == REFUSED or now in self.allowed[one], f"{words[0]} settled {one} on {now!r:.80}")
-            if now != REFUSED:
-                self.allowed[one] = {now}
-        self.base, self.empty = {one: named_sets(self.acknowledged, one.replace(" ", "%20")) for one in NAMES}, set()
-
-    def is_whole(self, name, lost):
-        """Whether every set of the version that was last acknowledged has enough images without some disks. A file that was empty
-        has none that would say so, and can be refused under a patch that was cut off."""
-        has = lambda one: sum((drive / f"{one}.img").exists() for disk, drive in self.shelf.drives.items() if disk not in lost)
-        return name not in self.empty and bool(self.base.get(name)) and all(has(one) >= self.shelf.k for one in self.base[name])
+            elif before[one] != REFUSED:
+                self.allowed[one] = {before[one]}
 
     def swept(self, kind):
         """Each disk has the images that the catalogue names, and nothing else."""
@@ -178,8 +164,6 @@ class Week:
                     moved = self.seen["exchange"] + self.seen["swap"]
                     self.expect(turn == 3 or not self.whole, f"after {after} {name} is refused without disks {lost}, and all were whole")
                     self.expect(turn > 0 or moved, f"after {after} {name} is refused with all disks there")
-                    self.expect(turn == 3 or moved or not self.is_whole(name, lost),
-                                f"after {after} {name} is refused without disks {lost}, and the acknowledged version is whole")
                 else:
                     self.expect(found in self.allowed[name], f"after {after}, without {lost}: {name} is {found!r:.80}, "
                                 f"allowed {[repr(one)[:80] for one in self.allowed[name]]}")

@@ -92,16 +92,6 @@ impl Package {
         format!("{}/{}", self.name.as_str(), file.name.as_str())
     }
 
-    /// Its lines in a catalogue.
-    pub fn lines(&self) -> String {
-        let mut lines = format!("package {}\n", self.name.as_str());
-        for Entry { set, length, name } in &self.files {
-            let set = set.map_or_else(|| "-".into(), |set| hex(&set));
-            let _ = writeln!(lines, "file {set} {length} {}", name.as_str());
-        }
-        lines
-    }
-
     /// The bytes of its files.
     pub fn length(&self) -> u64 {
         self.files.iter().map(|file| file.length).fold(0, u64::saturating_add)
@@ -122,7 +112,13 @@ impl Package {
 impl Catalogue {
     pub fn text(&self) -> String {
         let mut lines = self.numbers.lines(self.generation);
-        self.packages.iter().for_each(|package| lines += &package.lines());
+        for package in &self.packages {
+            let _ = writeln!(lines, "package {}", package.name.as_str());
+            for Entry { set, length, name } in &package.files {
+                let set = set.map_or_else(|| "-".into(), |set| hex(&set));
+                let _ = writeln!(lines, "file {set} {length} {}", name.as_str());
+            }
+        }
         sealed::seal(&lines)
     }
 
@@ -197,19 +193,19 @@ fn parse_numbers<'a>(lines: &mut impl Iterator<Item = &'a str>) -> Option<(Numbe
 }
 
 #[cfg(test)]
-pub(super) mod tests {
+mod tests {
     use super::*;
 
-    pub fn entry(set: u8, length: u64, name: &str) -> Entry {
+    fn entry(set: u8, length: u64, name: &str) -> Entry {
         let set = (length > 0).then_some([set; 16]);
         Entry { set, length, name: Name::of(name.as_bytes()).unwrap() }
     }
 
-    pub fn package(name: &str, files: Vec<Entry>) -> Package {
+    fn package(name: &str, files: Vec<Entry>) -> Package {
         Package { name: Name::of(name.as_bytes()).unwrap(), files }
     }
 
-    pub fn catalogue() -> Catalogue {
+    fn catalogue() -> Catalogue {
         let shape = Shape::new(5, 4, 512).unwrap();
         let numbers = Numbers { store: [9; 16], shape, unit: 64, group: 128, separate: true };
         let feature =

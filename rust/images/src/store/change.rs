@@ -1,24 +1,27 @@
-//! A change of a store: promised on every disk, then images, then the catalogue, then what it
-//! replaces goes.
+//! A change of a store: promised on every disk, then images, then the catalogue, then what no
+//! catalogue names goes.
+
+use std::collections::HashSet;
+use std::fs;
+use std::rc::Rc;
 
 use super::catalogue::{self, Catalogue, Package};
 use super::disk_file::{self, DiskFile};
 use super::opened::Store;
-use super::place::There;
+use super::place::{DiskFolder, There};
 use super::replace::{read, replace};
 use super::reserve::keep;
-use super::sweep::Sweep;
-use super::versions::{with_links, without_dead_links};
 use crate::fault::Fault;
+use crate::layout::label::{hex, name_of};
+use crate::layout::sums::SetName;
 use crate::names::disk_names;
 use crate::os::files::can_open;
 
 /// A change that is under way. The store is locked meanwhile.
 pub struct Change<'a> {
     pub store: &'a Store,
-    /// The generation of the catalogue that it writes, and that of the last one that it may write.
+    /// The generation of the catalogue that it writes.
     generation: u64,
-    promise: u64,
     /// The disks that take part.
     disks: Vec<usize>,
     /// What is to be told of disks that were left out.
@@ -38,8 +41,8 @@ pub struct Changed {
 }
 
 impl<'a> Change<'a> {
-    /// Begins a change of so many catalogues: it is promised on every disk that is there.
-    pub fn begin(store: &'a Store, catalogues: u64) -> Result<Change<'a>, Fault> {
+    /// Begins a change: it is promised on every disk that is there.
+    pub fn begin(store: &'a Store) -> Result<Change<'a>, Fault> {
         let (disks, needs) = (store.there(), store.quorum().to_change());
         if disks.len() < needs {
             return Err(Fault::Images(format!(
@@ -48,14 +51,13 @@ impl<'a> Change<'a> {
                 disks.len()
             )));
         }
-        let promise = store.highest.checked_add(catalogues).ok_or_else(|| {
+        let generation = store.highest.checked_add(1).ok_or_else(|| {
             Fault::Failed(format!("{}: no generation is left", store.folder.display()))
         })?;
-        let generation = promise + 1 - catalogues;
-        let mut change = Change { store, generation, promise, disks, told: Vec::new() };
-        change.keep_room(store.counts.text().len(), |there| there.copy.is_some());
+        let mut change = Change { store, generation, disks, told: Vec::new() };
+        change.keep_room(store.catalogue.text().len(), |there| there.copy.is_some());
         change.each(|change, disk| {
-            change.put(disk, disk_file::NAME, change.disk_file(disk).text().as_bytes())
+            change.put(disk, disk_file::NAME, change.promise(disk).text().as_bytes())
         })?;
         Ok(change)
     }
@@ -121,7 +123,7 @@ impl<'a> Change<'a> {
             let path = there.folder.below(disk_file::NAME);
             let text = read(&path, disk_file::MOST_BYTES);
             let text = text.map_err(|error| Fault::path(&path, error))?;
-            if text != change.disk_file(disk).text().as_bytes() {
+            if text != change.promise(disk).text().as_bytes() {
                 other = other.or(Some(disk));
             }
             Ok(())
@@ -136,73 +138,44 @@ impl<'a> Change<'a> {
     }
 
     /// The file `disk` of this change.
-    fn disk_file(&self, disk: usize) -> DiskFile {
-        DiskFile { store: self.store.numbers().store, disk, promise: self.promise }
+    fn promise(&self, disk: usize) -> DiskFile {
+        DiskFile { store: self.store.numbers().store, disk, promise: self.generation }
     }
 
     /// The text of the catalogue with these packages, if it is within its limit.
-    fn text(&self, generation: u64, packages: Vec<Package>) -> Result<String, Fault> {
-        let text = Catalogue { numbers: *self.store.numbers(), generation, packages }.text();
+    fn catalogue(&self, packages: Vec<Package>) -> Result<(Catalogue, String), Fault> {
+        let numbers = *self.store.numbers();
+        let new = Catalogue { numbers, generation: self.generation, packages };
+        let text = new.text();
         is_within(self.store, text.len() as u64)?;
-        Ok(text)
+        Ok((new, text))
     }
 
-    /// Ends a change with these packages. A version that one of them replaces stays in the catalogue
-    /// until it is swept.
-    pub fn commit(self, packages: Vec<Package>) -> Result<Changed, Fault> {
-        let before = self.store.catalogue.clone();
-        let last = without_dead_links(&before, packages);
-        let first = with_links(&before, &last);
-        let replaces = |new: &&Package| before.package(&new.name).is_some_and(|old| old != *new);
-        let replacing: Vec<Package> = last.iter().filter(replaces).cloned().collect();
-        let must = first != last;
-        self.write(first, last, &replacing.iter().collect::<Vec<_>>(), must)
-    }
-
-    /// Writes the first catalogue, which counts once enough disks have it, sweeps, and writes the
-    /// last one, without the versions that were swept. If it must be swept, it is acknowledged once
-    /// no replaced version has enough images anywhere: one that has then proves that what replaces
-    /// it was never acknowledged.
-    pub(super) fn write(
-        mut self,
-        first: Vec<Package>,
-        last: Vec<Package>,
-        replacing: &[&Package],
-        must: bool,
-    ) -> Result<Changed, Fault> {
-        let second = (first != last).then(|| self.text(self.promise, last.clone())).transpose()?;
-        let text = self.text(self.generation, first)?;
+    /// Writes the catalogue with these packages: the change stands once enough disks have it. Then
+    /// images go that no catalogue names.
+    pub fn commit(mut self, packages: Vec<Package>) -> Result<Changed, Fault> {
+        let (catalogue, text) = self.catalogue(packages)?;
         self.is_promised()?;
-        let have = self.put_all(&text);
-        if have.len() < self.store.quorum().to_change() {
-            return Err(self.unsure());
-        }
-        let swept = Sweep::of(self.store, &last, replacing).run();
-        if must && self.store.quorum().is_readable(self.store.disks.len() - swept.disks) {
-            self.told.extend(swept.leftovers);
-            return Err(self.unsure());
-        }
-        if let Some(text) = second {
-            self.put_all(&text); // where it is not written the first one says the same
-        }
-        self.keep_room(text.len(), |_| true);
-        let lack: Vec<usize> =
-            (0..self.store.disks.len()).filter(|disk| !have.contains(disk)).collect();
-        let lacking = disk_names(self.store.numbers().shape, &lack);
-        Ok(Changed { lack, lacking, warnings: self.told, leftovers: swept.leftovers })
-    }
-
-    /// Writes a catalogue to every disk that takes part; gives those that have it.
-    fn put_all(&mut self, text: &str) -> Vec<usize> {
         let mut have = Vec::new();
-        for disk in self.disks.clone() {
-            match self.put(disk, catalogue::NAME, text.as_bytes()) {
-                Ok(()) => have.push(disk),
+        for disk in &self.disks {
+            match self.put(*disk, catalogue::NAME, text.as_bytes()) {
+                Ok(()) => have.push(*disk),
                 Err(fault) => self.told.push(format!("disk {disk} lacks the change: {fault}")),
             }
         }
-        self.disks.clone_from(&have);
-        have
+        if have.len() < self.store.quorum().to_change() {
+            return Err(Fault::Unsure(format!(
+                "{}: {}; it may stand or not; run it again",
+                self.store.folder.display(),
+                self.told.join("; ")
+            )));
+        }
+        let lack: Vec<usize> =
+            (0..self.store.disks.len()).filter(|disk| !have.contains(disk)).collect();
+        let leftovers = self.sweep(&catalogue, &have, &lack);
+        self.keep_room(text.len(), |_| true);
+        let lacking = disk_names(self.store.numbers().shape, &lack);
+        Ok(Changed { lack, lacking, warnings: self.told, leftovers })
     }
 
     /// Keeps room on disks for the texts of the next change. A new disk gets it last: it is empty
@@ -215,12 +188,28 @@ impl<'a> Change<'a> {
         }
     }
 
-    fn unsure(&self) -> Fault {
-        Fault::Unsure(format!(
-            "{}: {}; it may stand or not; run it again",
-            self.store.folder.display(),
-            self.told.join("; ")
-        ))
+    /// Takes away the images that no catalogue names, of any generation on any disk; says where that
+    /// could not be done.
+    fn sweep(&self, catalogue: &Catalogue, have: &[usize], lack: &[usize]) -> Vec<String> {
+        let left = lack.iter().filter_map(|disk| self.store.disk(*disk)?.copy.clone());
+        let mut named: HashSet<SetName> = catalogue.sets().collect();
+        left.for_each(|copy: Rc<Catalogue>| named.extend(copy.sets()));
+        let sweep = |disk: &usize| self.sweep_disk(*disk, &named).err();
+        have.iter().filter_map(sweep).map(|fault| fault.to_string()).collect()
+    }
+
+    fn sweep_disk(&self, disk: usize, named: &HashSet<SetName>) -> Result<(), Fault> {
+        let Some(there) = self.store.disk(disk) else { return Ok(()) };
+        let folder = &there.folder;
+        let useless = useless(folder, named)?;
+        folder.is_in_place()?;
+        for path in useless.iter().map(|name| folder.below(name)) {
+            fs::remove_file(&path).map_err(|error| Fault::path(&path, error))?;
+        }
+        if !useless.is_empty() {
+            folder.sync()?;
+        }
+        Ok(())
     }
 }
 
@@ -233,4 +222,55 @@ pub fn is_within(store: &Store, bytes: u64) -> Result<(), Fault> {
         "{}: the catalogue would have more than 16 MiB; remove packages first",
         store.folder.display()
     )))
+}
+
+/// The names of images in a disk's folder, whole or not, whose sets are not named.
+fn useless(folder: &DiskFolder, named: &HashSet<SetName>) -> Result<Vec<String>, Fault> {
+    let names = folder.names().map_err(|error| Fault::path(&folder.path, error))?;
+    let is_useless = |name: &String| image_of(name).is_some_and(|set| !named.contains(&set));
+    Ok(names.into_iter().filter(is_useless).collect())
+}
+
+/// Whether a disk has images of a change that was cut off.
+pub fn has_leftovers(store: &Store) -> Result<bool, Fault> {
+    let named: HashSet<SetName> = store.catalogue.sets().collect();
+    for disk in store.there().iter().filter_map(|disk| store.disk(*disk)) {
+        if !useless(&disk.folder, &named)?.is_empty() {
+            return Ok(true);
+        }
+    }
+    Ok(false)
+}
+
+/// The set of a file that is named as an image, or as one that is being written.
+fn image_of(name: &str) -> Option<SetName> {
+    let stem = name.strip_suffix(".img").or_else(|| name.strip_suffix(".img.part"))?;
+    name_of(stem).filter(|set| hex(set) == stem)
+}
+
+#[cfg(test)]
+mod tests {
+    use super::*;
+
+    #[test]
+    fn only_names_of_sets_are_swept() {
+        let name = "0123456789abcdef".repeat(2);
+        for good in [format!("{name}.img"), format!("{name}.img.part")] {
+            assert_eq!(image_of(&good).map(|set| hex(&set)), Some(name.clone()), "{good}");
+        }
+        let upper = name.to_uppercase();
+        for other in [
+            "disk",
+            "catalogue",
+            ".img",
+            "x.img",
+            &format!("{upper}.img"),
+            &name,
+            &format!("{name}0.img"),
+            &format!("{name}.mkv"),
+            &format!("+{}.img", &name[1..]),
+        ] {
+            assert_eq!(image_of(other), None, "{other}");
+        }
+    }
 }

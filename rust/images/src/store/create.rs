@@ -28,7 +28,7 @@ pub struct Created {
 /// Creates a store in a folder that is locked.
 pub fn create(folder: &Path, numbers: Numbers, waits: impl FnOnce()) -> Result<Created, Fault> {
     let fresh = fresh(folder, numbers, waits)?;
-    let changed = Change::begin(&fresh, 1)?.commit(Vec::new())?;
+    let changed = Change::begin(&fresh)?.commit(Vec::new())?;
     Ok(Created { disks: fresh.disks.len(), changed })
 }
 
@@ -54,10 +54,9 @@ fn fresh(folder: &Path, numbers: Numbers, waits: impl FnOnce()) -> Result<Store,
         is_apart(folder, numbers.separate, place, &disks)?;
         disks.push(Disk::There(There { folder: place.clone(), promise: 0, copy: None }));
     }
-    let counts = Rc::new(Catalogue { numbers, generation: 0, packages: Vec::new() });
+    let catalogue = Rc::new(Catalogue { numbers, generation: 0, packages: Vec::new() });
     let places = Places(places.into_iter().map(Ok).collect());
-    let (catalogue, older, folder) = (counts.clone(), Vec::new(), folder.into());
-    Ok(Store { folder, counts, catalogue, older, disks, highest: 0, places })
+    Ok(Store { folder: folder.into(), catalogue, disks, highest: 0, places })
 }
 
 fn is_no_store(folder: &Path) -> Result<(), Fault> {

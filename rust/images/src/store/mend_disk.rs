@@ -54,7 +54,7 @@ fn wanted(store: &Store, disk: usize, folder: &DiskFolder) -> Option<DiskFile> {
 /// Whether the images in a folder are those of a disk: some of sets that the catalogue names, and all of
 /// these. The folder's name proves nothing.
 fn is_disk(store: &Store, disk: usize, folder: &DiskFolder) -> bool {
-    let files = store.counts.files();
+    let files = store.catalogue.files();
     let labels = files.filter_map(|(_, file)| file.label(store.numbers()));
     let mut found = labels.filter_map(|label| labelled(folder, &label)).peekable();
     found.peek().is_some() && found.all(|number| number == disk)

@@ -30,8 +30,5 @@ pub mod repair;
 pub mod replace;
 mod reserve;
 mod sealed;
-pub mod settle;
 pub mod source;
 pub mod space;
-mod sweep;
-pub mod versions;

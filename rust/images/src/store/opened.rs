@@ -8,7 +8,6 @@ use super::catalogue::{Catalogue, Entry, Numbers, Package};
 use super::name::Name;
 use super::place::{disk_path, Disk, DiskFolder, PlaceTexts, Places, Seen, There};
 use super::quorum::Quorum;
-use super::versions::chosen;
 use crate::fault::Fault;
 use crate::layout::label::{hex, Label};
 use crate::layout::sums::SetName;
@@ -18,11 +17,7 @@ use crate::read::set::Set;
 pub struct Store {
     pub folder: PathBuf,
     /// The one that counts.
-    pub counts: Rc<Catalogue>,
-    /// The same as it is read: of two versions of a package the one that can be read here.
     pub catalogue: Rc<Catalogue>,
-    /// The packages of which that is the version before a replacement that was cut off.
-    pub older: Vec<Name>,
     pub disks: Vec<Disk>,
     /// The largest promise or generation on any disk of the store, wherever it stands, but those that
     /// no change of it made.
@@ -55,9 +50,8 @@ impl Store {
     /// whichever folder of links others came by. `waits` is called if another has one.
     pub fn open_to_change(folder: &Path, waits: impl FnOnce()) -> Result<Store, Fault> {
         std::fs::read_dir(folder).map_err(|error| Fault::path(folder, error))?;
-        let mut places = Places::open(folder);
+        let places = Places::open(folder);
         places.lock(waits)?;
-        places.sync(); // what is not there must not come back
         let seen = places.look();
         Store::judged(folder, places, seen)
     }
@@ -69,24 +63,10 @@ impl Store {
         let promised = promised(&numbers.store, &seen);
         let seen = seen.into_iter().enumerate().take(numbers.shape.disks() + 2);
         let mut disks: Vec<Disk> = seen.map(|(disk, seen)| settle(&numbers, disk, seen)).collect();
-        let counts = counting(folder, &numbers, &disks)?;
-        let highest = put_aside(&mut disks, counts.generation, &promised);
-        let (catalogue, older, folder) = (counts.clone(), Vec::new(), folder.into());
-        let mut store = Store { folder, counts, catalogue, older, disks, highest, places };
+        let catalogue = counting(folder, &numbers, &disks)?;
+        let highest = put_aside(&mut disks, catalogue.generation, &promised);
+        let store = Store { folder: folder.into(), catalogue, disks, highest, places };
         store.are_apart()?;
-        (store.catalogue, store.older) = chosen(&store)?;
-        Ok(store)
-    }
-
-    /// The store as it is after a change of it, with the folders that are locked. A disk that got no
-    /// catalogue is left out.
-    pub(super) fn again(self) -> Result<Store, Fault> {
-        let mut store = self.reopened()?;
-        for disk in &mut store.disks {
-            if let Disk::There(There { copy: None, .. }) = disk {
-                *disk = Disk::Away("has no whole catalogue".into());
-            }
-        }
         Ok(store)
     }
 
@@ -155,15 +135,7 @@ impl Store {
             };
             Some(format!("{} {what}", disk_path(&self.folder, disk).display()))
         };
-        let older = |name: &Name| {
-            format!(
-                "{}: a replacement of {} that was cut off cannot be read; this is the version before it",
-                self.folder.display(),
-                name.as_str()
-            )
-        };
-        let disks = self.disks.iter().enumerate().filter_map(note);
-        disks.chain(self.older.iter().map(older)).collect()
+        self.disks.iter().enumerate().filter_map(note).collect()
     }
 
     /// No two places may be one folder, nor on one device if the store has them apart.

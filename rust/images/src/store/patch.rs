@@ -11,7 +11,6 @@ use super::patched::Patched;
 use super::put::{labels, new_entry, reckon, with_images};
 use super::source::NewFile;
 use super::space::{refuse, Need};
-use super::versions::{is_certain, is_free};
 use crate::fault::Fault;
 use crate::layout::label::Label;
 use crate::read::film::FilmReader;
@@ -40,8 +39,6 @@ impl<'a> PatchPlan<'a> {
         start: u64,
         patch: &NewFile,
     ) -> Result<PatchPlan<'a>, Fault> {
-        is_free(package)?;
-        is_certain(store, package)?;
         let package = store.package(package)?;
         let old = store.file(package, file)?;
         if start > old.length {

@@ -176,15 +176,6 @@ impl Places {
         lock_all(self.0.iter().flatten(), waits)
     }
 
-    /// Makes the names in all folders last; one where that fails counts as away.
-    pub fn sync(&mut self) {
-        for place in &mut self.0 {
-            if let Err(fault) = place.as_ref().map_or(Ok(()), |folder| folder.sync()) {
-                *place = Err(format!("cannot be written: {fault}"));
-            }
-        }
-    }
-
     /// Looks at all places.
     pub fn look(&self) -> Vec<Seen> {
         let mut copies = Copies::default();

@@ -9,7 +9,6 @@ use super::name::Name;
 use super::opened::Store;
 use super::source::NewFile;
 use super::space::{free, need, refuse, Free, Need};
-use super::versions::{is_certain, is_free, with_links};
 use crate::fault::Fault;
 use crate::layout::label::{new_name, Label};
 use crate::watch::Watch;
@@ -25,8 +24,6 @@ pub struct PutPlan {
 impl PutPlan {
     /// A package of these files, in the place of one of that name.
     pub fn of(store: &Store, name: Name, files: &[NewFile]) -> Result<PutPlan, Fault> {
-        is_free(&name)?;
-        is_certain(store, &name)?;
         let lengths: Vec<u64> = files.iter().map(|file| file.length).collect();
         store.numbers().shape.space(&lengths, u64::MAX)?; // too many files, or too long
         let entry = |file: &NewFile| new_entry(file.name.clone(), file.length);
@@ -100,7 +97,7 @@ pub(super) fn reckon(
     package: &Package,
     lengths: &[u64],
 ) -> Result<(Need, Vec<Free>), Fault> {
-    let packages = with_links(&store.catalogue, &store.catalogue.with(package.clone()));
+    let packages = store.catalogue.with(package.clone());
     let text = Catalogue { packages, ..(*store.catalogue).clone() }.text().len() as u64;
     let need = need(store, lengths, text)?;
     is_within(store, text)?;
@@ -120,8 +117,7 @@ pub(super) fn with_images<'a>(
     labels: &[Label],
     write: impl FnOnce(&mut Change<'a>, &NewImages<'a>) -> Result<(), Fault>,
 ) -> Result<Changed, Fault> {
-    let replaces = store.catalogue.package(&package.name).is_some();
-    let mut change = Change::begin(store, 1 + u64::from(replaces))?;
+    let mut change = Change::begin(store)?;
     let images = NewImages::reserve(&mut change, labels)?;
     write(&mut change, &images)?;
     change.sync_folders()?;

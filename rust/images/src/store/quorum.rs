@@ -27,11 +27,6 @@ impl Quorum {
         self.all() + 1 - self.to_change()
     }
 
-    /// Whether so many images of a set are enough.
-    pub fn is_readable(self, images: usize) -> bool {
-        images >= self.data
-    }
-
     /// Of the generations of the catalogues that are seen, the one that counts; none if too few are
     /// seen. In falling order it stands in place W less the disks whose catalogue is not seen: a
     /// higher one is on fewer than W disks, whatever those have, and was never acknowledged.

@@ -4,11 +4,10 @@ use std::path::Path;
 
 use super::board::lacking;
 use super::catalogue::{Entry, Package};
-use super::change::{Change, Changed};
+use super::change::{has_leftovers, Change, Changed};
 use super::file_gaps::FileGaps;
 use super::opened::Store;
 use super::refresh::{work, Done};
-use super::sweep::has_leftovers;
 use crate::fault::Fault;
 use crate::names::disk_names;
 use crate::os::pace::Pace;
@@ -45,7 +44,7 @@ pub fn rebuild(
         return Ok(rebuilt);
     }
     stop::says("what is rebuilt stays; the same command goes on");
-    let change = Change::begin(store, 1)?;
+    let change = Change::begin(store)?;
     for (package, file) in store.catalogue.files() {
         // Twice where an old drive has one disk's image and another disk lacks its own.
         if rebuilt.file(&change, package, file, from, pace, watch)? {
@@ -83,7 +82,7 @@ pub fn would_rebuild(store: &Store, from: Option<&Path>) -> Result<StoreRebuilt,
 /// Whether every disk is there and lacks nothing, so that there is nothing to change.
 fn is_done(store: &Store, from: Option<&Path>) -> Result<bool, Fault> {
     let all = store.is_settled() && store.there().len() == store.disks.len();
-    if !all || has_leftovers(store) {
+    if !all || has_leftovers(store)? {
         return Ok(false);
     }
     for (package, file) in store.catalogue.files() {

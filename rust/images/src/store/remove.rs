@@ -16,6 +16,6 @@ pub struct Removed {
 pub fn remove(store: &Store, name: &Name) -> Result<Removed, Fault> {
     let package = store.package(name)?;
     let (files, length) = (package.files.len(), package.length());
-    let changed = Change::begin(store, 1)?.commit(store.catalogue.without(name))?;
+    let changed = Change::begin(store)?.commit(store.catalogue.without(name))?;
     Ok(Removed { files, length, changed })
 }

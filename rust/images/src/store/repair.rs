@@ -3,9 +3,9 @@
 use std::sync::Arc;
 
 use super::board::lacking;
+use super::change::Change;
 use super::file_gaps::FileGaps;
 use super::opened::Store;
-use super::settle::settle_in_place;
 use crate::fault::Fault;
 use crate::os::pace::Pace;
 use crate::read::set::Set;
@@ -102,7 +102,7 @@ impl StoreRepaired {
         }
         let counts = Some(store.catalogue.generation);
         let differs = |disk: &usize| store.generation(*disk) != counts;
-        let Some(changed) = settle_in_place(store)? else { return Ok(()) };
+        let changed = Change::begin(store)?.commit(store.catalogue.packages.clone())?;
         let has = |disk: &usize| !changed.lack.contains(disk);
         self.catalogues = store.there().into_iter().filter(differs).filter(has).count();
         self.lost.extend(&changed.lack);

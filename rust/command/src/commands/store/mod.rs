@@ -22,7 +22,6 @@ use cuzhaveli_images::store::change::Changed;
 use cuzhaveli_images::store::file_gaps::{FileGap, FileGaps};
 use cuzhaveli_images::store::name::Name;
 use cuzhaveli_images::store::opened::Store;
-use cuzhaveli_images::store::settle::settle;
 
 use crate::cli::args::Given;
 use crate::cli::values::usage;
@@ -38,23 +37,10 @@ pub fn opened(folder: &Path) -> Result<Store, Fault> {
 
 /// The same, with other programs kept from changing it until the file and the store are closed.
 pub fn locked(folder: &Path) -> Result<(File, Store), Fault> {
-    let (lock, store) = held(folder)?;
-    Ok((lock, settled(store)?))
-}
-
-/// The same as its disks are: what was cut off is neither ended nor taken back.
-pub fn held(folder: &Path) -> Result<(File, Store), Fault> {
     let lock = lock(folder)?;
     let store = Store::open_to_change(folder, waits)?;
     say::warn_all(&store.notes());
     Ok((lock, store))
-}
-
-/// Ends what was cut off, or takes it back.
-pub fn settled(store: Store) -> Result<Store, Fault> {
-    let (store, told) = settle(store)?;
-    say::warn_all(&told);
-    Ok(store)
 }
 
 /// Says that another program has the disks.

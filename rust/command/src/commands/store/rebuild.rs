@@ -12,7 +12,7 @@ use cuzhaveli_images::store::rebuild::{rebuild, would_rebuild, StoreRebuilt};
 
 use crate::cli::args::Given;
 use crate::commands::bill::{bill, rates};
-use crate::commands::store::{acknowledge, cannot_be_written, gaps, settled, waits};
+use crate::commands::store::{acknowledge, cannot_be_written, gaps, waits};
 use crate::print::json::Object;
 use crate::print::say;
 use crate::print::watcher::Watcher;
@@ -32,7 +32,6 @@ pub fn run(given: &Given) -> Result<(), Fault> {
     say::warn_all(&told);
     add_new(given, &mut store)?;
     say::warn_all(&store.notes());
-    let store = settled(store)?;
     let rebuilt = rebuild(&store, from, &pace, &mut Watcher::new(given.flag("-q")))?;
     let Some(changed) = &rebuilt.changed else {
         let mut object = object(&rebuilt, true, 0);

@@ -9,7 +9,7 @@ use cuzhaveli_images::store::repair::{repair, StoreRepaired};
 
 use crate::cli::args::Given;
 use crate::commands::set::repair::rewritten;
-use crate::commands::store::{cannot_be_written, gaps, held};
+use crate::commands::store::{cannot_be_written, gaps, locked};
 use crate::print::json::Object;
 use crate::print::say;
 use crate::print::watcher::Watcher;
@@ -17,7 +17,7 @@ use crate::print::watcher::Watcher;
 pub fn run(given: &Given) -> Result<(), Fault> {
     given.only_for("a set", &["--overwrite"])?;
     let pace = given.pace()?; // refused before anything is locked
-    let (_lock, store) = held(given.path(0))?;
+    let (_lock, store) = locked(given.path(0))?;
     let (store, told) = mend_disk_files(store)?;
     say::warn_all(&told);
     stop::says("what is repaired stays; the same command goes on");
