@@ -1,5 +1,6 @@
 #!/bin/bash
-# A disk fails one write of a put, which goes on without it. The part that stays there, or anything else of that name, stops no rebuild.
+# A disk fails one write of a put, which goes on without it and leaves no part there. A rebuild refuses what else has that name, and
+# neither takes it away nor writes to it; film can be read meanwhile, and once it is taken away by hand the disk is rebuilt.
 . "$(dirname "$0")/common.sh"
 store
 film 3000000 "$W/f"
@@ -9,23 +10,33 @@ must "$C" rebuild -q "$W/s" >/dev/null 2>&1
 must "$C" check -q "$W/s" >/dev/null
 image=$W/s/disk-03/$(set_of a).img
 bytes=$(stat -c %s "$image")
-again() { # HOW
+refused() { # HOW
+    "$C" rebuild -q "$W/s" >/dev/null 2>&1 && bad "$1: status 0"
+    [ -e "$image.part" ] && [ ! -e "$image" ] || bad "$1: the part is taken away"
+    same a "$W/f"
+}
+again() {
+    must rm "$image.part"
     must "$C" rebuild -q "$W/s" >/dev/null 2>&1
     must "$C" check -q "$W/s" >/dev/null
-    [ ! -e "$image.part" ] || bad "$1: the part is still there"
-    same a "$W/f"
 }
 mv "$image" "$image.part"
 dd if=/dev/zero of="$image.part" bs=4096 count=1 conv=notrunc status=none # as a power cut leaves the part of a put
-again "a part without a mark"
+cp "$image.part" "$W/kept"
+refused "a part without a mark"
+cmp -s "$image.part" "$W/kept" || bad "a part without a mark is written to"
+again
 rm "$image"
 head -c "$bytes" /dev/urandom >"$image.part"
-again "a part of other bytes"
+refused "a part of other bytes"
+again
 rm "$image"
 echo untouched >"$W/other"
 ln -s "$W/other" "$image.part"
-again "a link"
+refused "a link"
 [ "$(cat "$W/other")" = untouched ] || bad "what the link leads to was written"
+again
 rm "$image"
 mkfifo "$image.part"
-again "a pipe"
+refused "a pipe"
+again

@@ -1,6 +1,5 @@
 //! The images that disks of a store lack, rebuilt file by file.
 
-use std::fs;
 use std::path::Path;
 use std::sync::Arc;
 
@@ -9,14 +8,13 @@ use super::opened::Store;
 use crate::fault::Fault;
 use crate::layout::label::{hex, Found, Label};
 use crate::os::files::can_open;
-use crate::os::folder::{part_path, shown};
+use crate::os::folder::shown;
 use crate::os::pace::Pace;
 use crate::os::sys;
 use crate::read::image::Image;
 use crate::read::set::Set;
 use crate::read::wanted::{Reading, Wanted};
 use crate::read::way::Choice;
-use crate::write::output::Output;
 use crate::write::rebuild::{rebuild, Rebuilt};
 use crate::write::spare::Spare;
 
@@ -162,30 +160,9 @@ fn reserve(spare: &Spare, label: &Label) -> Result<(), Fault> {
     }
 }
 
-/// Begins a disk's image, or goes on with it. A part of that name is of this set, whatever it begins
-/// with: a put that left the disk out may have begun it, and what verifies of it stays.
+/// Begins a disk's image, or goes on with it. A part with the name of the set that is none of it is
+/// refused: film may need the rest of it.
 fn spare(store: &Store, label: &Label, disk: usize) -> Result<Spare, Fault> {
     let path = store.held_image(disk, &label.set)?;
-    match Spare::file(&path, label, disk) {
-        Err(Fault::Images(_)) => {
-            take_over(&path, label, disk)?;
-            Spare::file(&path, label, disk)
-        }
-        spare => spare,
-    }
-}
-
-/// Marks a part that begins with something else; film may need the rest of it. A link goes, not what it
-/// leads to, and a pipe does.
-fn take_over(path: &Path, label: &Label, disk: usize) -> Result<(), Fault> {
-    let part = part_path(path);
-    let failed = |error| Fault::path(&part, error);
-    if !part.symlink_metadata().map_err(failed)?.is_file() {
-        return fs::remove_file(&part).map_err(failed);
-    }
-    let first = Image::open(&part).and_then(|image| image.block(0)).map_err(failed)?;
-    match Output::begun(path, &[first])? {
-        Some(mut output) => output.mark(label, disk, label.geometry.image_bytes()),
-        None => Ok(()),
-    }
+    Spare::file(&path, label, disk)
 }
