@@ -27,7 +27,7 @@ def rebuilt(setting, images, lost, *options):
 def every_plan(setting):
     """Balanced, fewest, own, rows, relief of each disk, files: by -n and by the rebuild as in the picture; and which is taken unasked."""
     count = 0
-    for p, k, s, unit, group in [(5, None, 64, 2, 4), (7, 4, 24, None, None), (11, None, 8, 1, 1)]:
+    for p, k, s, unit, group in [(5, None, 64, 2, 4), (7, 4, 24, None, None), (7, 5, 24, None, None), (11, None, 8, 1, 1)]:
         images = setting.encoded(noise(9 * (k or p) * p * s - 5), p, k, s, group, unit=unit)
         each = s * images.stripes
         file = setting.new()
