@@ -74,6 +74,8 @@ def unmounted(setting, mounts):
     done = setting.call("rebuild", "--new", 3, store, status=4)
     expect(b"no disk is mounted there" in done.err and not list(mounts.path(3).iterdir()), done.told())
     mounts.mount(3)
+    done = setting.call("rebuild", store, status=1)
+    expect(not list(mounts.path(3).iterdir()), f"an empty disk is taken unnamed: {done.told()}")
     done = setting.told("rebuild", "--new", 3, "--from", place, store)
     expect(done["images"] == 2 and done["lacks"] == [], done.told())
     setting.call("check", store, status=0)
