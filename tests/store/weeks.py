@@ -146,7 +146,7 @@ class Week:
         """Each disk has the images that the catalogue names, and nothing else."""
         named = {line.split()[1].decode() + ".img" for line in self.acknowledged.splitlines() if line.startswith(b"file ")}
         for disk, drive in self.shelf.drives.items():
-            has = {path.name for path in drive.iterdir()} - {"disk", "disk.new", "catalogue", "catalogue.new", "reserve"}
+            has = {path.name for path in drive.iterdir()} - {"disk", "disk.new", "catalogue", "catalogue.new"}
             self.expect(has == named - {"-.img"}, f"after {kind} disk {disk} has {has}, and {named} are named")
 
     def read_all(self, after):

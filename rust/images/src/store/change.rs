@@ -8,9 +8,8 @@ use std::rc::Rc;
 use super::catalogue::{self, Catalogue, Package};
 use super::disk_file::{self, DiskFile};
 use super::opened::Store;
-use super::place::{DiskFolder, There};
+use super::place::DiskFolder;
 use super::replace::{read, replace};
-use super::reserve::keep;
 use crate::fault::Fault;
 use crate::layout::label::{hex, name_of};
 use crate::layout::sums::SetName;
@@ -55,7 +54,6 @@ impl<'a> Change<'a> {
             Fault::Failed(format!("{}: no generation is left", store.folder.display()))
         })?;
         let mut change = Change { store, generation, disks, told: Vec::new() };
-        change.keep_room(store.catalogue.text().len(), |there| there.copy.is_some());
         change.each(|change, disk| {
             change.put(disk, disk_file::NAME, change.promise(disk).text().as_bytes())
         })?;
@@ -173,19 +171,8 @@ impl<'a> Change<'a> {
         let lack: Vec<usize> =
             (0..self.store.disks.len()).filter(|disk| !have.contains(disk)).collect();
         let leftovers = self.sweep(&catalogue, &have, &lack);
-        self.keep_room(text.len(), |_| true);
         let lacking = disk_names(self.store.numbers().shape, &lack);
         Ok(Changed { lack, lacking, warnings: self.told, leftovers })
-    }
-
-    /// Keeps room on disks for the texts of the next change. A new disk gets it last: it is empty
-    /// until it has its file `disk`.
-    fn keep_room(&self, catalogue: usize, which: impl Fn(&There) -> bool) {
-        let there = self.store.there();
-        for there in there.iter().filter_map(|disk| self.store.disk(*disk)).filter(|one| which(one))
-        {
-            keep(&there.folder, catalogue as u64);
-        }
     }
 
     /// Takes away the images that no catalogue names, of any generation on any disk; says where that

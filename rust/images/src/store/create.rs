@@ -11,13 +11,12 @@ use super::change::{Change, Changed};
 use super::disk_file;
 use super::opened::Store;
 use super::place::{disk_path, lock_all, Disk, DiskFolder, Places, There};
-use super::{replace, reserve};
+use super::replace;
 use crate::fault::Fault;
 use crate::read::set::MOST_DISKS;
 
 /// What a creation that was cut off may leave.
-const OURS: [&str; 5] =
-    [disk_file::NAME, "disk.new", catalogue::NAME, "catalogue.new", reserve::NAME];
+const OURS: [&str; 4] = [disk_file::NAME, "disk.new", catalogue::NAME, "catalogue.new"];
 
 /// A store that was created.
 pub struct Created {

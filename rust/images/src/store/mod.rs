@@ -28,7 +28,6 @@ mod refresh;
 pub mod remove;
 pub mod repair;
 pub mod replace;
-mod reserve;
 mod sealed;
 pub mod source;
 pub mod space;

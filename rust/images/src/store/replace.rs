@@ -6,7 +6,6 @@ use std::os::unix::fs::OpenOptionsExt;
 use std::path::Path;
 
 use super::place::DiskFolder;
-use super::reserve::release;
 use crate::fault::Fault;
 use crate::os::sys;
 
@@ -24,14 +23,10 @@ pub fn read(path: &Path, most: u64) -> io::Result<Vec<u8>> {
 }
 
 /// Replaces a file of a disk's folder, or makes it: after any cut it is the old or the new one, and
-/// the new one once this has come back. A full disk gives the room that it keeps.
+/// the new one once this has come back.
 pub fn replace(folder: &DiskFolder, name: &str, bytes: &[u8]) -> Result<(), Fault> {
     let (target, new) = (folder.below(name), folder.below(&format!("{name}.new")));
-    let written = match write_new(&new, bytes) {
-        Err(error) if sys::is_full(&error) && release(folder)? => write_new(&new, bytes),
-        written => written,
-    };
-    written.map_err(|error| Fault::path(&new, error))?;
+    write_new(&new, bytes).map_err(|error| Fault::path(&new, error))?;
     fs::rename(&new, &target).map_err(|error| Fault::path(&target, error))?;
     folder.sync()
 }
