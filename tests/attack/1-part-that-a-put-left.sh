@@ -11,7 +11,7 @@ must "$C" check -q "$W/s" >/dev/null
 image=$W/s/disk-03/$(set_of a).img
 bytes=$(stat -c %s "$image")
 refused() { # HOW
-    "$C" rebuild -q "$W/s" >/dev/null 2>&1 && bad "$1: status 0"
+    status 5 "$C" rebuild -q "$W/s"
     [ -e "$image.part" ] && [ ! -e "$image" ] || bad "$1: the part is taken away"
     same a "$W/f"
 }

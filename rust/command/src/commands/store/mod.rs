@@ -101,9 +101,11 @@ pub fn cannot_be_written(folder: &Path, failed: &[(usize, Fault)]) -> Result<(),
         folder.display(),
         told.join("; ")
     );
-    match failed.iter().any(|(_, fault)| !matches!(fault, Fault::No(_))) {
-        _ if failed.is_empty() => Ok(()),
-        true => Err(Fault::Failed(told)),
-        false => Err(Fault::No(told)), // they are full
+    let any = |is: fn(&Fault) -> bool| failed.iter().any(|(_, fault)| is(fault));
+    match failed.len() {
+        0 => Ok(()),
+        _ if any(|fault| matches!(fault, Fault::Images(_))) => Err(Fault::Images(told)),
+        _ if any(|fault| !matches!(fault, Fault::No(_))) => Err(Fault::Failed(told)),
+        _ => Err(Fault::No(told)), // they are full
     }
 }
