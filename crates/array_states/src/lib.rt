@@ -1,7 +1,7 @@
 // The states of up to 64 arrays (document 02, ask 12): which disks are lost, reports that a disk was
 // lost or is back, and how many arrays can bear two more losses, one, none, or are past saving.
-// `board`, `scan` and `totals` are public, since the export over the lent list is proved by hand and
-// cites their proofs.
+// `board`, `scan` and `totals` are public, as when the export over the lent list was proved by hand
+// over their proofs.
 #![tactic(auto)]
 
 mod bits;

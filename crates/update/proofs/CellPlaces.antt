@@ -1,13 +1,27 @@
--- Where the cells of an update are: the data cell before its parity cells, all within the stripe.
+-- Where the cells of an update are: the data cell before its parity cells, all within the stripe,
+-- and the diagonal without a remainder.
+use mathlib.Core.Path.{◌≡◌, sym, ap, ◌∙◌}
 use mathlib.Core.List.{List}
-use Prim.Native.Nat.{ℕ, suc, ◌+◌, ◌*◌, ◌≤◌, ◌<◌}
-use native.Mathlib.Nat.{mul-le-mul, mul-le-mul_right}
+use Prim.Native.Nat.{ℕ, suc, ◌+◌, ◌-◌, ◌*◌, ◌%◌, ◌≤◌, ◌<◌}
+use native.Mathlib.Nat.{mod-lt, mul-le-mul, mul-le-mul_right}
 use native.Mathlib.Omega.{arith}
 use lib.ListN.{length}
+use Rattle.mathematics.proofs.Modulo.{mod_unique}
 use Rattle.liberation.specs.Sets.{place}
+use Rattle.liberation.specs.Plans.{diagonal_of}
 use Rattle.liberation.proofs.SetLaws.{place_below}
 use Rattle.liberation.proofs.Stripes.StripeCellLaws.{cell_fits}
 use Rattle.update.specs.Cells.{DataCell}
+
+-- (r - c) mod p, where c ≤ r and where not
+pub diagonal_low : (p r c : ℕ) → r < p → c ≤ r → r - c ≡ diagonal_of p c r
+diagonal_low p r c h l = let e : p * 1 + (r - c) ≡ r + p - c = omega arith in sym (mod_unique p 1 (r - c) (omega arith)) ∙ ap (λ (n : ℕ). n % p) e
+
+pub diagonal_high : (p r c : ℕ) → r < c → c < p → r + p - c ≡ diagonal_of p c r
+diagonal_high p r c h l = let e : p * 0 + (r + p - c) ≡ r + p - c = omega arith in sym (mod_unique p 0 (r + p - c) (omega arith)) ∙ ap (λ (n : ℕ). n % p) e
+
+pub diagonal_below : (p r c z : ℕ) → r < p → z ≡ diagonal_of p c r → z < p
+diagonal_below p r c z h e = let some : 0 < p = omega arith in omega (arith, e, mod-lt (r + p - c) some)
 
 module _ (p k s r c : ℕ) (t : List ℕ) (d : DataCell p k s r c t) where
   -- places are small numbers

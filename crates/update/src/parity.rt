@@ -3,9 +3,23 @@
 ghost use Rattle.std.specs.Prelude.{◌≡◌, ◌+◌, ◌*◌, ◌≤◌, ◌<◌, length};
 ghost use Rattle.mathematics.specs.Xor.{xor_l};
 ghost use Rattle.liberation.specs.Sets.{place};
+ghost use Rattle.liberation.specs.Plans.{diagonal_of};
 ghost use Rattle.liberation.specs.Stripes.Stripes.{cell_at, with_cell};
 ghost use Rattle.liberation.specs.Update.Updates.{parity_of, added_from};
 ghost use Rattle.update.specs.Cells.{DataCell};
+
+// The diagonal of which a data cell is an ordinary cell: (row - disk) mod width, without a
+// remainder.
+fn diagonal_of(width: usize, row: usize, disk: usize) -> usize
+    requires { (width ≤ 31) × (row < width) × (disk < width) }
+    ensures { result ≡ diagonal_of width disk row }
+{
+    if disk <= row {
+        row - disk
+    } else {
+        row + width - disk
+    }
+}
 
 // The cell at place `to` ^= the cell at place `from`, which is before it.
 fn add_cell(size: usize, from: usize, to: usize, stripe: &mut [u8])
@@ -32,7 +46,7 @@ pub fn add_to_parity(
 {
     let from = disk * width + row;
     add_cell(size, from, disks * width + row, stripe);
-    let number = parity_sets::diagonal_of(width, disk, row);
+    let number = diagonal_of(width, row, disk);
     let q = (disks + 1) * width + number;
     add_cell(size, from, q, stripe);
     if number + 1 != width - 1 - row {

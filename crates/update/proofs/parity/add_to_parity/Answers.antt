@@ -3,9 +3,8 @@
 use Prim.Native.Nat.{◌+◌, ◌*◌, ◌≤◌, ◌<◌}
 use native.Mathlib.Omega.{arith}
 use borrow.Author.Rules.{rules}
-use Rattle.parity_sets.proofs.NumberLaws.{numbered}
 use Rattle.update.specs.Cells.{DataCell}
-use Rattle.update.proofs.CellPlaces.{places_small, row_fits, diagonal_fits}
+use Rattle.update.proofs.CellPlaces.{diagonal_below, places_small, row_fits, diagonal_fits}
 use Rattle.update.proofs.FromCell.{same_cell, added_once, added_twice}
 use Rattle.update.proofs.parity.add_to_parity.Goals as goal
 
@@ -19,13 +18,13 @@ small_2 c = let a = c.args in places_small a.width a.disks a.size a.row a.disk a
 below : (c : goal.After-diagonal_of-number) → c.diagonal_of-number.result < c.args.width
 below c =
     let a = c.args in
-    numbered a.width a.disk a.row c.diagonal_of-number.result (omega (arith, c.requires.row)) c.diagonal_of-number.ensures
+    diagonal_below a.width a.row a.disk c.diagonal_of-number.result c.requires.row c.diagonal_of-number.ensures
 
 -- the diagonal is one of them
 below_2 : (c : goal.After-add_cell-arg-2-1) → c.diagonal_of-number.result < c.args.width
 below_2 c =
     let a = c.args in
-    numbered a.width a.disk a.row c.diagonal_of-number.result (omega (arith, c.requires.row)) c.diagonal_of-number.ensures
+    diagonal_below a.width a.row a.disk c.diagonal_of-number.result c.requires.row c.diagonal_of-number.ensures
 
 -- the data cell is still there once P is written
 first : (c : goal.After-add_cell-arg-2-1) → let a = c.args in DataCell a.width a.disks a.size a.row a.disk c.add_cell.new.stripe
@@ -35,13 +34,13 @@ first c = same_cell c.add_cell.new.stripe (search rules) c.requires
 below_3 : (c : goal.After-slice_known-3-1) → c.diagonal_of-number.result < c.args.width
 below_3 c =
     let a = c.args in
-    numbered a.width a.disk a.row c.diagonal_of-number.result (omega (arith, c.requires.row)) c.diagonal_of-number.ensures
+    diagonal_below a.width a.row a.disk c.diagonal_of-number.result c.requires.row c.diagonal_of-number.ensures
 
 -- the diagonal is one of them
 below_4 : (c : goal.Else-number-width) → c.diagonal_of-number.result < c.args.width
 below_4 c =
     let a = c.args in
-    numbered a.width a.disk a.row c.diagonal_of-number.result (omega (arith, c.requires.row)) c.diagonal_of-number.ensures
+    diagonal_below a.width a.row a.disk c.diagonal_of-number.result c.requires.row c.diagonal_of-number.ensures
 
 small_3 : (c : goal.Else-number-width) → let a = c.args in (a.disk * a.width ≤ 961) × (a.disks * a.width ≤ 961) × ((a.disks + 1) * a.width ≤ 992)
 small_3 c = let a = c.args in places_small a.width a.disks a.size a.row a.disk a.stripe.now c.requires
