@@ -16,8 +16,6 @@ import sys
 
 NAME = r"[^\s(){}.;,@\"«»]+"
 TOP = re.compile(rf"(?m)^((?:(?:pub|abbrev|unfoldable) )*)({NAME}) :(?= |$)")
-PATH = rf"(?<![\w.'\-₀-₉]){{var}}((?:\.[\w'\-₀-₉]+)*)(?![\w'\-₀-₉])"
-LET = re.compile(rf"\blet ({NAME}) = ({NAME})((?:\.[\w'\-₀-₉]+)*) in\b[ \n]*")
 TRIVIAL = re.compile(r"^\(?(?:λ [^.]*\. *)?\(?(search rules|omega arith|tt)\)?\)?$")
 
 
@@ -263,13 +261,6 @@ class Turn:
         return var if got[0] == "place" else ".".join([var] + got[2])
 
 
-def new_place(info, old):
-    for o, n in info["asked_at"]:
-        if o == old:
-            return n
-    return None
-
-
 def record_of(body, names):
     """A tuple at the end of the body as a record of the clauses' names."""
     at = 0
@@ -281,7 +272,7 @@ def record_of(body, names):
         while len(parts) < len(names) and parts[-1].startswith("(") and matched(parts[-1], 0) == len(parts[-1]):
             parts[-1:] = [p for p in items(parts[-1][1:-1], ",") if p]
         if len(parts) == len(names):
-            inner = "".join(f"      {n} = {p};\n" for n, p in zip(names, parts) if p != "search rules" or True)
+            inner = "".join(f"      {n} = {p};\n" for n, p in zip(names, parts))
             return body[:start] + "record {\n" + inner + "    }"
     return body
 
@@ -349,7 +340,7 @@ def convert(path, module, info):
     order = []
 
     def want(place_old, goal_place, names):
-        for h in names:
+        for h in sorted(names):
             if (h, goal_place) not in wanted:
                 wanted[(h, goal_place)] = None
                 order.append((h, goal_place))

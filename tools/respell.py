@@ -4,9 +4,10 @@
 usage: python3 tools/respell.py [--check] [FOLDER]      after port.py, once; FOLDER is the repository
 
 What specs/ and proofs/ declare becomes snake_case, also behind a dot where it is a record's field; types keep their capitals;
-a folder of specs/ or proofs/ that only gathers modules becomes a module in CamelCase. Proof.antt keeps the names of its own
-goals, which the conversion to Answers.antt gives new names anyway. A name that would meet another one gets the spelling of
-CLASHES. The must-fail edits and the pages follow where they name what is declared.
+a file of specs/ or proofs/ that only gathers modules becomes a module in CamelCase, with its folder. Proof.antt keeps the names
+of its own goals, which tools/answers.py gives new names anyway. A lemma that would meet a definition ends in _lem; CLASHES has
+the types that would meet another. The must-fail edits follow where they name what is declared. --check changes nothing, and
+prints the names that fall together.
 """
 
 import os
@@ -161,7 +162,7 @@ def edit_paths(text, path, moved, root):
 
 
 def clash(root, names, fields):
-    """Names that fall together in a file, and binders or parameters that a new name would hide or be hidden by."""
+    """Prints the names that fall together in a file, or anywhere."""
     for path in files(root, ".antt", ".rt"):
         text = read(path)
         seen = {}

@@ -1,7 +1,6 @@
 // The states of up to 64 arrays (document 02, ask 12): which disks are lost, reports that a disk was
 // lost or is back, and how many arrays can bear two more losses, one, none, or are past saving.
-// `board`, `scan` and `totals` are public, as when the export over the lent list was proved by hand
-// over their proofs.
+// `board`, `scan` and `totals` are public, so that other crates can cite the proofs of their functions.
 #![tactic(auto)]
 
 mod bits;

@@ -1,8 +1,8 @@
 // Rebuild runs over many stripes (document 01, "Run and space"): the record by value, its refusals,
 // how it moves on, and a skip (document 02, ask 8). Numbers that another program put into a record
 // are tested like any others. No bytes of a stripe are touched here: `starts` opens a run, `steps`
-// rebuilds, `progress` says how far a run is. These two are public, as when the exports over a lent
-// record were proved by hand over their proofs.
+// rebuilds, `progress` says how far a run is. These two are public, so that other crates can cite the
+// proofs of their functions.
 #![tactic(auto)]
 
 pub mod progress;
