@@ -31,7 +31,7 @@ for path in RUST:
         METHODS.setdefault(name, set()).update(re.findall(r"\bfn (\w+)", body))
 CHECKS = {name for kind in ("store", "command") for path in TOP.glob(f"tests/{kind}/*.py") for name in re.findall(r"^def (\w+)", path.read_text(), re.M)}
 # words of the language, of the kit and its log, of document 03, of what the command prints, of README's lines; an archive; Python's own
-OUTSIDE = {"match", "u32", "usize", "count_ones", "requires", "unfoldable", "trusted", "modulo", "diskAt", "one-back", "around", "read_cell", "libcuzhaveli_plans", "PyObject_GetBuffer"}
+OUTSIDE = {"match", "Result", "Option", "u32", "usize", "count_ones", "requires", "unfoldable", "trusted", "modulo", "diskAt", "one-back", "around", "read_cell", "libcuzhaveli_plans", "PyObject_GetBuffer"}
 PAGES = [TOP / "README.md", TOP / "CONTRIBUTING.md", *(TOP / f"docs/{page}.md" for page in ("ARCHITECTURE", "COVERAGE", "DECISIONS", "PROOFS", "REQUESTS", "SCOPE", "TRUST"))]
 
 # each of these has to be found wrong

@@ -24,8 +24,8 @@ DECISIONS = TOP / "docs/DECISIONS.md"
 DRIVES = sorted((TOP / "bench/results").glob("*-drives.txt"))
 CI_LOG = TOP / "build/rt-ci.log"
 EXPORT_LOGS = sorted((TOP / "build/members").glob("cuzhaveli_*.log"))
-# README.md, CONTRIBUTING.md, the manual pages, docs/*.md but those that follow documents 01 and 02 line by line, and the record of the port
-LONG = {"SCOPE.md", "COVERAGE.md", "PORT.md"}
+# README.md, CONTRIBUTING.md, the manual pages, docs/*.md but those that follow documents 01 and 02 line by line, and the records of the port and of the new design
+LONG = {"SCOPE.md", "COVERAGE.md", "DESIGN-PASS.md", "PORT.md"}
 MOST_WORDS = 38000
 
 
@@ -203,10 +203,10 @@ CHECKS = [
     (module_rows, ARCHITECTURE, "", lambda text: text.replace("`all_steps` its steps in order; ", "")),
     (functions_once, ARCHITECTURE, "list each public function in one row of 'The public functions'", without(r"\| `cuzhaveli_plan_disk`")),
     (functions_once, ARCHITECTURE, "", lambda text: text + re.search(r"`\w+::\w+", text)[0]),
-    (functions_once, ARCHITECTURE, "", lambda text: text + "`text::put_kind`"),
+    (functions_once, ARCHITECTURE, "", lambda text: text + "`refusals::check_width`"),
     (asks_nothing, ARCHITECTURE, "list a function with a `requires` as called after the refusals, or give it its refusals",
      lambda text: text.replace("| none |", "| none | `planner::plan_steps` |\n| none |")),
-    (asks_nothing, ARCHITECTURE, "", lambda text: text.replace("| `planner::clear` | ", "| | `planner::clear`, ")),
+    (asks_nothing, ARCHITECTURE, "", lambda text: text.replace("| `parity_sets::no_marks` | ", "| | `parity_sets::no_marks`, ")),
 ]
 
 

@@ -33,9 +33,9 @@ def functions(crate, module):
 
 
 def structs(crate):
-    """The structs of a crate, each with its fields."""
-    found = [pair for text in modules(crate).values() for pair in re.findall(r"pub struct (\w+) \{(.*?)\}", text, re.S)]
-    return {name: set(re.findall(r"pub (\w+):", fields)) for name, fields in found}
+    """The structs and enums of a crate, each with its fields; of an enum the names of its values."""
+    found = [pair for text in modules(crate).values() for pair in re.findall(r"pub (?:struct|enum) (\w+)(?:<[^>]*>)? \{(.*?)\n\}", text, re.S)]
+    return {name: set(re.findall(r"^    (?:pub )?(?:ghost )?(\w+)(?=:|,| =|\()", fields, re.M)) for name, fields in found}
 
 
 def reused(crate):
@@ -58,13 +58,13 @@ def called(crate):
 
 def signature(crate, name):
     """The parameters, by name, and the result of a function that the root makes public."""
-    found = re.search(rf"\bfn {name}\(([^)]*)\)(?: -> (\w+))?", modules(crate)[reused(crate).get(name, "")])
+    found = re.search(rf"\bfn {name}(?:<[^>]*>)?\(([^)]*)\)(?: -> (\w+))?", modules(crate)[reused(crate).get(name, "")])
     return ([item.split(":")[0].strip() for item in found[1].split(",") if item.strip()], found[2]) if found else ([], None)
 
 
 def asks(crate, name):
     """Whether a function that the root makes public has a `requires`."""
-    contract = re.search(rf"\bfn {name}\(.*?(?:^| )\{{$", modules(crate)[reused(crate).get(name, "")], re.M | re.S)
+    contract = re.search(rf"\bfn {name}(?:<[^>]*>)?\(.*?(?:^| )\{{$", modules(crate)[reused(crate).get(name, "")], re.M | re.S)
     return bool(contract and re.search(r"^ *requires ", contract[0], re.M))
 
 

@@ -7,7 +7,7 @@ use lib.Dec.{eqb}
 use borrow.Author.Tests.{ne_eqb, le-leb}
 use Rattle.mathematics.specs.Choice.{when}
 use Rattle.array_states.specs.declared.totals.Totals.{Totals}
-use Rattle.array_states.specs.Scanning.{counted_on}
+use Rattle.array_states.specs.OnePass.{counted_on}
 
 -- totals by their numbers
 pub totals_are : {a b c d a' b' c' d' : ℕ} → a ≡ a' → b ≡ b' → c ≡ c' → d ≡ d'

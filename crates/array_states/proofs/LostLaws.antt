@@ -11,7 +11,7 @@ use lib.Bits.{bit_and, bit_or, bit_xor, and_shr, and_mod, or_shr, or_mod, or_lt,
 use lib.Count.{ones, ones_step, leading_top}
 use lib.Dec.{eqb}
 use lib.Pow.{pow_pos, pow-lt, pow_mono, pow-add, shl-shr, shr-shr, shr_lt}
-use borrow.Author.Tests.{eqb-true, eqb-false, le-leb, lt-leb}
+use borrow.Author.Tests.{eqb-true, eqb-false, lt-leb}
 use Rattle.mathematics.specs.Choice.{pick, when}
 use Rattle.mathematics.specs.Sums.{sum_to}
 use Rattle.mathematics.proofs.Flags.{flag}
@@ -169,9 +169,6 @@ some_over k w l =
     later : {j : ℕ} → j ≤ k + 1 → suc j ≤ k + 2
     later m = omega arith
 
--- a word with a bit past Q, and one without: q is the bit after Q
-pub lost_refused : (k w q : ℕ) → q ≡ 2 ^ (k + 2) → q ≤ w → 3 ≡ lost_refusal k w
-lost_refused k w q e h = sym (ap (λ (t : Bool). when t 3) (le-leb (2 ^ (k + 2)) w (subst (λ (x : ℕ). x ≤ w) e h)))
-
+-- a word without a bit past Q: q is the bit after Q
 pub lost_accepted : (k w q : ℕ) → q ≡ 2 ^ (k + 2) → w < q → 0 ≡ lost_refusal k w
 lost_accepted k w q e h = sym (ap (λ (t : Bool). when t 3) (lt-leb (2 ^ (k + 2)) w (subst (λ (x : ℕ). w < x) e h)))

@@ -1,9 +1,5 @@
--- The scan of a list and the promise of a report, over plain lists and records: what the proof of
--- the call over a lent list cites.
---     scan_none, scan_next     the scan of no record, and of one record more: the loop's invariant
---     may_scan                 the `requires` of `scan_record` in each turn
---     names_one                the index of the store
---     says_done, says_refused  the promise, in each arm of the branch
+-- The report on a list in one pass, over plain lists and records: what it finds is what a report
+-- answers.
 use mathlib.Core.Path.{◌≡◌, refl, sym, ap, ap₂, ◌∙◌, subst}
 use mathlib.Core.Bool.{Bool, true, false, ◌||◌, or-true}
 use mathlib.Core.List.{List, [], ◌∷◌}
@@ -21,12 +17,11 @@ use Rattle.mathematics.proofs.OrderLaws.{lt_or_le}
 use Rattle.mathematics.proofs.ChoiceLaws.{first_none, first_zero, first_assoc, when_none, pick_refused, pick_done}
 use Rattle.array_states.specs.declared.ArrayState.{ArrayState}
 use Rattle.array_states.specs.declared.totals.Totals.{Totals}
-use Rattle.array_states.specs.declared.totals.Scan.{Scan}
 use Rattle.array_states.specs.States.{state_refusal, disk_report_refusal, state_report_refusal, changed}
-use Rattle.array_states.specs.Scanning.{no_array, no_totals, scan_length, scan_start, counted_on}
+use Rattle.array_states.specs.Scanning.{no_array, no_totals}
+use Rattle.array_states.specs.OnePass.{Scan, scan_length, scan_start, counted_on, MayScan, reported, scan_record, scan_from, scan_refusal, scan_answer}
 use Rattle.array_states.proofs.CountLaws.{totals_are}
-use Rattle.array_states.specs.Records.{MayScan, reported, scan_record, scan_from}
-use Rattle.array_states.specs.Reports.{list_refusal, number_refusal, report_refusal, list_after, how_many, totals_of, ReportSays, scan_refusal, scan_answer}
+use Rattle.array_states.specs.Reports.{list_refusal, number_refusal, report_refusal, list_after, how_many, totals_of, ReportSays}
 
 -- ---- how many records are scanned
 pub scan_most : (m : ℕ) → scan_length m ≤ m

@@ -1,11 +1,11 @@
 -- Refusals of a report on one array: which test gives them, and what holds where there is none.
-use mathlib.Core.Path.{◌≡◌, refl, sym, ap, ap₂, ◌∙◌}
+use mathlib.Core.Path.{◌≡◌, refl, sym, ap₂}
 use mathlib.Core.Bool.{Bool, true, false, not}
 use Prim.Native.Nat.{ℕ, ◌+◌, ◌^◌, ◌≤◌, ◌<◌}
 use native.Mathlib.Omega.{arith}
 use lib.Dec.{leb}
 use borrow.Author.Tests.{leb-false}
-use Rattle.mathematics.specs.Choice.{pick, when, first_of}
+use Rattle.mathematics.specs.Choice.{pick, first_of}
 use Rattle.mathematics.proofs.ChoiceLaws.{first_none, when_none}
 use Rattle.liberation.specs.Sets.{array_refusal, disk_refusal}
 use Rattle.liberation.proofs.RefusalLaws.{array_of, plan_of_lem}
@@ -16,10 +16,6 @@ use Rattle.array_states.specs.States.{state_refusal, again_refusal, disk_report_
 -- a word without a bit past Q
 pub lost_of : (k w : ℕ) → lost_refusal k w ≡ 0 → w < 2 ^ (k + 2)
 lost_of k w e = leb-false (2 ^ (k + 2)) w (when_none (leb (2 ^ (k + 2)) w) 2 e)
-
--- refusal 21 by whether the disk is lost
-pub again_is : (w d n : ℕ) (back lost : Bool) → lost ≡ has_bit w d → n ≡ when (pick back (not lost) lost) 21 → n ≡ again_refusal w d back
-again_is w d n back lost e k = k ∙ ap (λ (t : Bool). when (pick back (not t) t) 21) e
 
 -- an accepted report: the array is in its limits, the disk one of its, lost if it is back, and else
 -- not

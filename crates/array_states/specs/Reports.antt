@@ -1,14 +1,15 @@
 -- Reports on a list of arrays (document 02, ask 12, "A board of all cabinets"): their refusals, the
 -- list after one, the four totals, and the promise of the call, for accepted and refused ones
 -- alike.
-use Rattle.std.specs.Prelude.{◌≡◌, Bool, ◌||◌, List, [], ◌∷◌, ℕ, ◌+◌, eqb, leb, ltb, length, get_or, set}
+use Rattle.std.specs.Prelude.{◌≡◌, Bool, ◌||◌, List, [], ◌∷◌, ℕ, ◌+◌, eqb, leb, ltb, length, get_or, set, Result, Ok, Err}
 use Rattle.std.specs.Int.Count.{ones}
 use Rattle.mathematics.specs.Choice.{pick, when, first_of}
+use Rattle.refusals.specs.declared.refusal.Refusal.{Refusal}
 use Rattle.refusals.specs.Answers.{Answers}
+use Rattle.refusals.specs.Refused.{number_of}
 use Rattle.array_states.specs.declared.ArrayState.{ArrayState}
 use Rattle.array_states.specs.States.{changed, state_refusal, disk_report_refusal}
 use Rattle.array_states.specs.declared.totals.Totals.{Totals}
-use Rattle.array_states.specs.declared.totals.Scan.{Scan}
 use Rattle.array_states.specs.Scanning.{no_array, no_totals}
 use Rattle.array_states.specs.declared.board.Board.{Board}
 
@@ -49,10 +50,7 @@ pub record ReportSays (xs : List ArrayState) (i d : ℕ) (back : Bool) (ys : Lis
   pub list : ys ≡ pick (report_ok xs i d back) (list_after xs i d back) xs
   pub totals : r.totals ≡ pick (report_ok xs i d back) (totals_of ys) no_totals
 
--- the answer after a scan of n records: 20, the first refusal of a record, the report's own
-unfoldable pub scan_refusal : Scan → ℕ → ℕ → ℕ
-scan_refusal s n which = first_of (when (leb n which) 20) (first_of s.refusal s.own)
-
-unfoldable pub scan_answer : Scan → ℕ → ℕ → Board
-unfolding scan_refusal
-scan_answer s n which = record { answer = record { refusal = scan_refusal s n which; place = 0 }; totals = pick (eqb (scan_refusal s n which) 0) s.totals no_totals }
+-- what a report answers by the totals that it gives, or its refusal
+abbrev pub board_of : Result Totals Refusal → Board
+board_of (Ok t) = record { answer = record { refusal = 0; place = 0 }; totals = t }
+board_of (Err r) = record { answer = record { refusal = number_of r; place = 0 }; totals = no_totals }

@@ -1,17 +1,10 @@
 // The lost disks of an array as the bits of a word: one tested, set or cleared, and the refusal of
 // a word with a bit past Q.
-ghost use Rattle.std.specs.Prelude.{◌≡◌, ◌^◌, ◌≤◌, ◌<◌};
+ghost use Rattle.std.specs.Prelude.{◌≡◌, ◌<◌};
+ghost use Rattle.refusals.specs.Refused.{refused};
 ghost use Rattle.array_states.specs.Lost.{has_bit, lost_after, lost_refusal};
 
-use refusals::numbers::NO_SUCH_DISK;
-
-// The word with a disk's bit alone.
-fn bit_of(disk: usize) -> u64
-    requires { disk < 64 }
-    ensures { result ≡ 2 ^ disk }
-{
-    1u64 << disk
-}
+use refusals::{Array, Refusal};
 
 // Is this disk lost?
 pub fn is_lost(lost: u64, disk: usize) -> bool
@@ -26,7 +19,7 @@ pub fn lost_after(lost: u64, disk: usize, back: bool) -> u64
     requires { disk < 64 }
     ensures { result ≡ lost_after lost disk back }
 {
-    let bit = bit_of(disk);
+    let bit = 1u64 << disk;
     if back {
         lost ^ (lost & bit)
     } else {
@@ -34,11 +27,12 @@ pub fn lost_after(lost: u64, disk: usize, back: bool) -> u64
     }
 }
 
-// The refusal of a word of lost disks by 3, for one past Q; 0 for none.
-pub fn lost_refusal(disks: usize, lost: u64) -> u8
-    requires { disks ≤ 31 }
-    ensures { result ≡ lost_refusal disks lost }
+// Is no disk past Q lost? Refusal: 3.
+pub fn check_lost(array: Array, lost: u64) -> Result<(), Refusal>
+    ensures { refused result ≡ lost_refusal array.disks lost }
 {
-    let past = bit_of(disks + 2);
-    if past <= lost { NO_SUCH_DISK } else { 0 }
+    if lost >> (array.disks + 2) == 0 {
+        return Ok(());
+    }
+    Err(Refusal::NoSuchDisk)
 }

@@ -1,6 +1,6 @@
 -- The bands add up to the bytes, and no product or sum of a bill wraps, since the rates are at most
 -- 1,000 and the bytes at most 2^54: 1,000 × 2^54 is below 2^64.
-use mathlib.Core.Path.{◌≡◌, refl, sym, ap, ap₂, subst₂, ◌∙◌}
+use mathlib.Core.Path.{◌≡◌, refl}
 use mathlib.Core.Bool.{Bool, true, false, ◌||◌}
 use Prim.Native.Nat.{ℕ, ◌+◌, ◌-◌, ◌*◌, ◌^◌, ◌≤◌}
 use native.Mathlib.Nat.{mul-le-mul_left}
@@ -9,13 +9,9 @@ use lib.Dec.{leb, ltb}
 use borrow.Author.Tests.{leb-true, leb-false, ltb-false}
 use Rattle.mathematics.specs.Choice.{pick}
 use Rattle.mathematics.proofs.Flags.{or_false_l, or_false_r}
-use Rattle.mathematics.proofs.ChoiceLaws.{first_none, when_none, pick_refused, pick_done}
-use Rattle.refusals.specs.declared.Answer.{Answer}
-use Rattle.refusals.specs.Answers.{Answers}
-use Rattle.refusals.proofs.AnswerLaws.{answers_as}
-use Rattle.billing.specs.declared.Bill.{Bill}
-use Rattle.billing.specs.Cents.{least, nearest, rate_refusal, bytes_refusal, bill_refusal}
-use Rattle.billing.specs.Bills.{in_first, in_second, in_third, cents_of, BillRefused, Says, BillSays}
+use Rattle.mathematics.proofs.ChoiceLaws.{first_none, when_none}
+use Rattle.billing.specs.Cents.{least, rate_refusal, bytes_refusal, bill_refusal}
+use Rattle.billing.specs.Bills.{in_first, in_second, in_third}
 
 -- the smaller of two numbers is at most each of them
 pub least_most : (a b : ℕ) → (least a b ≤ a) × (least a b ≤ b)
@@ -43,43 +39,18 @@ pub record Fair (b r s t low most : ℕ) : Type 0 where
   pub second : (most - low) * s ≤ (most - low) * 1000
   pub third : (b - most) * t ≤ (b - most) * 1000
 
-fair : (b r s t : ℕ) → bill_refusal b r s t ≡ 0 → Fair b r s t (least b (2 ^ 36)) (least b (2 ^ 40))
-fair b r s t e =
+pub small : (b r s t low most : ℕ) → bill_refusal b r s t ≡ 0 → low ≤ most → most ≤ b → Fair b r s t low most
+small b r s t low most e l m =
     let w = first_none (rate_refusal r s t) (bytes_refusal b) e in
     let x : (ltb 1000 r || (ltb 1000 s || ltb 1000 t)) ≡ false = when_none (ltb 1000 r || (ltb 1000 s || ltb 1000 t)) 15 w.0 in
     let y : (ltb 1000 s || ltb 1000 t) ≡ false = or_false_r (ltb 1000 r) (ltb 1000 s || ltb 1000 t) x in
     record {
-      ordered = least_up b (2 ^ 36) (2 ^ 40) (omega arith);
-      within = (least_most b (2 ^ 40)).0;
+      ordered = l;
+      within = m;
       bytes = ltb-false (2 ^ 54) b (when_none (ltb (2 ^ 54) b) 16 w.1);
-      first = mul-le-mul_left (in_first b) (ltb-false 1000 r (or_false_l (ltb 1000 r) (ltb 1000 s || ltb 1000 t) x));
-      second = mul-le-mul_left (in_second b) (ltb-false 1000 s (or_false_l (ltb 1000 s) (ltb 1000 t) y));
-      third = mul-le-mul_left (in_third b) (ltb-false 1000 t (or_false_r (ltb 1000 s) (ltb 1000 t) y));
-    }
-
-pub refusal_none : (b r s t low most : ℕ) → bill_refusal b r s t ≡ 0 → low ≡ least b (2 ^ 36) → most ≡ least b (2 ^ 40) → Fair b r s t low most
-refusal_none b r s t low most e l m = subst₂ (λ (x y : ℕ). Fair b r s t x y) (sym l) (sym m) (fair b r s t e)
-
-pub bill_refused : (m b r s t n : ℕ) (x : Bill) → n ≡ m → (n ≡ 0 → ⊥) → BillRefused n x → Says m b r s t x
-bill_refused m b r s t n x e z k =
-    record {
-      answer = answers_as n m x.answer e k.answer;
-      first = k.first ∙ pick_refused n m (in_first b) 0 e z;
-      second = k.second ∙ pick_refused n m (in_second b) 0 e z;
-      third = k.third ∙ pick_refused n m (in_third b) 0 e z;
-      cents = k.cents ∙ pick_refused n m (cents_of b r s t) 0 e z;
-    }
-
-pub bill_done : (b r s t low most n : ℕ) (a : Answer) → bill_refusal b r s t ≡ 0 → Answers 0 a → low ≡ least b (2 ^ 36) → most ≡ least b (2 ^ 40) → n ≡ nearest (low * r + (most - low) * s + (b - most) * t)
-    → BillSays b r s t (record { answer = a; first = low; second = most - low; third = b - most; cents = n })
-bill_done b r s t low most c a z k l m e =
-    let n : ℕ = bill_refusal b r s t in
-    record {
-      answer = answers_as 0 n a (sym z) k;
-      first = l ∙ pick_done n (in_first b) 0 z;
-      second = ap₂ (λ (x y : ℕ). y - x) l m ∙ pick_done n (in_second b) 0 z;
-      third = ap (λ (y : ℕ). b - y) m ∙ pick_done n (in_third b) 0 z;
-      cents = e ∙ ap₂ (λ (x y : ℕ). nearest (x * r + (y - x) * s + (b - y) * t)) l m ∙ pick_done n (cents_of b r s t) 0 z;
+      first = mul-le-mul_left low (ltb-false 1000 r (or_false_l (ltb 1000 r) (ltb 1000 s || ltb 1000 t) x));
+      second = mul-le-mul_left (most - low) (ltb-false 1000 s (or_false_l (ltb 1000 s) (ltb 1000 t) y));
+      third = mul-le-mul_left (b - most) (ltb-false 1000 t (or_false_r (ltb 1000 s) (ltb 1000 t) y));
     }
 
 -- "bytes in each band, adding up to the whole"

@@ -1,27 +1,16 @@
 -- The cents of a charge are off it by half a cent at most, so no others are nearer. Others as near
 -- are off by just half a cent, and of two such numbers, which follow each other, just one is even.
-use mathlib.Core.Path.{◌≡◌, refl, ap, ap₂, subst}
+use mathlib.Core.Path.{◌≡◌, refl, subst}
 use mathlib.Core.Bool.{Bool, true, false}
 use mathlib.Core.Logic.{◌⊎◌, inl, inr, ⊎_elim}
 use Prim.Native.Nat.{ℕ, ◌+◌, ◌*◌, ◌/◌, ◌%◌, ◌^◌, ◌≤◌, ◌<◌}
 use native.Mathlib.Nat.{mod-lt, div-add-mod', mul-add-mod_self_right}
 use native.Mathlib.Omega.{arith}
 use lib.Dec.{eqb, ltb}
-use borrow.Author.Tests.{eqb-true, eqb-false, ltb-true, ltb-false, lt-ltb, le-ltb}
+use borrow.Author.Tests.{eqb-true, eqb-false, ltb-true, ltb-false}
 use Rattle.mathematics.specs.Choice.{pick}
 use Rattle.mathematics.proofs.OrderLaws.{lt_or_le, eq_or_lt}
-use Rattle.billing.specs.Cents.{gib, even_of, rounded, nearest, apart, Nearest}
-
--- the cents by the rest above the quotient
-module _ (q e : ℕ) where
-  pub rounded_up : 2 ^ 29 < e → rounded q e ≡ q + 1
-  rounded_up h = ap (λ (t : Bool). pick t (q + 1) (pick (ltb e (2 ^ 29)) q (even_of q))) (lt-ltb (2 ^ 29) e h)
-
-  pub rounded_down : e < 2 ^ 29 → rounded q e ≡ q
-  rounded_down h = ap₂ (λ (t u : Bool). pick t (q + 1) (pick u q (even_of q))) (le-ltb (2 ^ 29) e (omega arith)) (lt-ltb e (2 ^ 29) h)
-
-  pub rounded_half : e ≡ 2 ^ 29 → rounded q e ≡ even_of q
-  rounded_half h = ap₂ (λ (t u : Bool). pick t (q + 1) (pick u q (even_of q))) (le-ltb (2 ^ 29) e (omega arith)) (le-ltb e (2 ^ 29) (omega arith))
+use Rattle.billing.specs.Cents.{gib, even_of, nearest, apart, Nearest}
 
 -- an exact half is the rest
 half_rest : (c m : ℕ) → 2 * c ≡ (2 * m + 1) * gib → c % gib ≡ 2 ^ 29

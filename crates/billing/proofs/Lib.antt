@@ -1,4 +1,4 @@
--- The bands of a bill, their bounds, the promise, the bill of a run, and what an accepted bill
+-- The bands of a bill, their bounds, the bytes of a run, and what an accepted bill
 -- means.
 pub mod BillLaws
 pub mod RunLaws

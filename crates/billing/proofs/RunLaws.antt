@@ -1,27 +1,17 @@
 -- The bill of a run: the bytes that a run can have read are at most 2^54, since each step reads at
 -- most p(k + 2) cells of at most 4,096 bytes.
-use mathlib.Core.Path.{◌≡◌, sym, ap, subst, ◌∙◌}
+use mathlib.Core.Path.{◌≡◌, sym, ap, ◌∙◌}
 use Prim.Native.Nat.{ℕ, ◌*◌, ◌^◌, ◌≤◌}
 use native.Mathlib.Nat.{mul-le-mul}
 use native.Mathlib.Omega.{arith}
 use lib.Dec.{eqb}
-use Rattle.mathematics.specs.Choice.{pick, first_of}
-use Rattle.mathematics.proofs.ChoiceLaws.{first_kept}
+use Rattle.mathematics.specs.Choice.{pick}
 use Rattle.liberation.proofs.RefusalLaws.{numbers_of_lem}
 use Rattle.rebuild_runs.specs.declared.Run.{Run}
 use Rattle.rebuild_runs.specs.declared.progress.Progress.{Progress}
 use Rattle.rebuild_runs.specs.ProgressSays.{cells_so_far, ProgressSays}
 use Rattle.rebuild_runs.specs.Runs.{read_refusal}
 use Rattle.rebuild_runs.proofs.RunRefusals.{read_passed}
-use Rattle.billing.specs.declared.Bill.{Bill}
-use Rattle.billing.specs.Cents.{bill_refusal}
-use Rattle.billing.specs.Bills.{run_bytes, run_bill_refusal, BillRefused, Says, BillSays, RunBillSays}
-use Rattle.billing.proofs.BillLaws.{bill_refused}
-
--- the record is refused
-pub run_refused : (x : Run) (r s t : ℕ) (g : Progress) (y : Bill) → ProgressSays x g → (g.answer.refusal ≡ 0 → ⊥) → BillRefused g.answer.refusal y → RunBillSays x r s t y
-run_refused x r s t g y k n d =
-    bill_refused (run_bill_refusal x r s t) (run_bytes x) r s t g.answer.refusal y (first_kept g.answer.refusal (read_refusal x) (bill_refusal (run_bytes x) r s t) k.answer.refusal n) n d
 
 -- what was read of a record that is not refused
 module _ (x : Run) (g : Progress) (k : ProgressSays x g) (z : g.answer.refusal ≡ 0) where
@@ -34,9 +24,3 @@ module _ (x : Run) (g : Progress) (k : ProgressSays x g) (z : g.answer.refusal �
   -- its bytes are below 2^54, so they do not wrap and 17 never comes
   pub bytes_fit : g.cells * x.shape.cell_size ≤ 2 ^ 54
   bytes_fit = omega (arith, mul-le-mul k.few (numbers_of_lem x.shape.width x.shape.disks x.shape.cell_size x.lost (read_passed x fine).0).2)
-
-  -- and are billed
-  pub run_billed : (r s t : ℕ) (y : Bill) → BillSays (g.cells * x.shape.cell_size) r s t y → RunBillSays x r s t y
-  run_billed r s t y d =
-      let e : bill_refusal (run_bytes x) r s t ≡ run_bill_refusal x r s t = sym (ap (λ (n : ℕ). first_of n (bill_refusal (run_bytes x) r s t)) fine) in
-      subst (λ (n : ℕ). Says n (run_bytes x) r s t y) e (subst (λ (n : ℕ). BillSays (n * x.shape.cell_size) r s t y) read d)

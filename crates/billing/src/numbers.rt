@@ -1,8 +1,10 @@
-// The numbers of a bill: its refusals, the smaller of two numbers, the cents of a charge.
+// The numbers of a bill: its refusals, and the cents of a charge.
 ghost use Rattle.std.specs.Prelude.{◌≡◌};
-ghost use Rattle.billing.specs.Cents.{least, nearest, bill_refusal};
+ghost use Rattle.refusals.specs.Refused.{refused};
+ghost use Rattle.billing.specs.Cents.{nearest, bill_refusal};
 
-use refusals::numbers::{BAD_RATE, TOO_MANY_BYTES};
+use refusals::Refusal;
+use std::cmp::Ordering;
 
 // The highest rate, in cents per GiB.
 const MAX_RATE: u64 = 1000;
@@ -16,30 +18,17 @@ pub const GIB: u64 = 1 << 30;
 // Half of them: a charge of so much is half a cent.
 const HALF_GIB: u64 = GIB / 2;
 
-// The smaller of two numbers.
-pub fn least_of(a: u64, b: u64) -> u64
-    ensures { result ≡ least a b }
+// Is no rate over the highest, and are the bytes few enough? Refusals: 16, 17.
+pub fn check_bill(bytes: u64, first: u64, second: u64, third: u64) -> Result<(), Refusal>
+    ensures { refused result ≡ bill_refusal bytes first second third }
 {
-    if a <= b { a } else { b }
-}
-
-// The refusal of a bill by 16 or 17, 0 for none.
-pub fn bill_refusal(bytes: u64, first: u64, second: u64, third: u64) -> u8
-    ensures { result ≡ bill_refusal bytes first second third }
-{
-    if MAX_RATE < first {
-        return BAD_RATE;
-    }
-    if MAX_RATE < second {
-        return BAD_RATE;
-    }
-    if MAX_RATE < third {
-        return BAD_RATE;
+    if MAX_RATE < first.max(second).max(third) {
+        return Err(Refusal::BadRate);
     }
     if MAX_BYTES < bytes {
-        return TOO_MANY_BYTES;
+        return Err(Refusal::TooManyBytes);
     }
-    0
+    Ok(())
 }
 
 // The nearest number of whole cents to a charge, at an exact half the even one.
@@ -47,12 +36,9 @@ pub fn nearest_cents(charge: u64) -> u64
     ensures { result ≡ nearest charge }
 {
     let cents = charge / GIB;
-    let rest = charge % GIB;
-    if HALF_GIB < rest {
-        return cents + 1;
+    match (charge % GIB).cmp(&HALF_GIB) {
+        Ordering::Less => cents,
+        Ordering::Equal => cents + cents % 2,
+        Ordering::Greater => cents + 1,
     }
-    if rest < HALF_GIB {
-        return cents;
-    }
-    if cents % 2 == 0 { cents } else { cents + 1 }
 }

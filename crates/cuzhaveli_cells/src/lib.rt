@@ -11,5 +11,5 @@ use refusals::{Answer, Shape};
 pub extern "C" fn cuzhaveli_rebuild_cells(shape: Shape, missing: &[u8], stripe: &mut [u8]) -> Answer
     ensures { RebuildCellsSays shape.width shape.disks shape.cell_size missing.now stripe.old stripe.new result }
 {
-    rebuild_cells::rebuild_cells(shape, missing, stripe)
+    rebuild_cells::rebuild_cells(shape, missing, stripe).into()
 }

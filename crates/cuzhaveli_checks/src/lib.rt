@@ -36,5 +36,5 @@ pub extern "C" fn cuzhaveli_rebuild_tested(
 ) -> Answer
     ensures { TestedSays shape.width shape.disks shape.cell_size lost stripe.now column.old column.new result }
 {
-    rebuild_tested::rebuild_tested(shape, lost, stripe, column)
+    rebuild_tested::rebuild_tested(shape, lost, stripe, column).into()
 }

@@ -67,7 +67,7 @@ pub extern "C" fn cuzhaveli_read_list(
 ) -> Answer
     ensures { ListSays width disks lost list.old list.new result }
 {
-    planner::read_list(width, disks, lost, list)
+    planner::read_list(width, disks, lost, list).into()
 }
 
 // The read list of an accepted plan of 3 × p bytes, into a lent slice of p(k + 2) bytes.

@@ -19,7 +19,7 @@ pub extern "C" fn cuzhaveli_rebuild_one(
 ) -> Answer
     ensures { OneSays shape.width shape.disks shape.cell_size lost stripe.now column.old column.new result }
 {
-    rebuild_one::rebuild_one(shape, lost, stripe, column)
+    rebuild_one::rebuild_one(shape, lost, stripe, column).into()
 }
 
 // Rebuilds one lost disk by an accepted plan of 3 × p bytes.
@@ -46,7 +46,7 @@ pub extern "C" fn cuzhaveli_rebuild_balanced(
 ) -> Answer
     ensures { BalancedOneSays shape.width shape.disks shape.cell_size lost stripe.now column.old column.new result }
 {
-    rebuild_one::rebuild_balanced(shape, lost, stripe, column)
+    rebuild_one::rebuild_balanced(shape, lost, stripe, column).into()
 }
 
 // Rebuilds two lost disks of a lent stripe in place.
@@ -59,5 +59,5 @@ pub extern "C" fn cuzhaveli_rebuild_two(
 ) -> Answer
     ensures { TwoSays shape.width shape.disks shape.cell_size first second stripe.old stripe.new result }
 {
-    rebuild_two::rebuild_two(shape, first, second, stripe)
+    rebuild_two::rebuild_two(shape, first, second, stripe).into()
 }

@@ -3,13 +3,13 @@
 #![tactic(auto)]
 
 ghost use Rattle.std.specs.Prelude.{◌≡◌};
-ghost use Rattle.rebuild_runs.specs.Runs.{SkipSays};
+ghost use Rattle.rebuild_runs.specs.Runs.{run_after, run_answer, SkipSays};
 ghost use Rattle.rebuild_runs.specs.Starts.{OpenSays, resumed, resumed_disks};
 ghost use Rattle.rebuild_runs.specs.StepSays.{StepSays};
 ghost use Rattle.rebuild_runs.specs.ProgressSays.{ProgressSays};
 
 use rebuild_runs::{DisksRun, FullRun, Progress, Run, RunAnswer};
-use refusals::{Answer, Shape};
+use refusals::{Answer, Refusal, Shape};
 
 // Opens a rebuild run over `stripes` stripes.
 #[unsafe(no_mangle)]
@@ -25,7 +25,7 @@ pub extern "C" fn cuzhaveli_open_run(shape: Shape, lost: usize, stripes: u32) ->
 pub extern "C" fn cuzhaveli_resume_full_run(old: FullRun) -> Run
     ensures { result ≡ resumed old }
 {
-    rebuild_runs::resume_full_run(old)
+    Run::from(old)
 }
 
 // A run that was open when no stripe could be skipped goes on with none skipped.
@@ -33,12 +33,26 @@ pub extern "C" fn cuzhaveli_resume_full_run(old: FullRun) -> Run
 pub extern "C" fn cuzhaveli_resume_disks_run(old: DisksRun) -> Run
     ensures { result ≡ resumed_disks old }
 {
-    rebuild_runs::resume_disks_run(old)
+    old.into()
 }
 
-// A step of a run over its lent record: rebuilds stripe `which` into the column and moves the
-// record on by one. A refusal stores nothing, so the record may then lie in memory that is only
-// read.
+// Stores the record that a call gives, and answers. A refusal stores nothing, so the record may then
+// be in memory that is only read.
+fn store(run: &mut Run, moved: Result<Run, Refusal>) -> Answer
+    ensures record { run.new ≡ run_after run.old moved }
+    ensures answer { result ≡ run_answer moved }
+{
+    match moved {
+        Ok(after) => {
+            *run = after;
+            Answer::accepted()
+        }
+        Err(refusal) => refusal.into(),
+    }
+}
+
+// A step of a run over the caller's record: rebuilds stripe `which` into the column and moves the
+// record on by one. A refusal stores nothing.
 #[unsafe(no_mangle)]
 pub extern "C" fn cuzhaveli_step_run(
     run: &mut Run,
@@ -49,25 +63,17 @@ pub extern "C" fn cuzhaveli_step_run(
     ensures { StepSays run.old run.new which stripe.now column.old column.new result }
 {
     let stepped = rebuild_runs::step_run(*run, which, stripe, column);
-    if stepped.answer.refusal != 0 {
-        return stepped.answer;
-    }
-    *run = stepped.run;
-    stepped.answer
+    store(run, stepped)
 }
 
-// A skip of stripe `which` over the lent record of a run: moves it on by one stripe that is not
+// A skip of stripe `which` over the caller's record of a run: moves it on by one stripe that is not
 // rebuilt. A refusal stores nothing.
 #[unsafe(no_mangle)]
 pub extern "C" fn cuzhaveli_skip_stripe(run: &mut Run, which: u64) -> Answer
     ensures { SkipSays run.old run.new which result }
 {
     let skipped = rebuild_runs::skip_stripe(*run, which);
-    if skipped.answer.refusal != 0 {
-        return skipped.answer;
-    }
-    *run = skipped.run;
-    skipped.answer
+    store(run, skipped)
 }
 
 // How far a run is: its record is only read.

@@ -13,7 +13,7 @@ use refusals::{Answer, Shape};
 pub extern "C" fn cuzhaveli_write_server(shape: Shape, servers: usize, stripes: &mut [u8]) -> Answer
     ensures { WriteServerSays shape.width shape.disks shape.cell_size servers stripes.old stripes.new result }
 {
-    parity_server::write_server(shape, servers, stripes)
+    parity_server::write_server(shape, servers, stripes).into()
 }
 
 // Rebuilds one of `servers` + 1 lent stripes from the others, whose lost disks, two bytes a server,
@@ -28,5 +28,5 @@ pub extern "C" fn cuzhaveli_rebuild_server(
 ) -> Answer
     ensures { RebuildServerSays shape.width shape.disks shape.cell_size servers lost stripes.old losses.now stripes.new result }
 {
-    parity_server::rebuild_server(shape, servers, lost, stripes, losses)
+    parity_server::rebuild_server(shape, servers, lost, stripes, losses).into()
 }

@@ -13,7 +13,7 @@ use refusals::{Answer, Shape};
 pub extern "C" fn cuzhaveli_encode_stripe(shape: Shape, stripe: &mut [u8]) -> Answer
     ensures { EncodeSays shape.width shape.disks shape.cell_size stripe.old stripe.new result }
 {
-    encode::encode_stripe(shape, stripe)
+    encode::encode_stripe(shape, stripe).into()
 }
 
 // Puts a lent cell of s bytes into row `row` of data disk `disk` of a lent stripe, and keeps the
@@ -28,5 +28,5 @@ pub extern "C" fn cuzhaveli_update_cell(
 ) -> Answer
     ensures { UpdateSays shape.width shape.disks shape.cell_size row disk stripe.old cell.now stripe.new result }
 {
-    update::update_cell(shape, row, disk, stripe, cell)
+    update::update_cell(shape, row, disk, stripe, cell).into()
 }

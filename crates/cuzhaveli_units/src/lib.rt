@@ -23,7 +23,7 @@ pub extern "C" fn cuzhaveli_seal_unit(
     ensures { SealSays shape.width shape.disks shape.cell_size stripes name.now unit
         cells.now block.old block.new result }
 {
-    unit_sums::seal_unit(shape, stripes, name, unit, cells, block)
+    unit_sums::seal_unit(shape, stripes, name, unit, cells, block).into()
 }
 
 // Mends the pieces of a unit that are marked or do not fit, and marks those that do not fit then.
@@ -40,7 +40,7 @@ pub extern "C" fn cuzhaveli_open_unit(
     ensures { OpenSays shape.width shape.disks shape.cell_size stripes name.now unit
         block.now marks.old marks.new cells.old cells.new result }
 {
-    unit_opening::open_unit(shape, stripes, name, unit, block, marks, cells)
+    unit_opening::open_unit(shape, stripes, name, unit, block, marks, cells).into()
 }
 
 // The film of a unit from byte `from` on, if the pieces that it lies in fit.
@@ -58,7 +58,7 @@ pub extern "C" fn cuzhaveli_film_bytes(
     ensures { FilmBytesSays shape.width shape.disks shape.cell_size stripes name.now
         unit block.now cells.now from out.old out.new result }
 {
-    unit_film::film_bytes(shape, stripes, name, unit, block, cells, from, out)
+    unit_film::film_bytes(shape, stripes, name, unit, block, cells, from, out).into()
 }
 
 // Does the checksum block of a unit end with its guard?
@@ -72,7 +72,7 @@ pub extern "C" fn cuzhaveli_block_fits(
 ) -> Answer
     ensures { BlockSays width disks name.now unit block.now result }
 {
-    unit_sums::block_fits(width, disks, name, unit, block)
+    unit_sums::block_fits(width, disks, name, unit, block).into()
 }
 
 // Has a piece of a unit the checksum that the block has?
@@ -90,5 +90,5 @@ pub extern "C" fn cuzhaveli_piece_fits(
     ensures { FitSays shape.width shape.disks shape.cell_size stripes name.now unit
         block.now disk row piece.now result }
 {
-    unit_sums::piece_fits(shape, stripes, name, unit, block, disk, row, piece)
+    unit_sums::piece_fits(shape, stripes, name, unit, block, disk, row, piece).into()
 }

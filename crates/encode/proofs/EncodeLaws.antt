@@ -1,18 +1,20 @@
 -- Encoding past the refusals: P by the row sets and then Q by the diagonal sets is the encoded
 -- stripe, and the promise from what was refused or done.
-use mathlib.Core.Path.{◌≡◌, sym, ap₂, ◌∙◌}
+use mathlib.Core.Path.{◌≡◌, refl, sym, ap₂, ◌∙◌}
+use Rattle.std.specs.Prelude.{Result, Ok, IsErr}
 use mathlib.Core.Bool.{true}
 use mathlib.Core.List.{List}
 use Prim.Native.Nat.{ℕ, suc, ◌+◌}
 use native.Mathlib.Omega.{arith}
 use Rattle.mathematics.specs.Xor.{all_bytes}
-use Rattle.mathematics.proofs.ChoiceLaws.{pick_refused, pick_done}
+use Rattle.mathematics.proofs.ChoiceLaws.{pick_done}
 use Rattle.liberation.specs.Plans.{Step, all_of}
 use Rattle.liberation.proofs.ParityPlans.{plan_row_parity, plan_diagonal_parity}
 use Rattle.liberation.specs.Stripes.Stripes.{encoded, followed}
-use Rattle.refusals.specs.declared.Answer.{Answer}
-use Rattle.refusals.specs.Answers.{Answers}
-use Rattle.refusals.proofs.AnswerLaws.{answers_as}
+use Rattle.refusals.specs.declared.array.Geometry.{Geometry}
+use Rattle.refusals.specs.declared.refusal.Refusal.{Refusal}
+use Rattle.refusals.specs.Refused.{refused, answer_of}
+use Rattle.refusals.proofs.RefusalNumbers.{refused_pick}
 use Rattle.refusals.specs.StripeSays.{stripe_refusal}
 use Rattle.encode.specs.Says.{EncodeSays}
 
@@ -25,18 +27,19 @@ both_kinds p k s t u v e q =
     ∙ ap₂ (λ (f : ℕ) (l : List ℕ). followed p k s f (all_of p 1 0) l) o e
     ∙ sym (ap₂ (λ (x y : List Step). followed p k s (suc k) y (followed p k s k x t)) (plan_row_parity p k) (plan_diagonal_parity p k))
 
-pub encode_refused : (p k s n : ℕ) (t : List ℕ) (r : Answer) → n ≡ stripe_refusal p k s t → (n ≡ 0 → ⊥) → Answers n r → all_bytes t ≡ true → EncodeSays p k s t t r
-encode_refused p k s n t r e z a b =
+-- the promise from what was refused, or done
+pub encode_refused : (p k s : ℕ) (t : List ℕ) (r : Result Unit Refusal) → IsErr r → refused r ≡ stripe_refusal p k s t → all_bytes t ≡ true → EncodeSays p k s t t (answer_of r)
+encode_refused p k s t r i e b =
     record {
-      answer = answers_as n (stripe_refusal p k s t) r e a;
-      stripe = pick_refused n (stripe_refusal p k s t) (encoded p k s t) t e z;
+      answer = record { refusal = e; place = refl };
+      stripe = refused_pick r (stripe_refusal p k s t) (encoded p k s t) t i e;
       bytes = b;
     }
 
-pub encode_done : (p k s : ℕ) (t u : List ℕ) (r : Answer) → stripe_refusal p k s t ≡ 0 → u ≡ encoded p k s t → Answers 0 r → all_bytes t ≡ true → EncodeSays p k s t u r
-encode_done p k s t u r z e a b =
+pub encode_done : (p k s : ℕ) (g : Geometry) (t u : List ℕ) → (g.array.width ≡ p) × (g.array.disks ≡ k) × (g.cell_size ≡ s) → 0 ≡ stripe_refusal p k s t → u ≡ encoded g.array.width g.array.disks g.cell_size t → all_bytes t ≡ true → EncodeSays p k s t u (answer_of (Ok tt))
+encode_done p k s g t u n z e b =
     record {
-      answer = answers_as 0 (stripe_refusal p k s t) r (sym z) a;
-      stripe = e ∙ pick_done (stripe_refusal p k s t) (encoded p k s t) t z;
+      answer = record { refusal = z; place = refl };
+      stripe = rw (n.0, n.1, n.2) at e ∙ pick_done (stripe_refusal p k s t) (encoded p k s t) t (sym z);
       bytes = b;
     }

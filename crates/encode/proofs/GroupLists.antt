@@ -1,13 +1,13 @@
 -- The cells that a group adds to a set's sum: where they lie, how they are pushed, and that the
 -- groups one after another give all data cells of the set.
-use mathlib.Core.Path.{◌≡◌, refl, sym, subst, ap, ap₂, ◌∙◌}
+use mathlib.Core.Path.{◌≡◌, refl, sym, ap, ap₂, ◌∙◌}
 use mathlib.Core.Bool.{Bool, true, false, ◌&&◌}
 use mathlib.Core.Logic.{⊎_elim}
 use mathlib.Core.List.{List, [], ◌∷◌, ◌++◌, append-nil}
 use Prim.Native.Nat.{ℕ, zero, suc, ◌+◌, ◌-◌, ◌*◌, ◌≤◌, ◌<◌}
 use native.Mathlib.Omega.{arith}
 use lib.Dec.{eqb, ltb, leb}
-use lib.ListN.{length, take}
+use lib.ListN.{length}
 use borrow.Author.Tests.{ltb-true, lt-ltb, le-ltb}
 use Rattle.mathematics.specs.Choice.{pick}
 use Rattle.mathematics.specs.Lists.{all_below}
@@ -15,21 +15,22 @@ use Rattle.mathematics.proofs.Flags.{and_i}
 use Rattle.mathematics.proofs.OrderLaws.{lt_or_le}
 use Rattle.mathematics.proofs.ListLaws.{below_append}
 use Rattle.mathematics.proofs.Walks.{Walk, walk_below}
-use Rattle.liberation.specs.Sets.{place, extra_row, extra_disk, extra_of}
+use Rattle.liberation.specs.Sets.{extra_row, extra_disk, extra_of}
 use Rattle.liberation.proofs.SetLaws.{place_below}
+use Rattle.liberation.specs.Stripes.Stripes.{stripe_long}
 use Rattle.xor.specs.Parts.{with_part, xor_offsets}
 use Rattle.xor_in_place.specs.Beside.{Beside}
-use Rattle.stripe_cells.specs.Offsets.{scaled, cells_from, Pushed}
+use Rattle.stripe_cells.specs.Offsets.{scaled, cells_from}
 use Rattle.stripe_cells.proofs.KeptLaws.{row_in, row_in_below, cell_walk}
-use Rattle.stripe_cells.proofs.OffsetLaws.{over_offsets}
+use Rattle.stripe_cells.proofs.OffsetLaws.{over_offsets, length_scaled, scaled_append}
 use Rattle.stripe_cells.specs.OrdinaryCells.{parity_disk}
 use Rattle.stripe_cells.specs.SetCells.{extra_in}
-use Rattle.stripe_cells.proofs.OrdinaryLists.{parity_most, none_pushed, both_pushed}
-use Rattle.stripe_cells.proofs.SetLists.{extra_row_lem}
-use Rattle.stripe_cells.proofs.OrdinaryLaws.{cells_beside}
+use Rattle.stripe_cells.proofs.OrdinaryLists.{parity_most}
+use Rattle.stripe_cells.proofs.AppendedLaws.{both_appended, data_length}
+use Rattle.stripe_cells.proofs.SolvedLaws.{list_lies_beside}
 use Rattle.encode.specs.Extras.{extra_between}
-use Rattle.encode.proofs.ExtraLists.{extra_before, extra_from, extra_none}
-use Rattle.encode.specs.Groups.{group_cells, parity_cell, group_sources, group_sum, added_set, Group}
+use Rattle.encode.proofs.ExtraLists.{extra_before, extra_from}
+use Rattle.encode.specs.Groups.{group_cells, parity_cell, group_sources, group_sum, added_set}
 
 -- a walk in two parts
 walk_add : {f : ℕ → ℕ} {l : ℕ → ℕ → List ℕ} → Walk f l → (m n c : ℕ) → l (m + n) c ≡ l m c ++ l n (c + m)
@@ -114,44 +115,44 @@ sources_below p k lo hi kind i numbered ordered last =
     go true = refl
     go false = and_i _ _ (lt-ltb (parity_cell p k kind i) (p * (k + 2)) (parity_below p k kind i numbered)) refl
 
--- the parity cell is pushed, or not
-pub own_few : {old new : List ℕ} (lo to n : ℕ) → Pushed old new 0 n (pick (eqb lo 0) [] (to ∷ [])) → n ≤ 1
-own_few lo to n u = omega (arith, u.count, go (eqb lo 0))
-  where
-    go : (b : Bool) → length (pick b [] (to ∷ [])) ≤ 1
-    go true = omega arith
-    go false = omega arith
+-- the sources of a set's sum, one of its parts after the other
+module _ (p k s lo hi kind i : ℕ) where
+  -- the parity cell, but in the first group
+  own_scaled : (b : Bool) → scaled s (pick b [] (parity_cell p k kind i ∷ [])) ≡ pick b [] (parity_cell p k kind i * s ∷ [])
+  unfolding scaled
+  own_scaled true = refl
+  own_scaled false = refl
 
--- f is the disk of the set's parity cell
-module _ (p k s lo hi kind i f : ℕ) (parity : f ≡ parity_disk k kind) where
-  -- the parity cell, the cells of the row or the diagonal, the extra cell
-  pub sources_pushed : {a b c d : List ℕ} {n m r : ℕ} → Pushed a b 0 n (pick (eqb lo 0) [] (place p i f * s ∷ [])) → Pushed b c n m (scaled s (cells_from kind (hi - lo) p i lo)) → Pushed c d m r (scaled s (extra_between p lo hi kind i)) → Pushed a d 0 r (scaled s (group_sources p k lo hi kind i))
-  unfolding group_cells scaled
-  sources_pushed {a} {b} {c} {d} {n} {m} {r} u v w =
-      both_pushed s own (group_cells p lo hi kind i) refl (subst (Pushed a b 0 n) (ap (λ (e : ℕ). pick (eqb lo 0) [] (place p i e * s ∷ [])) parity ∙ sym (go (eqb lo 0))) u)
-      (both_pushed s (cells_from kind (hi - lo) p i lo) (extra_between p lo hi kind i) refl v w)
+  pub sources_listed : (a b c : List ℕ) (to : ℕ) → to ≡ parity_cell p k kind i * s → a ≡ pick (eqb lo 0) [] (to ∷ []) → b ≡ a ++ scaled s (cells_from kind (hi - lo) p i lo) → c ≡ b ++ scaled s (extra_between p lo hi kind i) → c ≡ scaled s (group_sources p k lo hi kind i)
+  unfolding group_cells
+  sources_listed a b c to e u v w =
+      both_appended (group_cells p lo hi kind i) a b c s (cells_from kind (hi - lo) p i lo) (extra_between p lo hi kind i) refl v w
+      ∙ ap (λ (l : List ℕ). l ++ scaled s (group_cells p lo hi kind i)) (u ∙ ap (λ (x : ℕ). pick (eqb lo 0) [] (x ∷ [])) e ∙ sym (own_scaled (eqb lo 0)))
+      ∙ sym (scaled_append s (pick (eqb lo 0) [] (parity_cell p k kind i ∷ [])) (group_cells p lo hi kind i))
+
+  -- so many in the list before the extra cell
+  pub sources_few : (a b : List ℕ) (to : ℕ) → lo ≤ hi → a ≡ pick (eqb lo 0) [] (to ∷ []) → b ≡ a ++ scaled s (cells_from kind (hi - lo) p i lo) → (length a ≤ 1) × (length b ≤ 1 + (hi - lo))
+  sources_few a b to h u v =
+      let l : length a ≤ 1 = own in
+      (l, omega (arith, data_length p k s kind i a b (hi - lo) lo v))
     where
-      own : List ℕ
-      own = pick (eqb lo 0) [] (parity_cell p k kind i ∷ [])
+      own : length a ≤ 1
+      own = let q = one (eqb lo 0) in omega (arith, ap length u)
+        where
+          one : (b : Bool) → length (pick b [] (to ∷ [])) ≤ 1
+          one true = omega arith
+          one false = omega arith
 
-      go : (b : Bool) → scaled s (pick b [] (parity_cell p k kind i ∷ [])) ≡ pick b [] (parity_cell p k kind i * s ∷ [])
-      go true = refl
-      go false = refl
-
-  module _ (t old at : List ℕ) (q : Group p k s lo hi t old) (room : length at ≡ 33) (r : ℕ) (numbered : i < p) (pushed : Pushed old at 0 r (scaled s (group_sources p k lo hi kind i))) where
-    pub group_beside : Beside (place p i f * s) s (length t) (take r at)
+  module _ (list t : List ℕ) (numbered : i < p) (ordered : lo ≤ hi) (last : hi ≤ k) (most : length list ≤ 33) (long : length t ≡ stripe_long p k s) (e : list ≡ scaled s (group_sources p k lo hi kind i)) where
+    pub group_beside : Beside (parity_cell p k kind i * s) s (length t) list
     group_beside =
-        subst (λ (e : ℕ). Beside (place p i e * s) s (length t) (take r at)) (sym parity)
-        (cells_beside s r (p * (k + 2)) old at (group_sources p k lo hi kind i) t room pushed (sources_below p k lo hi kind i numbered q.ordered q.last) (q.sized.long ∙ omega arith)
-        (parity_cell p k kind i) (parity_below p k kind i numbered))
+        list_lies_beside s (p * (k + 2)) list (group_sources p k lo hi kind i) t e (omega (arith, ap length e, length_scaled s (group_sources p k lo hi kind i))) (sources_below p k lo hi kind i numbered ordered last) (long ∙ omega arith)
+        (parity_cell p k kind i)
+        (parity_below p k kind i numbered)
 
-    pub group_added : (u : List ℕ) → u ≡ with_part s (place p i f * s) (xor_offsets s t (take r at)) t → u ≡ added_set p k s lo hi kind i t
+    pub group_added : (u : List ℕ) → u ≡ with_part s (parity_cell p k kind i * s) (xor_offsets s t list) t → u ≡ added_set p k s lo hi kind i t
     unfolding group_sum
-    group_added u e = e ∙ ap₂ (λ (d : ℕ) (l : List ℕ). with_part s (place p i d * s) l t) parity (ap (xor_offsets s t) pushed.list ∙ over_offsets s t (group_sources p k lo hi kind i))
-
--- a row has no extra cell
-pub row_pushed : {a b c : List ℕ} {n m : ℕ} (p k s lo hi i : ℕ) → Pushed a b 0 n (pick (eqb lo 0) [] (place p i k * s ∷ [])) → Pushed b c n m (scaled s (cells_from 0 (hi - lo) p i lo)) → Pushed a c 0 m (scaled s (group_sources p k lo hi 0 i))
-row_pushed {a} {b} {c} {n} {m} p k s lo hi i u v = sources_pushed p k s lo hi 0 i k refl u v (none_pushed s m c v.fits (extra_none p 0 i lo hi (extra_row_lem p hi 0 i refl)))
+    group_added u q = q ∙ ap (λ (l : List ℕ). with_part s (parity_cell p k kind i * s) l t) (ap (xor_offsets s t) e ∙ over_offsets s t (group_sources p k lo hi kind i))
 
 -- all data cells below hi: those below lo and the group's, then the extra cell if it is below lo or
 -- in the group

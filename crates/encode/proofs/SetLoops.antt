@@ -9,14 +9,9 @@ use Rattle.mathematics.proofs.OrderLaws.{lt_or_le}
 use Rattle.liberation.specs.Sets.{place}
 use Rattle.liberation.specs.Stripes.Stripes.{cell_at}
 use Rattle.stripe_cells.specs.OrdinaryCells.{parity_disk}
-use Rattle.liberation.proofs.Stripes.SizedLaws.{sized_kept}
-use Rattle.encode.specs.Groups.{parity_cell, group_sum, added_set, Group}
+use Rattle.encode.specs.Groups.{parity_cell, group_sum, added_set}
 use Rattle.encode.specs.Added.{KindAdded, SetsAdded}
 use Rattle.encode.proofs.ParityCells.{DataSame, parity_apart, sum_same, added_cell, added_other, added_data}
-
--- a stripe and a list of the same lengths do as well
-pub still_group : {p k s lo hi : ℕ} {t at : List ℕ} (u ats : List ℕ) → Group p k s lo hi t at → length u ≡ length t → length ats ≡ length at → Group p k s lo hi u ats
-still_group u ats q e l = record { sized = sized_kept _ _ _ _ u q.sized e; ordered = q.ordered; last = q.last; room = l ∙ q.room }
 
 -- parity cells of one kind
 row_differs : (p d i j : ℕ) → (i ≡ j → ⊥) → place p i d ≡ place p j d → ⊥

@@ -1,12 +1,11 @@
 -- Parity sums by groups of data disks lo to hi - 1: the cells that a group adds to a set's sum, and
 -- the stripe once they are added.
-use Rattle.std.specs.Prelude.{◌≡◌, List, [], ◌∷◌, ◌++◌, ℕ, ◌-◌, ◌≤◌, eqb, length}
+use Rattle.std.specs.Prelude.{List, [], ◌∷◌, ◌++◌, ℕ, ◌-◌, eqb}
 use Rattle.mathematics.specs.Choice.{pick}
 use Rattle.liberation.specs.Sets.{place}
 use Rattle.liberation.specs.Stripes.Stripes.{cell_at, with_cell, xor_over}
 use Rattle.stripe_cells.specs.Offsets.{cells_from}
 use Rattle.stripe_cells.specs.OrdinaryCells.{parity_disk}
-use Rattle.liberation.specs.Stripes.StripeLimits.{Sized}
 use Rattle.encode.specs.Extras.{extra_between}
 
 -- a set's data cells on disks lo to hi - 1; from disk 0 on they are its data cells below hi
@@ -28,10 +27,3 @@ group_sum p k s lo hi kind i t = xor_over s (cell_at s t) (group_sources p k lo 
 
 abbrev pub added_set : ℕ → ℕ → ℕ → ℕ → ℕ → ℕ → ℕ → List ℕ → List ℕ
 added_set p k s lo hi kind i t = with_cell s (parity_cell p k kind i) (group_sum p k s lo hi kind i t) t
-
--- a stripe, a group of its data disks, and a lent list with room for the cells of a set
-pub record Group (p k s lo hi : ℕ) (t at : List ℕ) : Type 0 where
-  pub sized : Sized p k s t
-  pub ordered : lo ≤ hi
-  pub last : hi ≤ k
-  pub room : length at ≡ 33

@@ -4,7 +4,7 @@ use Rattle.std.specs.Prelude.{◌≡◌, true, List, ℕ, eqb}
 use Rattle.mathematics.specs.Choice.{pick}
 use Rattle.mathematics.specs.Xor.{all_bytes}
 use Rattle.liberation.specs.Stripes.Stripes.{encoded}
-use Rattle.refusals.specs.declared.Answer.{Answer}
+use Rattle.refusals.specs.declared.answer.Answer.{Answer}
 use Rattle.refusals.specs.Answers.{Answers}
 use Rattle.refusals.specs.StripeSays.{stripe_refusal}
 

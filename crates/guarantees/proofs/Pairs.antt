@@ -17,7 +17,7 @@ use Rattle.liberation.proofs.Stripes.Widening.{widened_stripe, widened_clean}
 use Rattle.liberation.proofs.Stripes.WidenedRebuilds.{widened_alike}
 use Rattle.liberation.specs.TwoDisks.Pairs.{pair_solved}
 use Rattle.liberation.proofs.TwoDisks.PairLaws.{pair_stripe, pair_off, pair_clean, pair_back}
-use Rattle.refusals.specs.declared.Answer.{Answer}
+use Rattle.refusals.specs.declared.answer.Answer.{Answer}
 use Rattle.rebuild_two.specs.Says.{two_refusal, TwoSays}
 use Rattle.rebuild_two.proofs.TwoRefusals.{refusal_none}
 use Rattle.guarantees.proofs.Limits.Demand1.{demand1}

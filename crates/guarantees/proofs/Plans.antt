@@ -23,7 +23,7 @@ use Rattle.liberation.proofs.PartPlans.{plan_accepted, plans_part}
 use Rattle.liberation.specs.Stripes.Stripes.{is_stripe, followed}
 use Rattle.liberation.proofs.Stripes.RearrangedBytes.{bytes_same}
 use Rattle.planner.specs.declared.Plan.{Plan}
-use Rattle.refusals.specs.declared.Answer.{Answer}
+use Rattle.refusals.specs.declared.answer.Answer.{Answer}
 use Rattle.planner.specs.PlanSays.{PlanSays}
 use Rattle.planner.proofs.FormLaws.{form_of, length_of, plan_form}
 use Rattle.planner.proofs.PlanMeans.{plan_means}

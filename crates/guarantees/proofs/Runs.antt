@@ -7,7 +7,7 @@ use Prim.Native.Nat.{ℕ, ◌+◌, ◌*◌, ◌<◌}
 use Rattle.liberation.specs.Sets.{disk_at}
 use Rattle.liberation.proofs.RefusalLaws.{numbers_plan}
 use Rattle.liberation.specs.Stripes.Stripes.{cell_at, column_of, is_stripe, clean}
-use Rattle.refusals.specs.declared.Answer.{Answer}
+use Rattle.refusals.specs.declared.answer.Answer.{Answer}
 use Rattle.planner.specs.declared.Plan.{Plan}
 use Rattle.planner.specs.PlanSays.{PlanSays}
 use Rattle.rebuild_runs.specs.declared.Run.{Run}

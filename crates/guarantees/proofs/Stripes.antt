@@ -25,7 +25,7 @@ use Rattle.liberation.proofs.Stripes.Widening.{widened_stripe, widened_clean, wi
 use Rattle.liberation.proofs.Stripes.WidenedRebuilds.{widened_rebuilt}
 use Rattle.liberation.proofs.Stripes.Encoding.{encoded_stripe, encoded_data, encoded_clean, encoded_only}
 use Rattle.liberation.proofs.Stripes.Rebuilding.{one_back, lost_unused, only_read}
-use Rattle.refusals.specs.declared.Answer.{Answer}
+use Rattle.refusals.specs.declared.answer.Answer.{Answer}
 use Rattle.planner.specs.ReadListSays.{ListSays}
 use Rattle.scrub.specs.declared.clean.Checked.{Checked}
 use Rattle.refusals.specs.StripeSays.{stripe_refusal}

@@ -23,7 +23,7 @@ use Rattle.liberation.proofs.TwoDisks.PairLaws.{pair_only}
 use Rattle.liberation.specs.Scrub.Survivors.{with_rebuilt, fits}
 use Rattle.liberation.specs.Scrub.Explained.{Explains}
 use Rattle.liberation.proofs.Scrub.Explaining.{fits_explains, explains_fits, explains_column, none_unfit}
-use Rattle.refusals.specs.declared.Answer.{Answer}
+use Rattle.refusals.specs.declared.answer.Answer.{Answer}
 use Rattle.rebuild_one.specs.RebuildOneSays.{one_refusal, OneSays}
 use Rattle.rebuild_one.proofs.OneRefusals.{refusal_none}
 use Rattle.rebuild_tested.specs.Says.{tested_refusal, TestedSays}

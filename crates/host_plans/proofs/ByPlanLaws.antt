@@ -1,7 +1,7 @@
 -- What the first tests of `rebuild_by_plan` leave.
 use mathlib.Core.Path.{◌≡◌, ap, ap₂, ◌∙◌}
 use mathlib.Core.List.{List}
-use Prim.Native.Nat.{ℕ, ◌+◌, ◌*◌, ◌≤◌}
+use Prim.Native.Nat.{ℕ, ◌+◌, ◌*◌, ◌≤◌, ◌<◌}
 use native.Mathlib.Omega.{arith}
 use lib.ListN.{length}
 use Rattle.mathematics.specs.Choice.{first_of}
@@ -17,6 +17,7 @@ use Rattle.host_plans.specs.RebuildByPlanSays.{call_refusal}
 -- none of the first refusals
 pub record Passed (p k s f : ℕ) (bs t o : List ℕ) : Type 0 where
   pub sized : Sized p k s t
+  pub some : 0 < s
   pub disk : f ≤ k + 1
   pub plan : length bs ≡ 3 * p
   pub column : length o ≡ p * s
@@ -31,6 +32,7 @@ passed p k s f bs t o e =
     let q = numbers_of_lem p k s f w.0 in
     record {
       sized = record { array = q.0; small = omega (arith, q.2); long = long_of (stripe_long p k s) t u.0 };
+      some = q.1;
       disk = q.3;
       plan = long_of (3 * p) bs v.0;
       column = long_of (p * s) o u.1;

@@ -5,7 +5,7 @@ use Rattle.mathematics.specs.Choice.{first_of}
 use Rattle.liberation.specs.Sets.{plan_refusal, long_refusal}
 use Rattle.liberation.specs.Plans.{list_of}
 use Rattle.liberation.specs.Judging.{judge, steps_in}
-use Rattle.refusals.specs.declared.Answer.{Answer}
+use Rattle.refusals.specs.declared.answer.Answer.{Answer}
 use Rattle.judge.specs.JudgeSays.{DecidesOn}
 
 -- refusals before any step is looked at: 1, 13, 3, 5

@@ -7,7 +7,7 @@ use Rattle.mathematics.specs.Xor.{all_bytes}
 use Rattle.liberation.specs.Sets.{numbers_refusal, long_refusal}
 use Rattle.liberation.specs.Judging.{judge, steps_in}
 use Rattle.liberation.specs.Stripes.Stripes.{stripe_long, rebuilt_by}
-use Rattle.refusals.specs.declared.Answer.{Answer}
+use Rattle.refusals.specs.declared.answer.Answer.{Answer}
 use Rattle.judge.specs.JudgeSays.{DecidesOn}
 
 -- refusals before any step is looked at: 1, 13, 2, 3, 5

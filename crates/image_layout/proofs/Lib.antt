@@ -1,5 +1,5 @@
 -- Quotients rounded up, groups and what lies in them, the bounds that keep every sum from wrapping,
--- the film on its cells, refusals and answers; last what holds of every accepted layout.
+-- the film on its cells, refusals; last what holds of every accepted layout.
 pub mod UpLaws
 pub mod GroupLaws
 pub mod CellPlaces
@@ -9,6 +9,5 @@ pub mod PlaceSums
 pub mod FilmLaws
 pub mod LimitLaws
 pub mod PieceLaws
-pub mod PlaceAnswers
 pub mod ImageLaws
 pub mod AnswerPlaces

@@ -1,14 +1,14 @@
--- The refusals of a layout and of a place in it: each test of the definition holds or fails as the
--- fact that it tests, and past all of them the layout is accepted.
-use mathlib.Core.Path.{◌≡◌, sym, ap, ap₂}
-use mathlib.Core.Bool.{Bool, true, false, ◌&&◌, ◌||◌, not}
+-- The refusals of a layout and of a place in it: past all of them the layout is accepted, and has the
+-- place.
+use mathlib.Core.Path.{◌≡◌}
+use mathlib.Core.Bool.{Bool, true, ◌&&◌, ◌||◌, not}
 use mathlib.Core.Logic.{◌⊎◌, inl, inr, ⊎_elim}
 use Prim.Native.Nat.{ℕ, ◌*◌, ◌%◌, ◌^◌, ◌≤◌, ◌<◌}
 use lib.Dec.{eqb, ltb, leb}
-use borrow.Author.Tests.{ltb-true, leb-true, eqb-true, ltb-false, lt-ltb, le-ltb, le-leb, eq-eqb, not-false}
+use borrow.Author.Tests.{ltb-true, leb-true, eqb-true, ltb-false, lt-ltb, le-leb, eq-eqb, not-false}
 use Rattle.mathematics.specs.Choice.{when, first_of}
-use Rattle.mathematics.proofs.Flags.{and_l, and_r, and_i, or_l, or_r, or_cases, flag}
-use Rattle.mathematics.proofs.ChoiceLaws.{first_next, first_none, when_none}
+use Rattle.mathematics.proofs.Flags.{and_l, and_r, and_i, or_l, or_r, or_cases}
+use Rattle.mathematics.proofs.ChoiceLaws.{first_none, when_none}
 use Rattle.liberation.specs.Sets.{shape_refusal}
 use Rattle.liberation.proofs.RefusalLaws.{shape_of}
 use Rattle.space.specs.Refusals.{package_refusal}
@@ -46,21 +46,8 @@ module _ (u s g : ℕ) where
       let b : (ltb 0 g && last) ≡ true = and_i (ltb 0 g) last (lt-ltb 0 g f.group) c in
       and_i (ltb 0 u) (piece && (ltb 0 g && last)) (lt-ltb 0 u f.unit) (and_i piece (ltb 0 g && last) (piece_by f.piece) b)
 
-  pub group_accepted : Fits u s g → 0 ≡ group_refusal u s g
-  group_accepted f = sym (ap (λ (b : Bool). when (not b) 25) (fits_by f))
-
-  pub group_refused : (Fits u s g → ⊥) → 25 ≡ group_refusal u s g
-  group_refused n = ⊎_elim (λ e. absurd (n (fits_of e))) (λ e. sym (ap (λ (b : Bool). when (not b) 25) e)) (flag (is_group u s g))
-
   group_of : group_refusal u s g ≡ 0 → Fits u s g
   group_of e = fits_of (not-false (is_group u s g) (when_none (not (is_group u s g)) 24 e))
-
--- refusal 11
-pub length_refused : (n : ℕ) → 2 ^ 48 < n → package_refusal n ≡ 11
-length_refused n h = ap (λ (b : Bool). when b 11) (lt-ltb (2 ^ 48) n h)
-
-pub length_accepted : (n : ℕ) → n ≤ 2 ^ 48 → package_refusal n ≡ 0
-length_accepted n h = ap (λ (b : Bool). when b 11) (le-ltb (2 ^ 48) n h)
 
 -- past refusals 1, 13, 2, 11 and 25
 pub accepted : (l : Layout) → layout_refusal l ≡ 0 → Accepted l
@@ -80,25 +67,9 @@ accepted l e =
       whole = f.whole;
     }
 
--- refusal 26 after those of the layout, by a test t
-pub place_accepted : (m : ℕ) (t : Bool) → m ≡ 0 → t ≡ true → 0 ≡ first_of m (when (not t) 26)
-place_accepted m t e f = first_next 0 m (when (not t) 26) e (sym (ap (λ (b : Bool). when (not b) 26) f))
-
-pub place_refused : (m : ℕ) (t : Bool) → m ≡ 0 → t ≡ false → 26 ≡ first_of m (when (not t) 26)
-place_refused m t e f = first_next 26 m (when (not t) 26) e (sym (ap (λ (b : Bool). when (not b) 26) f))
-
+-- past refusal 26, by a test t
 place_of : (m : ℕ) (t : Bool) → first_of m (when (not t) 26) ≡ 0 → (m ≡ 0) × (t ≡ true)
 place_of m t e = let n = first_none m (when (not t) 26) e in (n.0, not-false t (when_none (not t) 25 n.1))
-
--- the test of a cell
-pub row_over : (l : Layout) (i n : ℕ) → l.width ≤ i → (ltb i l.width && ltb n (stripes_of l)) ≡ false
-row_over l i n h = ap (λ (b : Bool). b && ltb n (stripes_of l)) (le-ltb i l.width h)
-
-pub stripe_over : (l : Layout) (i n : ℕ) → i < l.width → stripes_of l ≤ n → (ltb i l.width && ltb n (stripes_of l)) ≡ false
-stripe_over l i n h k = ap₂ ◌&&◌ (lt-ltb i l.width h) (le-ltb n (stripes_of l) k)
-
-pub cell_there : (l : Layout) (i n : ℕ) → i < l.width → n < stripes_of l → (ltb i l.width && ltb n (stripes_of l)) ≡ true
-cell_there l i n h k = ap₂ ◌&&◌ (lt-ltb i l.width h) (lt-ltb n (stripes_of l) k)
 
 -- past refusal 26
 pub cell_of : (l : Layout) (i n : ℕ) → cell_refusal l i n ≡ 0 → (layout_refusal l ≡ 0) × IsCell l i n

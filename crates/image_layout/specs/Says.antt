@@ -22,6 +22,14 @@ pub record ImageSays (l : Layout) (r : Image) : Type 0 where
   pub end : r.end ≡ unless (layout_refusal l) (end_at l)
   pub bytes : r.bytes ≡ unless (layout_refusal l) (image_bytes l)
 
+-- a refusal of `image_bytes` by m
+pub record ImageRefused (m : ℕ) (r : Image) : Type 0 where
+  pub answer : Answers m r.answer
+  pub stripes : r.stripes ≡ 0
+  pub units : r.units ≡ 0
+  pub end : r.end ≡ 0
+  pub bytes : r.bytes ≡ 0
+
 -- a refusal by m, or n bytes from a on
 pub record PlaceSays (m a n : ℕ) (r : Place) : Type 0 where
   pub answer : Answers m r.answer
@@ -43,6 +51,14 @@ pub record UnitSays (l : Layout) (i v : ℕ) (r : UnitPlace) : Type 0 where
   pub stripes : r.stripes ≡ unless (unit_refusal l i v) (unit_stripes l v)
   pub at : r.at ≡ unless (unit_refusal l i v) (piece_at l i v)
   pub bytes : r.bytes ≡ unless (unit_refusal l i v) (piece_bytes l v)
+
+-- a refusal of `unit_place` by m
+pub record UnitRefused (m : ℕ) (r : UnitPlace) : Type 0 where
+  pub answer : Answers m r.answer
+  pub first : r.first ≡ 0
+  pub stripes : r.stripes ≡ 0
+  pub at : r.at ≡ 0
+  pub bytes : r.bytes ≡ 0
 
 -- the promise of `film_place`, for byte n of the film
 pub record FilmSays (l : Layout) (n : ℕ) (r : FilmPlace) : Type 0 where

@@ -1,16 +1,20 @@
-// Where the bytes of an image stand: an image keeps one disk of a film, a label at either end. The
+// Where the bytes of an image are: an image keeps one disk of a film, a label at either end. The
 // calls refuse a layout beyond the limits and places that it does not have, so a caller need check
 // nothing.
 #![tactic(auto)]
 
+mod accepted;
 mod limits;
 mod places;
+mod refused;
 
-ghost use Rattle.std.specs.Prelude.{◌≡◌};
-ghost use Rattle.image_layout.specs.Limits.{layout_refusal};
-ghost use Rattle.image_layout.specs.Says.{ImageSays, PlaceSays, CellSays, BlockSays, UnitSays, FilmSays, FilmRefused};
+ghost use Rattle.std.specs.Prelude.{◌≡◌, IfOk};
+ghost use Rattle.refusals.specs.Refused.{refused};
+ghost use Rattle.image_layout.specs.Limits.{layout_refusal, cell_refusal, block_refusal, unit_refusal, film_refusal};
+ghost use Rattle.image_layout.specs.Says.{ImageSays, CellSays, BlockSays, UnitSays, FilmSays};
 
-use refusals::Answer;
+pub use accepted::AcceptedLayout;
+use refusals::{Answer, Refusal};
 
 // The numbers of a set of images: the width, the data disks, the bytes of a cell, the stripes of a
 // unit and of a group, and the bytes of the film.
@@ -37,7 +41,7 @@ pub struct Image {
     pub bytes: u64,
 }
 
-// The answer, and where in an image how many bytes stand.
+// The answer, and where in an image how many bytes are.
 #[repr(C)]
 #[derive(Clone, Copy)]
 pub struct Place {
@@ -47,7 +51,7 @@ pub struct Place {
 }
 
 // The answer, the first stripe of a unit, its stripes, and where in an image how many bytes of the
-// piece of a row stand: the cells of that row, side by side.
+// piece of a row are: the cells of that row, side by side.
 #[repr(C)]
 #[derive(Clone, Copy)]
 pub struct UnitPlace {
@@ -59,7 +63,7 @@ pub struct UnitPlace {
 }
 
 // The answer, the stripe, data disk, row and byte of the cell for a byte of the film, and where
-// that byte stands in the image of the disk.
+// that byte is in the image of the disk.
 #[repr(C)]
 #[derive(Clone, Copy)]
 pub struct FilmPlace {
@@ -71,140 +75,123 @@ pub struct FilmPlace {
     pub at: u64,
 }
 
-// The answer with this refusal, and a place that is 0 where the call is refused.
-fn placed(refusal: u8, at: u64, bytes: u64) -> Place
-    ensures { PlaceSays refusal at bytes result }
+// The image of a layout, or why there is none.
+fn try_image(layout: Layout) -> Result<Image, Refusal>
+    ensures refusal { refused result ≡ layout_refusal layout }
+    ensures image { IfOk result (λ i. ImageSays layout i) }
 {
-    if refusal == 0 {
-        Place {
-            answer: refusals::answered(0),
-            at: at,
-            bytes: bytes,
-        }
-    } else {
-        Place {
-            answer: refusals::answered(refusal),
-            at: 0,
-            bytes: 0,
-        }
-    }
-}
-
-// A refusal of a byte of the film: every other field is 0.
-fn refused_film(refusal: u8) -> FilmPlace
-    ensures { FilmRefused refusal result }
-{
-    FilmPlace {
-        answer: refusals::answered(refusal),
-        stripe: 0,
-        disk: 0,
-        row: 0,
-        byte: 0,
-        at: 0,
-    }
-}
-
-// The refusal of a layout, 0 for none: 1, 13, 2, 11 or 25.
-pub fn layout_refusal(layout: Layout) -> u8
-    ensures { result ≡ layout_refusal layout }
-{
-    limits::refusal(layout)
+    let accepted = AcceptedLayout::new(layout)?;
+    let end = accepted.end_at();
+    Ok(Image {
+        answer: Answer::accepted(),
+        stripes: accepted.stripes(),
+        units: accepted.units(),
+        end,
+        bytes: end + places::LABEL_BYTES,
+    })
 }
 
 // The stripes, the units and the bytes of an image. Refusals: 1, 13, 2, 11, 25.
 pub fn image_bytes(layout: Layout) -> Image
     ensures { ImageSays layout result }
 {
-    let refusal = limits::refusal(layout);
-    if refusal != 0 {
-        return Image {
-            answer: refusals::answered(refusal),
-            stripes: 0,
-            units: 0,
-            end: 0,
-            bytes: 0,
-        };
-    }
-    let end = places::end_at(layout);
-    Image {
-        answer: refusals::answered(0),
-        stripes: places::stripes(layout),
-        units: places::units(layout),
-        end: end,
-        bytes: end + places::LABEL_BYTES,
-    }
+    try_image(layout).unwrap_or_else(Image::from)
 }
 
-// Where the cell of a row of a stripe stands. Refusals: 1, 13, 2, 11, 25, 26.
+// The place of a cell, or why there is none.
+fn try_cell(layout: Layout, row: usize, stripe: u64) -> Result<Place, Refusal>
+    ensures refusal { refused result ≡ cell_refusal layout row stripe }
+    ensures place { IfOk result (λ p. CellSays layout row stripe p) }
+{
+    let accepted = AcceptedLayout::new(layout)?;
+    accepted.check_cell(row, stripe)?;
+    Ok(Place {
+        answer: Answer::accepted(),
+        at: accepted.cell_at(row, stripe),
+        bytes: layout.cell_size as u64,
+    })
+}
+
+// Where the cell of a row of a stripe is. Refusals: 1, 13, 2, 11, 25, 26.
 pub fn cell_place(layout: Layout, row: usize, stripe: u64) -> Place
     ensures { CellSays layout row stripe result }
 {
-    let refusal = limits::cell_refusal(layout, row, stripe);
-    if refusal != 0 {
-        return placed(refusal, 0, 0);
-    }
-    let at = places::cell_at(layout, row, stripe);
-    placed(0, at, layout.cell_size as u64)
+    try_cell(layout, row, stripe).unwrap_or_else(Place::from)
 }
 
-// Where the checksum block of a unit stands. Refusals: 1, 13, 2, 11, 25, 26.
+// The place of a checksum block, or why there is none.
+fn try_block(layout: Layout, unit: u64) -> Result<Place, Refusal>
+    ensures refusal { refused result ≡ block_refusal layout unit }
+    ensures place { IfOk result (λ p. BlockSays layout unit p) }
+{
+    let accepted = AcceptedLayout::new(layout)?;
+    accepted.check_unit(unit)?;
+    Ok(Place {
+        answer: Answer::accepted(),
+        at: accepted.block_at(unit),
+        bytes: accepted.block_bytes(),
+    })
+}
+
+// Where the checksum block of a unit is. Refusals: 1, 13, 2, 11, 25, 26.
 pub fn block_place(layout: Layout, unit: u64) -> Place
     ensures { BlockSays layout unit result }
 {
-    let refusal = limits::block_refusal(layout, unit);
-    if refusal != 0 {
-        return placed(refusal, 0, 0);
-    }
-    let at = places::block_at(layout, unit);
-    placed(0, at, places::block_bytes(layout))
+    try_block(layout, unit).unwrap_or_else(Place::from)
 }
 
-// The stripes of a unit, and where its piece of a row stands. Refusals: 1, 13, 2, 11, 25, 26.
+// The place of a unit's piece of a row, or why there is none.
+fn try_unit(layout: Layout, row: usize, unit: u64) -> Result<UnitPlace, Refusal>
+    ensures refusal { refused result ≡ unit_refusal layout row unit }
+    ensures place { IfOk result (λ u. UnitSays layout row unit u) }
+{
+    let accepted = AcceptedLayout::new(layout)?;
+    accepted.check_unit(unit)?;
+    accepted.check_row(row)?;
+    let first = unit * layout.unit;
+    let stripes = accepted.unit_stripes(unit);
+    Ok(UnitPlace {
+        answer: Answer::accepted(),
+        first,
+        stripes,
+        at: accepted.cell_at(row, first),
+        bytes: stripes * layout.cell_size as u64,
+    })
+}
+
+// The stripes of a unit, and where its piece of a row is. Refusals: 1, 13, 2, 11, 25, 26.
 pub fn unit_place(layout: Layout, row: usize, unit: u64) -> UnitPlace
     ensures { UnitSays layout row unit result }
 {
-    let refusal = limits::unit_refusal(layout, row, unit);
-    if refusal != 0 {
-        return UnitPlace {
-            answer: refusals::answered(refusal),
-            first: 0,
-            stripes: 0,
-            at: 0,
-            bytes: 0,
-        };
-    }
-    let first = unit * layout.unit;
-    let count = places::unit_stripes(layout, unit);
-    let at = places::cell_at(layout, row, first);
-    UnitPlace {
-        answer: refusals::answered(0),
-        first: first,
-        stripes: count,
-        at: at,
-        bytes: count * layout.cell_size as u64,
-    }
+    try_unit(layout, row, unit).unwrap_or_else(UnitPlace::from)
 }
 
-// Where a byte of the film stands. Refusals: 1, 13, 2, 11, 25, 26.
-pub fn film_place(layout: Layout, byte: u64) -> FilmPlace
-    ensures { FilmSays layout byte result }
+// The place of a byte of the film, or why there is none.
+fn try_film(layout: Layout, byte: u64) -> Result<FilmPlace, Refusal>
+    ensures refusal { refused result ≡ film_refusal layout byte }
+    ensures place { IfOk result (λ f. FilmSays layout byte f) }
 {
-    let refusal = limits::film_refusal(layout, byte);
-    if refusal != 0 {
-        return refused_film(refusal);
-    }
-    let holds = places::film_bytes(layout);
+    let accepted = AcceptedLayout::new(layout)?;
+    accepted.check_byte(byte)?;
+    let holds = accepted.film_bytes();
     let stripe = byte / holds;
     let within = (byte % holds) as usize;
     let cell = within / layout.cell_size;
     let row = cell % layout.width;
     let offset = within % layout.cell_size;
-    FilmPlace {
-        answer: refusals::answered(0),
-        stripe: stripe,
+    Ok(FilmPlace {
+        answer: Answer::accepted(),
+        stripe,
         disk: cell / layout.width,
-        row: row,
+        row,
         byte: offset,
-        at: places::cell_at(layout, row, stripe) + offset as u64,
-    }
+        at: accepted.cell_at(row, stripe) + offset as u64,
+    })
+}
+
+// Where a byte of the film is. Refusals: 1, 13, 2, 11, 25, 26.
+pub fn film_place(layout: Layout, byte: u64) -> FilmPlace
+    ensures { FilmSays layout byte result }
+{
+    try_film(layout, byte).unwrap_or_else(FilmPlace::from)
 }

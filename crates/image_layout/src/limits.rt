@@ -1,120 +1,74 @@
-// The refusals of a layout and of a place in it.
-ghost use Rattle.std.specs.Prelude.{◌≡◌, ◌<◌};
-ghost use Rattle.image_layout.specs.Limits.{group_refusal, layout_refusal, cell_refusal, block_refusal, unit_refusal, film_refusal};
+// The tests of the numbers of a layout, and of the places in an accepted one.
+ghost use Rattle.std.specs.Prelude.{◌≡◌, Bool, not, ltb, ◌&&◌};
+ghost use Rattle.mathematics.specs.Choice.{when, first_of};
+ghost use Rattle.refusals.specs.Refused.{refused};
+ghost use Rattle.space.specs.Refusals.{package_refusal};
+ghost use Rattle.image_layout.specs.Layouts.{stripes_of, units_of};
+ghost use Rattle.image_layout.specs.Limits.{group_refusal};
 
-use super::{Layout, places};
-use refusals::numbers::{BAD_UNIT, NO_SUCH_PLACE, PACKAGE_TOO_LONG};
-
-// The most bytes of a film.
-const MOST_BYTES: u64 = 1 << 48;
+use super::AcceptedLayout;
+use refusals::Refusal;
 
 // The most stripes of a group.
-const MOST_GROUP: u64 = 65536;
+const MAX_GROUP: u64 = 65536;
 
 // The most bytes of a piece of more than one cell, a row of a unit.
-const MOST_PIECE: u64 = 32768;
+const MAX_PIECE: u64 = 32768;
 
-// The refusal of a unit and a group of so many stripes, of cells of `size` bytes: 25, or 0 for
-// none.
-fn group_refusal(unit: u64, size: u64, group: u64) -> u8
-    requires { 0 < size }
-    ensures { result ≡ group_refusal unit size group }
+// Is the film short enough for a package? Refusal: 11.
+pub fn check_length(length: u64) -> Result<(), Refusal>
+    ensures { refused result ≡ package_refusal length }
 {
-    if unit == 0 {
-        return BAD_UNIT;
+    if length <= space::MAX_PACKAGE {
+        return Ok(());
     }
-    if group == 0 {
-        return BAD_UNIT;
-    }
-    if MOST_GROUP < group {
-        return BAD_UNIT;
-    }
-    if group % unit != 0 {
-        return BAD_UNIT;
-    }
-    if unit == 1 {
-        return 0;
-    }
-    if MOST_PIECE / size < unit {
-        BAD_UNIT
-    } else {
-        0
-    }
+    Err(Refusal::PackageTooLong)
 }
 
-// The refusal of a layout, 0 for none: 1, 13, 2, 11, 25.
-pub fn refusal(layout: Layout) -> u8
-    ensures { result ≡ layout_refusal layout }
+// Is a group a whole number of units, each of one stripe or with short enough pieces? Refusal: 25.
+pub fn check_group(unit: u64, size: u64, group: u64) -> Result<(), Refusal>
+    ensures { refused result ≡ group_refusal unit size group }
 {
-    let shape = refusals::shape_refusal(layout.width, layout.disks, layout.cell_size);
-    if shape != 0 {
-        return shape;
+    let short = unit.saturating_mul(size) <= MAX_PIECE || unit == 1;
+    if 0 < unit && short && 0 < group && group <= MAX_GROUP && group % unit == 0 {
+        return Ok(());
     }
-    if MOST_BYTES < layout.length {
-        return PACKAGE_TOO_LONG;
-    }
-    group_refusal(layout.unit, layout.cell_size as u64, layout.group)
+    Err(Refusal::BadUnit)
 }
 
-// The refusal of a cell, 0 for none.
-pub fn cell_refusal(layout: Layout, row: usize, stripe: u64) -> u8
-    ensures { result ≡ cell_refusal layout row stripe }
+// Is it there? Refusal: 26.
+fn check_place(there: bool) -> Result<(), Refusal>
+    ensures { refused result ≡ when (not there) 26 }
 {
-    let first = refusal(layout);
-    if first != 0 {
-        return first;
-    }
-    if layout.width <= row {
-        return NO_SUCH_PLACE;
-    }
-    if places::stripes(layout) <= stripe {
-        NO_SUCH_PLACE
-    } else {
-        0
-    }
+    there.then_some(()).ok_or(Refusal::NoSuchPlace)
 }
 
-// The refusal of a unit's checksum block, 0 for none.
-pub fn block_refusal(layout: Layout, unit: u64) -> u8
-    ensures { result ≡ block_refusal layout unit }
-{
-    let first = refusal(layout);
-    if first != 0 {
-        return first;
+impl AcceptedLayout {
+    // Has the layout this row of this stripe? Refusal: 26.
+    pub(crate) fn check_cell(self, row: usize, stripe: u64) -> Result<(), Refusal>
+        ensures { refused result ≡ when (not (ltb row self.layout.width && ltb stripe (stripes_of self.layout))) 26 }
+    {
+        check_place(row < self.layout.width && stripe < self.stripes())
     }
-    if places::units(layout) <= unit {
-        NO_SUCH_PLACE
-    } else {
-        0
-    }
-}
 
-// The refusal of a unit's piece of a row, 0 for none.
-pub fn unit_refusal(layout: Layout, row: usize, unit: u64) -> u8
-    ensures { result ≡ unit_refusal layout row unit }
-{
-    let first = block_refusal(layout, unit);
-    if first != 0 {
-        return first;
+    // Has it this row? Refusal: 26.
+    pub(crate) fn check_row(self, row: usize) -> Result<(), Refusal>
+        ensures { refused result ≡ when (not (ltb row self.layout.width)) 26 }
+    {
+        check_place(row < self.layout.width)
     }
-    if layout.width <= row {
-        NO_SUCH_PLACE
-    } else {
-        0
-    }
-}
 
-// The refusal of a byte of the film, 0 for none.
-pub fn film_refusal(layout: Layout, byte: u64) -> u8
-    ensures { result ≡ film_refusal layout byte }
-{
-    let first = refusal(layout);
-    if first != 0 {
-        return first;
+    // Has it this unit? Refusal: 26.
+    pub(crate) fn check_unit(self, unit: u64) -> Result<(), Refusal>
+        ensures { refused result ≡ when (not (ltb unit (units_of self.layout))) 26 }
+    {
+        check_place(unit < self.units())
     }
-    if layout.length <= byte {
-        NO_SUCH_PLACE
-    } else {
-        0
+
+    // Has its film this byte? Refusal: 26.
+    pub(crate) fn check_byte(self, byte: u64) -> Result<(), Refusal>
+        ensures { refused result ≡ when (not (ltb byte self.layout.length)) 26 }
+    {
+        check_place(byte < self.layout.length)
     }
 }

@@ -1,13 +1,10 @@
-// Where things stand in the images of an accepted layout. After the first label stripes go in
-// groups; in a group the cells of a row lie side by side, and the checksum blocks of its units
-// follow.
-ghost use Rattle.std.specs.Prelude.{◌≡◌, ◌+◌, ◌*◌, ◌^◌, ◌≤◌, ◌<◌};
-ghost use Rattle.space.specs.Says.{up_by};
+// Where things are in the images of an accepted layout. After the first label stripes go in groups;
+// in a group the cells of a row lie side by side, and the checksum blocks of its units follow.
+ghost use Rattle.std.specs.Prelude.{◌≡◌, ◌*◌, ◌≤◌, ◌<◌};
 ghost use Rattle.image_layout.specs.Layouts.{film_bytes, stripes_of, units_of, block_bytes, cell_bytes, group_bytes, group_start, group_stripes, cell_at, block_at, unit_stripes, end_at};
-ghost use Rattle.image_layout.specs.Limits.{Accepted};
 ghost use Rattle.image_layout.specs.Stands.{IsCell};
 
-use super::Layout;
+use super::AcceptedLayout;
 
 // The bytes of a label; groups begin at multiples of it.
 pub const LABEL_BYTES: u64 = 4096;
@@ -15,127 +12,110 @@ pub const LABEL_BYTES: u64 = 4096;
 // The bytes of a checksum.
 const SUM_BYTES: u64 = 8;
 
-// The fewest parts of `each` that hold `all`.
-fn up_by(all: u64, each: u64) -> u64
-    requires { (0 < each) × (all + each < 2 ^ 64) }
-    ensures { result ≡ up_by all each }
-{
-    (all + (each - 1)) / each
-}
-
-// The bytes of film that a stripe holds.
-pub fn film_bytes(layout: Layout) -> u64
-    requires { Accepted layout }
-    ensures { result ≡ film_bytes layout }
-{
-    layout.disks as u64 * (layout.width as u64 * layout.cell_size as u64)
-}
-
-// The stripes of the film.
-pub fn stripes(layout: Layout) -> u64
-    requires { Accepted layout }
-    ensures { result ≡ stripes_of layout }
-{
-    up_by(layout.length, film_bytes(layout))
-}
-
-// The units of the film.
-pub fn units(layout: Layout) -> u64
-    requires { Accepted layout }
-    ensures { result ≡ units_of layout }
-{
-    up_by(stripes(layout), layout.unit)
-}
-
-// The bytes of a checksum block: a checksum for each row of each disk, and one of the block.
-pub fn block_bytes(layout: Layout) -> u64
-    requires { Accepted layout }
-    ensures { result ≡ block_bytes layout }
-{
-    SUM_BYTES * (layout.width as u64 * (layout.disks as u64 + 2)) + SUM_BYTES
-}
-
-// The bytes of the cells of so many stripes of a group.
-fn cell_bytes(layout: Layout, count: u64) -> u64
-    requires { Accepted layout × (count ≤ layout.group) }
-    ensures { result ≡ cell_bytes layout count }
-{
-    layout.width as u64 * count * layout.cell_size as u64
-}
-
-// The bytes of a group of so many stripes, with the zeros at its end.
-fn group_bytes(layout: Layout, count: u64) -> u64
-    requires { Accepted layout × (count ≤ layout.group) }
-    ensures { result ≡ group_bytes layout count }
-{
-    let cells = cell_bytes(layout, count);
-    let blocks = block_bytes(layout) * up_by(count, layout.unit);
-    up_by(cells + blocks, LABEL_BYTES) * LABEL_BYTES
-}
-
-// Where a group begins.
-fn group_start(layout: Layout, group: u64) -> u64
-    requires { Accepted layout × (group * layout.group ≤ stripes_of layout) }
-    ensures { result ≡ group_start layout group }
-{
-    LABEL_BYTES + group * group_bytes(layout, layout.group)
-}
-
-// The stripes of a group: the last one may be short.
-fn group_stripes(layout: Layout, group: u64) -> u64
-    requires { Accepted layout × (group * layout.group ≤ stripes_of layout) }
-    ensures { result ≡ group_stripes layout group }
-{
-    let left = stripes(layout) - group * layout.group;
-    if left < layout.group {
-        left
-    } else {
-        layout.group
+impl AcceptedLayout {
+    // The bytes of film that a stripe holds.
+    pub(crate) fn film_bytes(self) -> u64
+        ensures { result ≡ film_bytes self.layout }
+    {
+        let layout = self.layout;
+        layout.disks as u64 * (layout.width as u64 * layout.cell_size as u64)
     }
-}
 
-// Where the cell of a row of a stripe begins.
-pub fn cell_at(layout: Layout, row: usize, stripe: u64) -> u64
-    requires { Accepted layout × IsCell layout row stripe }
-    ensures { result ≡ cell_at layout row stripe }
-{
-    let group = stripe / layout.group;
-    let start = group_start(layout, group);
-    let cell = row as u64 * group_stripes(layout, group) + (stripe - group * layout.group);
-    start + cell * layout.cell_size as u64
-}
-
-// Where the checksum block of a unit begins.
-pub fn block_at(layout: Layout, unit: u64) -> u64
-    requires { Accepted layout × (unit < units_of layout) }
-    ensures { result ≡ block_at layout unit }
-{
-    let group = unit * layout.unit / layout.group;
-    let start = group_start(layout, group);
-    let cells = cell_bytes(layout, group_stripes(layout, group));
-    let block = unit - group * (layout.group / layout.unit);
-    start + cells + block * block_bytes(layout)
-}
-
-// The stripes of a unit: the last one may be short.
-pub fn unit_stripes(layout: Layout, unit: u64) -> u64
-    requires { Accepted layout × (unit < units_of layout) }
-    ensures { result ≡ unit_stripes layout unit }
-{
-    let left = stripes(layout) - unit * layout.unit;
-    if left < layout.unit {
-        left
-    } else {
-        layout.unit
+    // The stripes of the film.
+    pub(crate) fn stripes(self) -> u64
+        ensures { result ≡ stripes_of self.layout }
+    {
+        self.layout.length.div_ceil(self.film_bytes())
     }
-}
 
-// Where the second label begins.
-pub fn end_at(layout: Layout) -> u64
-    requires { Accepted layout }
-    ensures { result ≡ end_at layout }
-{
-    let count = stripes(layout);
-    let start = group_start(layout, count / layout.group);
-    start + group_bytes(layout, count % layout.group)
+    // The units of the film.
+    pub(crate) fn units(self) -> u64
+        ensures { result ≡ units_of self.layout }
+    {
+        self.stripes().div_ceil(self.layout.unit)
+    }
+
+    // The bytes of a checksum block: a checksum for each row of each disk, and one of the block.
+    #[tactic(auto, unfolding(crate::specs::Layouts::block_bytes))]
+    pub(crate) fn block_bytes(self) -> u64
+        ensures { result ≡ block_bytes self.layout }
+    {
+        SUM_BYTES * (self.layout.width as u64 * (self.layout.disks as u64 + 2)) + SUM_BYTES
+    }
+
+    // The bytes of the cells of so many stripes of a group.
+    #[tactic(auto, unfolding(crate::specs::Layouts::cell_bytes))]
+    fn cell_bytes(self, count: u64) -> u64
+        requires { count ≤ self.layout.group }
+        ensures { result ≡ cell_bytes self.layout count }
+    {
+        self.layout.width as u64 * count * self.layout.cell_size as u64
+    }
+
+    // The bytes of a group of so many stripes, with the zeros at its end.
+    fn group_bytes(self, count: u64) -> u64
+        requires { count ≤ self.layout.group }
+        ensures { result ≡ group_bytes self.layout count }
+    {
+        let blocks = self.block_bytes() * count.div_ceil(self.layout.unit);
+        (self.cell_bytes(count) + blocks).div_ceil(LABEL_BYTES) * LABEL_BYTES
+    }
+
+    // Where a group begins.
+    fn group_start(self, group: u64) -> u64
+        requires { group * self.layout.group ≤ stripes_of self.layout }
+        ensures { result ≡ group_start self.layout group }
+    {
+        LABEL_BYTES + group * self.group_bytes(self.layout.group)
+    }
+
+    // The stripes of a group: the last one may be short.
+    fn group_stripes(self, group: u64) -> u64
+        requires { group * self.layout.group ≤ stripes_of self.layout }
+        ensures { result ≡ group_stripes self.layout group }
+    {
+        let left = self.stripes() - group * self.layout.group;
+        left.min(self.layout.group)
+    }
+
+    // Where the cell of a row of a stripe begins.
+    pub(crate) fn cell_at(self, row: usize, stripe: u64) -> u64
+        requires { IsCell self.layout row stripe }
+        ensures { result ≡ cell_at self.layout row stripe }
+    {
+        let group = stripe / self.layout.group;
+        let start = self.group_start(group);
+        let cell = row as u64 * self.group_stripes(group) + (stripe - group * self.layout.group);
+        start + cell * self.layout.cell_size as u64
+    }
+
+    // Where the checksum block of a unit begins.
+    pub(crate) fn block_at(self, unit: u64) -> u64
+        requires { unit < units_of self.layout }
+        ensures { result ≡ block_at self.layout unit }
+    {
+        let group = unit * self.layout.unit / self.layout.group;
+        let start = self.group_start(group);
+        let cells = self.cell_bytes(self.group_stripes(group));
+        let block = unit - group * (self.layout.group / self.layout.unit);
+        start + cells + block * self.block_bytes()
+    }
+
+    // The stripes of a unit: the last one may be short.
+    pub(crate) fn unit_stripes(self, unit: u64) -> u64
+        requires { unit < units_of self.layout }
+        ensures { result ≡ unit_stripes self.layout unit }
+    {
+        let left = self.stripes() - unit * self.layout.unit;
+        left.min(self.layout.unit)
+    }
+
+    // Where the second label begins.
+    pub(crate) fn end_at(self) -> u64
+        ensures { result ≡ end_at self.layout }
+    {
+        let stripes = self.stripes();
+        let start = self.group_start(stripes / self.layout.group);
+        start + self.group_bytes(stripes % self.layout.group)
+    }
 }

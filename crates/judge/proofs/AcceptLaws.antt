@@ -15,7 +15,7 @@ use Rattle.liberation.specs.Sets.{plan_refusal, long_refusal}
 use Rattle.liberation.specs.Plans.{read_count}
 use Rattle.liberation.specs.Judging.{judge, steps_in, accepted}
 use Rattle.liberation.proofs.RefusalLaws.{plan_of_lem, plan_none, long_accepted, long_of}
-use Rattle.refusals.specs.declared.Answer.{Answer}
+use Rattle.refusals.specs.declared.answer.Answer.{Answer}
 use Rattle.judge.specs.declared.all_steps.Judged.{Judged}
 use Rattle.judge.specs.JudgeSays.{form_refusal, DecidesOn, JudgeSays}
 

@@ -6,37 +6,11 @@ use Prim.Native.Nat.{ℕ}
 use lib.Dec.{eqb}
 use Rattle.mathematics.specs.Choice.{pick, first_of}
 use Rattle.mathematics.proofs.ChoiceLaws.{first_kept, pick_refused, pick_done}
-use Rattle.liberation.specs.Plans.{read_count}
 use Rattle.liberation.specs.Judging.{judge, steps_in}
-use Rattle.refusals.specs.declared.Answer.{Answer}
+use Rattle.refusals.specs.declared.answer.Answer.{Answer}
 use Rattle.refusals.specs.Answers.{Answers}
 use Rattle.judge.specs.declared.all_steps.Judged.{Judged}
-use Rattle.judge.specs.JudgeStepsSays.{StepsSay}
-use Rattle.judge.specs.JudgeSays.{form_refusal, judge_refusal, DecidesOn, JudgeSays}
-
--- refused before any step
-pub form_refused : (p k f n : ℕ) (bs : List ℕ) → n ≡ form_refusal p k f bs → (n ≡ 0 → ⊥) → (a : Answer) → Answers n a → JudgeSays p k f bs (record { answer = a; reads = 0 })
-form_refused p k f n bs e z a g =
-    record {
-      refusal = g.refusal ∙ refusal;
-      place = g.place ∙ pick_refused n (form_refusal p k f bs) (judge p k f (steps_in p bs)).place 0 e z;
-      reads = pick_refused n (judge_refusal p k f bs) (read_count p k f (steps_in p bs)) 0 refusal z;
-    }
-  where
-    refusal : n ≡ judge_refusal p k f bs
-    refusal = first_kept n (form_refusal p k f bs) (judge p k f (steps_in p bs)).number e z
-
--- the steps decide
-pub steps_decide : (p k f : ℕ) (bs : List ℕ) (r : Judged) → form_refusal p k f bs ≡ 0 → StepsSay p k f bs r → JudgeSays p k f bs r
-steps_decide p k f bs r e s =
-    record {
-      refusal = s.refusal ∙ sym refusal;
-      place = s.place ∙ pick_done (form_refusal p k f bs) (judge p k f (steps_in p bs)).place 0 e;
-      reads = s.reads ∙ sym (ap (λ (n : ℕ). pick (eqb n 0) (read_count p k f (steps_in p bs)) 0) refusal);
-    }
-  where
-    refusal : judge_refusal p k f bs ≡ (judge p k f (steps_in p bs)).number
-    refusal = ap (λ (n : ℕ). first_of n (judge p k f (steps_in p bs)).number) e
+use Rattle.judge.specs.JudgeSays.{form_refusal, DecidesOn, JudgeSays}
 
 -- A call that makes other tests before the steps: these refuse,
 pub after_refused : (p k f n m : ℕ) (bs new o : List ℕ) (r : Answer) → n ≡ m → (n ≡ 0 → ⊥) → Answers n r → DecidesOn m (judge p k f (steps_in p bs)) new o o r

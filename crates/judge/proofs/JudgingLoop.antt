@@ -1,14 +1,16 @@
 -- The steps of a plan in order. After i steps without a refusal, the rows rebuilt and the cells
--- read so far, with the steps still to come, give the answer of the whole plan.
+-- read so far, with the steps of the bytes still to come, give the answer of the whole plan.
 use mathlib.Core.Path.{◌≡◌, refl, sym, ap, ap₂, ◌∙◌}
 use mathlib.Core.Bool.{Bool, true, false, not}
 use mathlib.Core.Logic.{⊎_elim}
-use mathlib.Core.List.{List, [], ◌∷◌}
+use mathlib.Core.List.{List, [], ◌∷◌, ◌++◌}
 use Prim.Native.Nat.{ℕ, suc, ◌+◌, ◌-◌, ◌*◌, ◌≤◌, ◌<◌}
 use native.Mathlib.Numerals.{add-one}
 use native.Mathlib.Omega.{arith}
 use lib.Dec.{eqb}
-use lib.ListN.{length, get_or, set, drop}
+use lib.ListN.{length, get_or, set, drop, replicate, length-set}
+use Rattle.std.specs.Prelude.{Ok, Err}
+use Rattle.std.proofs.lemmas.List.{length-append, get_or-replicate}
 use lib.Seq.{get_or-drop, drop-drop}
 use borrow.Author.Tests.{ne_eqb, eqb-true, eqb-false}
 use Rattle.mathematics.specs.Choice.{pick, when, first_of}
@@ -18,23 +20,16 @@ use Rattle.liberation.specs.Sets.{set_of, lost_in, surviving_in}
 use Rattle.liberation.specs.Plans.{Step, step, read_from, cells_read, read_count, marks_from}
 use Rattle.liberation.specs.Judging.{Judged, judged, judge, judge_from, others_there, step_refusal, steps_in}
 use Rattle.liberation.proofs.SetLaws.{survivors_below}
-use Rattle.liberation.proofs.AcceptedLaws.{passed}
+use Rattle.liberation.proofs.AcceptedLaws.{Passed, passed}
 use Rattle.liberation.proofs.Passing.{judge_next}
 use Rattle.parity_sets.specs.Marks.{Marked}
 use Rattle.parity_sets.proofs.MarkLaws.{marked_read, marked_few}
-use Rattle.liberation.proofs.MarkLists.{length_marks, mark_set}
-use Rattle.refusals.specs.declared.Answer.{Answer}
-use Rattle.refusals.specs.Answers.{Answers}
-use Rattle.judge.proofs.StepRefusals.{out_of_form}
+use Rattle.refusals.specs.Refused.{number_of}
+use Rattle.judge.specs.declared.refusal.PlanRefusal.{PlanRefusal}
+use Rattle.judge.specs.Steps.{AreRebuilt, is_out_of_range, bytes_step}
+use Rattle.judge.specs.Verdicts.{judged_of}
+use Rattle.judge.proofs.StepRefusals.{rebuilt_more}
 use Rattle.judge.specs.JudgeStepsSays.{StepsSay}
-
--- a step that is not refused is in form
-pub record InForm (p : ℕ) (s : Step) : Type 0 where
-  pub row : s.row < p
-  pub number : s.number < p
-
-no_refusal : (p k f : ℕ) (ds : List ℕ) (s : Step) → step_refusal p k f ds s ≡ 0 → InForm p s
-no_refusal p k f ds s e = let g = passed p k f ds s e in record { row = g.row_below; number = g.number_below }
 
 -- a step that is refused gives the answer
 judge_stop : (i p k f : ℕ) (ds : List ℕ) (s : Step) (ss : List Step) → (step_refusal p k f ds s ≡ 0 → ⊥) → judge_from i p k f ds (s ∷ ss) ≡ judged (step_refusal p k f ds s) i
@@ -46,7 +41,7 @@ step_most : (p k f : ℕ) (ds : List ℕ) (s : Step) → step_refusal p k f ds s
 unfolding step_refusal
 step_most p k f ds s =
     let xs = lost_in p f (set_of p k s.kind s.number) in
-    go (out_of_form p s) (not (is_in s.row xs)) (is_in s.row ds) (not (others_there s.row xs ds))
+    go (is_out_of_range p s) (not (is_in s.row xs)) (is_in s.row ds) (not (others_there s.row xs ds))
   where
     go : (a b c d : Bool) → first_of (when a 6) (first_of (when b 7) (first_of (when c 8) (when d 9))) ≤ 9
     go true b c d = omega arith
@@ -96,120 +91,140 @@ steps_next p i s bs h b = ap (λ (n : ℕ). steps_in n (drop (3 * i) bs)) more �
     rest : drop 3 (drop (3 * i) bs) ≡ drop (3 * (i + 1)) bs
     rest = drop-drop 3 (3 * i) bs ∙ ap (λ (n : ℕ). drop n bs) after
 
--- The loop's state before step i: `d` has a byte a row rebuilt, `m` a byte a cell read.
-pub record Halfway (p k f : ℕ) (bs d m : List ℕ) (reads i : ℕ) : Type 0 where
+-- the next three bytes are a step
+next_bytes : (n : ℕ) (x left rest : List ℕ) → rest ≡ x ++ left → length x ≡ 3 → steps_in (suc n) rest ≡ bytes_step x ∷ steps_in n left
+unfolding steps_in
+next_bytes n (a ∷ (b ∷ (c ∷ []))) left rest e l = ap (steps_in (suc n)) e
+next_bytes n [] left rest e l = absurd (omega (arith, l))
+next_bytes n (a ∷ []) left rest e l = absurd (omega (arith, l))
+next_bytes n (a ∷ (b ∷ [])) left rest e l = absurd (omega (arith, l))
+next_bytes n (a ∷ (b ∷ (c ∷ (d ∷ x)))) left rest e l = absurd (omega (arith, l))
+
+-- The loop's state before step i: `d` has a flag a row rebuilt, `m` a byte a cell read, and the bytes
+-- `rest` are still to come.
+pub record Halfway (p k f : ℕ) (bs : List ℕ) (d : List Bool) (m : List ℕ) (reads i : ℕ) (rest : List ℕ) : Type 0 where
   pub within : i ≤ p
+  pub long : length rest ≡ 3 * (p - i)
   pub rows : List ℕ
   pub cells : List ℕ
-  pub done : d ≡ marks_from 31 0 rows
+  pub flags : length d ≡ 31
+  pub rebuilt : AreRebuilt d rows
   pub marks : m ≡ marks_from (p * (k + 2)) 0 cells
   pub count : reads ≡ length cells
   pub few : reads ≤ 33 * i
-  pub verdict : judge_from i p k f rows (steps_from p i bs) ≡ judge p k f (steps_in p bs)
-  pub read : read_from p k f (steps_from p i bs) cells ≡ cells_read p k f (steps_in p bs)
+  pub verdict : judge_from i p k f rows (steps_in (p - i) rest) ≡ judge p k f (steps_in p bs)
+  pub read : read_from p k f (steps_in (p - i) rest) cells ≡ cells_read p k f (steps_in p bs)
 
--- what `step_refusal` says of the step
-abbrev pub RefusalIs : ℕ → ℕ → ℕ → List ℕ → Step → ℕ → Type 0
-RefusalIs p k f d s refusal = (ds : List ℕ) → d ≡ marks_from 31 0 ds → refusal ≡ step_refusal p k f ds s
+-- what `next_step` says of the bytes x, where n is its refusal
+abbrev pub RefusalIs : ℕ → ℕ → ℕ → List Bool → List ℕ → ℕ → Type 0
+RefusalIs p k f d x n = (ds : List ℕ) → AreRebuilt d ds → n ≡ step_refusal p k f ds (bytes_step x)
 
-pub halfway_start : (p k f : ℕ) (bs d m : List ℕ) → d ≡ marks_from 31 0 [] → m ≡ marks_from (p * (k + 2)) 0 [] → Halfway p k f bs d m 0 0
-halfway_start p k f bs d m e q =
-    record {
-      within = omega arith;
-      rows = [];
-      cells = [];
-      done = e;
-      marks = q;
-      count = refl;
-      few = omega arith;
-      verdict = ap (judge_from 0 p k f []) whole;
-      read = ap (λ (ss : List Step). read_from p k f ss []) whole;
-    }
+pub halfway_start : (p k f i : ℕ) (bs rest m : List ℕ) → i ≡ 0 → rest ≡ bs → length bs ≡ 3 * p → m ≡ marks_from (p * (k + 2)) 0 [] → Halfway p k f bs (replicate 31 false) m 0 i rest
+halfway_start p k f i bs rest m z e l q = rw (z, e) (record {
+  within = omega arith;
+  long = omega (arith, l);
+  rows = [];
+  cells = [];
+  flags = refl;
+  rebuilt = λ r h. get_or-replicate 31 r false false h;
+  marks = q;
+  count = refl;
+  few = omega arith;
+  verdict = ap (λ (n : ℕ). judge_from 0 p k f [] (steps_in n bs)) all;
+  read = ap (λ (n : ℕ). read_from p k f (steps_in n bs) []) all;
+})
   where
     all : p - 0 ≡ p
     all = omega arith
 
-    none : 3 * 0 ≡ 0
-    none = omega arith
-
-    whole : steps_from p 0 bs ≡ steps_in p bs
-    whole = ap₂ (λ (n j : ℕ). steps_in n (drop j bs)) all none
-
--- the marks are as long as at the start
-pub halfway_long : (p k f : ℕ) (bs d m m₀ ys : List ℕ) (reads i : ℕ) → Halfway p k f bs d m reads i → m₀ ≡ marks_from (p * (k + 2)) 0 ys → length m ≡ length m₀
-halfway_long p k f bs d m m₀ ys reads i v e = ap length v.marks ∙ length_marks (p * (k + 2)) 0 v.cells ∙ sym (ap length e ∙ length_marks (p * (k + 2)) 0 ys)
+-- three bytes more are left
+pub halfway_next : {p k f : ℕ} {bs m : List ℕ} {d : List Bool} {reads i : ℕ} {rest : List ℕ} (x left : List ℕ) → rest ≡ x ++ left → length x ≡ 3 → Halfway p k f bs d m reads i rest → (i < p) × (length left ≡ 3 * (p - (i + 1)))
+halfway_next x left e l v = let n = ap length e ∙ length-append x left in (omega (arith, n, l, v.long), omega (arith, n, l, v.long))
 
 -- a step that is not refused
-pub halfway_form : (p k f : ℕ) (bs d m : List ℕ) (s : Step) (reads i refusal : ℕ) → Halfway p k f bs d m reads i → RefusalIs p k f d s refusal → refusal ≡ 0 → InForm p s
-halfway_form p k f bs d m s reads i refusal v q z = no_refusal p k f v.rows s (sym (q v.rows v.done) ∙ z)
-
-pub halfway_turn : (p k f : ℕ) (bs d m m' : List ℕ) (s : Step) (reads i refusal fresh : ℕ) → p ≤ 31 → k ≤ p → i < p → BytesOf bs i s → RefusalIs p k f d s refusal → refusal ≡ 0 → Halfway p k f bs d m reads i → Marked m m' (surviving_in p f (set_of p k s.kind s.number)) fresh → Halfway p k f bs (set d s.row 1) m' (reads + fresh) (i + 1)
+pub halfway_turn : {p k f : ℕ} {bs m : List ℕ} {d : List Bool} {reads i : ℕ} {rest : List ℕ} (x left m' : List ℕ) (s : Step) (j fresh : ℕ) → p ≤ 31 → k ≤ p → s ≡ bytes_step x → j ≡ i + 1 → rest ≡ x ++ left → length x ≡ 3 → RefusalIs p k f d x 0 → Halfway p k f bs d m reads i rest → Marked m m' (surviving_in p f (set_of p k s.kind s.number)) fresh → Halfway p k f bs (set d s.row true) m' (reads + fresh) j left
 unfolding read_from
-halfway_turn p k f bs d m m' s reads i refusal fresh w g h b q z v r =
-    record {
-      within = omega arith;
-      rows = s.row ∷ v.rows;
-      cells = union xs v.cells;
-      done = ap (λ (l : List ℕ). set l s.row 1) v.done ∙ mark_set 31 0 s.row v.rows (omega (arith, form.row)) ∙ ap (λ (n : ℕ). marks_from 31 0 (n ∷ v.rows)) row;
-      marks = read.0;
-      count = omega (arith, read.1, v.count);
-      few = omega (arith, marked_few p k f s.kind s.number r, v.few);
-      verdict = ap (λ (n : ℕ). judge_from n p k f (s.row ∷ v.rows) (steps_from p (i + 1) bs)) (add-one i) ∙ sym (judge_next i p k f v.rows s (steps_from p (i + 1) bs) none) ∙ sym (ap (judge_from i p k f v.rows) next) ∙ v.verdict;
-      read = sym (ap (λ (ss : List Step). read_from p k f ss v.cells) next) ∙ v.read;
-    }
+halfway_turn {p} {k} {f} {bs} {m} {d} {reads} {i} {rest} x left m' s j fresh w g b z e l q v r = rw z (record {
+  within = omega (arith, more.0);
+  long = more.1;
+  rows = s.row ∷ v.rows;
+  cells = union xs v.cells;
+  flags = length-set d s.row true ∙ v.flags;
+  rebuilt = rebuilt_more d v.rows s.row v.flags (omega (arith, good.row_below, w)) v.rebuilt;
+  marks = read.0;
+  count = omega (arith, read.1, v.count);
+  few = omega (arith, marked_few p k f s.kind s.number r, v.few);
+  verdict = ap (λ (n : ℕ). judge_from n p k f (s.row ∷ v.rows) (steps_in (p - (i + 1)) left)) (add-one i) ∙ sym (judge_next i p k f v.rows s (steps_in (p - (i + 1)) left) none) ∙ sym (ap (judge_from i p k f v.rows) next) ∙ v.verdict;
+  read = sym (ap (λ (ss : List Step). read_from p k f ss v.cells) next) ∙ v.read;
+})
   where
+    more : (i < p) × (length left ≡ 3 * (p - (i + 1)))
+    more = halfway_next x left e l v
+
     none : step_refusal p k f v.rows s ≡ 0
-    none = sym (q v.rows v.done) ∙ z
+    none = ap (step_refusal p k f v.rows) b ∙ sym (q v.rows v.rebuilt)
 
-    form : InForm p s
-    form = halfway_form p k f bs d m s reads i refusal v q z
-
-    row : 0 + s.row ≡ s.row
-    row = omega arith
+    good : Passed p k f v.rows s
+    good = passed p k f v.rows s none
 
     xs : List ℕ
     xs = surviving_in p f (set_of p k s.kind s.number)
 
     read : (m' ≡ marks_from (p * (k + 2)) 0 (union xs v.cells)) × (fresh + length v.cells ≡ length (union xs v.cells))
-    read = marked_read (p * (k + 2)) xs v.cells m m' fresh (survivors_below p k f s.kind s.number form.number) v.marks r
+    read = marked_read (p * (k + 2)) xs v.cells m m' fresh (survivors_below p k f s.kind s.number good.number_below) v.marks r
 
-    next : steps_from p i bs ≡ s ∷ steps_from p (i + 1) bs
-    next = steps_next p i s bs h b
+    count : p - i ≡ suc (p - (i + 1))
+    count = omega (arith, more.0)
+
+    next : steps_in (p - i) rest ≡ s ∷ steps_in (p - (i + 1)) left
+    next = ap (λ (n : ℕ). steps_in n rest) count ∙ next_bytes (p - (i + 1)) x left rest e l ∙ ap (λ (c : Step). c ∷ steps_in (p - (i + 1)) left) (sym b)
 
 -- a step that is refused
-pub halfway_refused : (p k f : ℕ) (bs d m : List ℕ) (s : Step) (reads i refusal : ℕ) → i < p → BytesOf bs i s → RefusalIs p k f d s refusal → (refusal ≡ 0 → ⊥) → Halfway p k f bs d m reads i → StepsSay p k f bs (record { answer = record { refusal = refusal; place = i }; reads = 0 })
-halfway_refused p k f bs d m s reads i refusal h b q z v =
+pub halfway_refused : {p k f : ℕ} {bs m : List ℕ} {d : List Bool} {reads i : ℕ} {rest : List ℕ} (x left : List ℕ) (r : PlanRefusal) → r.place ≡ i → rest ≡ x ++ left → length x ≡ 3 → RefusalIs p k f d x (number_of r.refusal) → (number_of r.refusal ≡ 0 → ⊥) → Halfway p k f bs d m reads i rest → StepsSay p k f bs (judged_of (Err r))
+halfway_refused {p} {k} {f} {bs} {d = d} {i = i} {rest = rest} x left r t e l q z v =
     record {
       refusal = sym (ap (λ (j : Judged). j.number) stop);
-      place = sym (ap (λ (j : Judged). j.place) stop);
-      reads = sym (ap (λ (j : Judged). pick (eqb j.number 0) (read_count p k f (steps_in p bs)) 0) stop ∙ ap (λ (t : Bool). pick t (read_count p k f (steps_in p bs)) 0) (ne_eqb refusal 0 z));
+      place = t ∙ sym (ap (λ (j : Judged). j.place) stop);
+      reads = sym (ap (λ (j : Judged). pick (eqb j.number 0) (read_count p k f (steps_in p bs)) 0) stop ∙ ap (λ (b : Bool). pick b (read_count p k f (steps_in p bs)) 0) (ne_eqb (number_of r.refusal) 0 z));
     }
   where
-    same : refusal ≡ step_refusal p k f v.rows s
-    same = q v.rows v.done
+    n : ℕ
+    n = number_of r.refusal
 
-    stop : judge p k f (steps_in p bs) ≡ judged refusal i
+    same : n ≡ step_refusal p k f v.rows (bytes_step x)
+    same = q v.rows v.rebuilt
+
+    more : (i < p) × (length left ≡ 3 * (p - (i + 1)))
+    more = halfway_next x left e l v
+
+    count : p - i ≡ suc (p - (i + 1))
+    count = omega (arith, more.0)
+
+    next : steps_in (p - i) rest ≡ bytes_step x ∷ steps_in (p - (i + 1)) left
+    next = ap (λ (c : ℕ). steps_in c rest) count ∙ next_bytes (p - (i + 1)) x left rest e l
+
+    stop : judge p k f (steps_in p bs) ≡ judged n i
     stop =
         sym v.verdict
-        ∙ ap (judge_from i p k f v.rows) (steps_next p i s bs h b)
-        ∙ judge_stop i p k f v.rows s (steps_from p (i + 1) bs) (λ e. z (same ∙ e))
-        ∙ ap (λ (n : ℕ). judged n i) (sym same)
+        ∙ ap (judge_from i p k f v.rows) next
+        ∙ judge_stop i p k f v.rows (bytes_step x) (steps_in (p - (i + 1)) left) (λ c. z (same ∙ c))
+        ∙ ap (λ (c : ℕ). judged c i) (sym same)
 
 -- no step is refused
-pub halfway_end : (p k f : ℕ) (bs d m : List ℕ) (reads i : ℕ) → p ≤ i → Halfway p k f bs d m reads i → (a : Answer) → Answers 0 a → StepsSay p k f bs (record { answer = a; reads = reads })
+pub halfway_end : {p k f : ℕ} {bs m : List ℕ} {d : List Bool} {reads i : ℕ} {rest : List ℕ} → length rest < 3 → Halfway p k f bs d m reads i rest → StepsSay p k f bs (judged_of (Ok reads))
 unfolding steps_in judge_from read_from
-halfway_end p k f bs d m reads i h v a n =
+halfway_end {p} {k} {f} {bs} {i = i} {rest = rest} h v =
     record {
-      refusal = n.refusal ∙ sym (ap (λ (j : Judged). j.number) over);
-      place = n.place ∙ sym (ap (λ (j : Judged). j.place) over);
+      refusal = sym (ap (λ (j : Judged). j.number) over);
+      place = sym (ap (λ (j : Judged). j.place) over);
       reads = v.count ∙ ap length read ∙ sym (ap (λ (j : Judged). pick (eqb j.number 0) (read_count p k f (steps_in p bs)) 0) over);
     }
   where
     spent : p - i ≡ 0
-    spent = omega arith
+    spent = omega (arith, v.long)
 
-    none : steps_from p i bs ≡ []
-    none = ap (λ (n : ℕ). steps_in n (drop (3 * i) bs)) spent
+    none : steps_in (p - i) rest ≡ []
+    none = ap (λ (n : ℕ). steps_in n rest) spent
 
     over : judge p k f (steps_in p bs) ≡ judged 0 0
     over = sym v.verdict ∙ ap (judge_from i p k f v.rows) none

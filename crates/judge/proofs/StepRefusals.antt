@@ -1,101 +1,83 @@
--- One step of a plan: which lost cells of its set are there, and its refusal from the four tests.
+-- One step of a plan: which lost cells of its set are there, and its refusal from the tests.
 use mathlib.Core.Path.{◌≡◌, refl, sym, ap, ap₂, ◌∙◌}
-use mathlib.Core.Bool.{Bool, true, false, ◌&&◌, ◌||◌, not, and-true}
+use mathlib.Core.Bool.{Bool, true, false, ◌&&◌, ◌||◌, not}
 use mathlib.Core.List.{List, [], ◌∷◌}
-use Prim.Native.Nat.{ℕ, ◌+◌, ◌≤◌, ◌<◌}
+use Prim.Native.Nat.{ℕ, ◌≤◌, ◌<◌}
+use native.Mathlib.Nat.{mod-lt}
 use native.Mathlib.Omega.{arith}
-use lib.Dec.{eqb, leb, ltb}
-use lib.ListN.{length, get_or, drop, drop_of_length-le}
-use borrow.Author.Tests.{eq-eqb, ne_eqb, le-leb, lt-leb, lt-ltb, le-ltb}
+use lib.Dec.{eqb, ltb}
+use lib.ListN.{length, get_or, set}
+use Rattle.std.proofs.lemmas.List.{get_or-set_same, get_or-set_other}
+use borrow.Author.Tests.{eq-eqb, ne_eqb, eqb-true, eqb-false, lt-leb, le-ltb}
+use Rattle.std.specs.List.{list_any, list_all}
 use Rattle.mathematics.specs.Choice.{pick, when, first_of}
 use Rattle.mathematics.specs.Lists.{is_in}
-use Rattle.mathematics.proofs.Flags.{or_l, or_r}
-use Rattle.mathematics.proofs.SearchLaws.{drop_next}
+use Rattle.mathematics.proofs.Flags.{or_l}
+use Rattle.mathematics.proofs.TestLaws.{eqb_sym}
 use Rattle.liberation.specs.Sets.{row_at, disk_at, set_of, lost_in}
-use Rattle.liberation.specs.Plans.{Step, marks_from}
+use Rattle.liberation.specs.Plans.{Step}
 use Rattle.liberation.specs.Judging.{others_there, step_refusal}
-use Rattle.liberation.proofs.ReadListLaws.{mark_at}
+use Rattle.judge.specs.Steps.{AreRebuilt, is_there, is_out_of_range}
 
 -- of the cells xs, those on the lost disk are there, row r apart
 abbrev pub there : ℕ → ℕ → ℕ → List ℕ → List ℕ → Bool
 there p f r ds xs = others_there r (lost_in p f xs) ds
 
-there_cons : (p f r x : ℕ) (ds xs : List ℕ) → there p f r ds (x ∷ xs) ≡ (there p f r ds (x ∷ []) && there p f r ds xs)
+-- cell by cell
+pub there_each : (p f r : ℕ) (rebuilt : List Bool) (ds xs : List ℕ) → 0 < p → p ≤ 31 → AreRebuilt rebuilt ds → list_all (is_there p f r rebuilt) xs ≡ there p f r ds xs
 unfolding lost_in others_there
-there_cons p f r x ds xs = go (eqb (disk_at p x) f)
+there_each p f r rebuilt ds [] h l d = refl
+there_each p f r rebuilt ds (x ∷ xs) h l d = go (eqb (disk_at p x) f) (there_each p f r rebuilt ds xs h l d)
   where
-    go : (b : Bool) → others_there r (pick b (row_at p x ∷ lost_in p f xs) (lost_in p f xs)) ds ≡ (others_there r (pick b (row_at p x ∷ []) []) ds && there p f r ds xs)
-    go true = ap (λ (t : Bool). t && there p f r ds xs) (sym (and-true (eqb (row_at p x) r || is_in (row_at p x) ds)))
-    go false = refl
+    y : ℕ
+    y = row_at p x
+
+    go : (b : Bool) → list_all (is_there p f r rebuilt) xs ≡ there p f r ds xs → ((not b || (eqb y r || get_or rebuilt y false)) && list_all (is_there p f r rebuilt) xs) ≡ others_there r (pick b (y ∷ lost_in p f xs) (lost_in p f xs)) ds
+    go true e = ap₂ (λ (a t : Bool). (eqb y r || a) && t) (d y (omega (arith, mod-lt x h, l))) e
+    go false e = e
+
+pub is_in_any : (w : ℕ) (xs : List ℕ) → list_any (λ x. eqb x w) xs ≡ is_in w xs
+is_in_any w [] = refl
+is_in_any w (x ∷ xs) = ap₂ (λ (a b : Bool). a || b) (eqb_sym x w) (is_in_any w xs)
 
 -- one cell: on another disk, of the row itself, or of another row
-pub there_elsewhere : (p f r x : ℕ) (ds : List ℕ) → (disk_at p x ≡ f → ⊥) → there p f r ds (x ∷ []) ≡ true
-unfolding lost_in others_there
-there_elsewhere p f r x ds n = ap (λ (b : Bool). others_there r (pick b (row_at p x ∷ []) []) ds) (ne_eqb (disk_at p x) f n)
+pub elsewhere : (p f r x : ℕ) (rebuilt : List Bool) → (disk_at p x ≡ f → ⊥) → is_there p f r rebuilt x ≡ true
+elsewhere p f r x rebuilt n = ap (λ (b : Bool). not b || (eqb (row_at p x) r || get_or rebuilt (row_at p x) false)) (ne_eqb (disk_at p x) f n)
 
-there_row : (p f r x : ℕ) (ds : List ℕ) → disk_at p x ≡ f → there p f r ds (x ∷ []) ≡ (eqb (row_at p x) r || is_in (row_at p x) ds)
-unfolding lost_in others_there
-there_row p f r x ds e = ap (λ (b : Bool). others_there r (pick b (row_at p x ∷ []) []) ds) (eq-eqb (disk_at p x) f e) ∙ and-true (eqb (row_at p x) r || is_in (row_at p x) ds)
+here : (p f r x y : ℕ) (rebuilt : List Bool) → disk_at p x ≡ f → y ≡ row_at p x → is_there p f r rebuilt x ≡ (eqb y r || get_or rebuilt y false)
+here p f r x y rebuilt e q = ap₂ (λ (b : Bool) (k : ℕ). not b || (eqb k r || get_or rebuilt k false)) (eq-eqb (disk_at p x) f e) (sym q)
 
-pub there_itself : (p f r x : ℕ) (ds : List ℕ) → disk_at p x ≡ f → row_at p x ≡ r → there p f r ds (x ∷ []) ≡ true
-there_itself p f r x ds e q = there_row p f r x ds e ∙ or_l (eqb (row_at p x) r) (is_in (row_at p x) ds) (eq-eqb (row_at p x) r q)
+pub itself : (p f r x y : ℕ) (rebuilt : List Bool) → disk_at p x ≡ f → y ≡ row_at p x → y ≡ r → is_there p f r rebuilt x ≡ eqb y r
+itself p f r x y rebuilt e q n = here p f r x y rebuilt e q ∙ or_l (eqb y r) (get_or rebuilt y false) (eq-eqb y r n) ∙ sym (eq-eqb y r n)
 
-pub there_other : (p f r x : ℕ) (ds : List ℕ) → disk_at p x ≡ f → (row_at p x ≡ r → ⊥) → there p f r ds (x ∷ []) ≡ is_in (row_at p x) ds
-there_other p f r x ds e n = there_row p f r x ds e ∙ ap (λ (b : Bool). b || is_in (row_at p x) ds) (ne_eqb (row_at p x) r n)
+pub another : (p f r x y : ℕ) (rebuilt : List Bool) → disk_at p x ≡ f → y ≡ row_at p x → (y ≡ r → ⊥) → is_there p f r rebuilt x ≡ get_or rebuilt y false
+another p f r x y rebuilt e q n = here p f r x y rebuilt e q ∙ ap (λ (b : Bool). b || get_or rebuilt y false) (ne_eqb y r n)
 
--- the byte of a row: 0 where the row is not among ds, else 1
-byte_is : (n x : ℕ) (done ds : List ℕ) → done ≡ marks_from n 0 ds → x < n → get_or done x 0 ≡ when (is_in x ds) 1
-byte_is n x done ds e h = let z : 0 + x ≡ x = omega arith in ap (λ (l : List ℕ). get_or l x 0) e ∙ mark_at n 0 x ds h ∙ ap (λ (k : ℕ). when (is_in k ds) 1) z
-
-pub byte_none : (n x : ℕ) (done ds : List ℕ) → done ≡ marks_from n 0 ds → x < n → not (eqb (get_or done x 0) 0) ≡ is_in x ds
-byte_none n x done ds e h = ap (λ (k : ℕ). not (eqb k 0)) (byte_is n x done ds e h) ∙ go (is_in x ds)
+-- one row more
+pub rebuilt_more : (rebuilt : List Bool) (ds : List ℕ) (r : ℕ) → length rebuilt ≡ 31 → r < 31 → AreRebuilt rebuilt ds → AreRebuilt (set rebuilt r true) (r ∷ ds)
+rebuilt_more rebuilt ds r e h d x l = go (eqb x r) refl
   where
-    go : (b : Bool) → not (eqb (when b 1) 0) ≡ b
-    go true = refl
-    go false = refl
+    go : (b : Bool) → eqb x r ≡ b → get_or (set rebuilt r true) x false ≡ (b || is_in x ds)
+    go true t = ap (λ (k : ℕ). get_or (set rebuilt r true) k false) (eqb-true x r t) ∙ get_or-set_same rebuilt r true false (omega (arith, e, h))
+    go false t = get_or-set_other rebuilt r x true false (eqb-false x r t) ∙ d x l
 
-pub byte_one : (n x : ℕ) (done ds : List ℕ) → done ≡ marks_from n 0 ds → x < n → eqb (get_or done x 0) 1 ≡ is_in x ds
-byte_one n x done ds e h = ap (λ (k : ℕ). eqb k 1) (byte_is n x done ds e h) ∙ go (is_in x ds)
-  where
-    go : (b : Bool) → eqb (when b 1) 1 ≡ b
-    go true = refl
-    go false = refl
-
--- the cells from `at` on answer for all; x is the one that is looked at
-there_next : (p f r at x : ℕ) (ds xs : List ℕ) (b : Bool) → at < length xs → x ≡ get_or xs at 0 → b ≡ there p f r ds (x ∷ []) → there p f r ds (drop at xs) ≡ (b && there p f r ds (drop (at + 1) xs))
-there_next p f r at x ds xs b h g t =
-    ap (there p f r ds) (drop_next xs at x h g) ∙ there_cons p f r x ds (drop (at + 1) xs) ∙ ap (λ (c : Bool). c && there p f r ds (drop (at + 1) xs)) (sym t)
-
-pub there_turn : (p f r at x : ℕ) (ds xs : List ℕ) (missing : Bool) → at < length xs → x ≡ get_or xs at 0 → missing ≡ false → not missing ≡ there p f r ds (x ∷ []) → there p f r ds (drop at xs) ≡ there p f r ds xs → there p f r ds (drop (at + 1) xs) ≡ there p f r ds xs
-there_turn p f r at x ds xs missing h g m t e = sym (there_next p f r at x ds xs true h g (sym (ap not m) ∙ t)) ∙ e
-
-pub there_stop : (p f r at x : ℕ) (ds xs : List ℕ) (missing : Bool) → at < length xs → x ≡ get_or xs at 0 → missing ≡ true → not missing ≡ there p f r ds (x ∷ []) → there p f r ds (drop at xs) ≡ there p f r ds xs → false ≡ there p f r ds xs
-there_stop p f r at x ds xs missing h g m t e = sym (there_next p f r at x ds xs false h g (sym (ap not m) ∙ t)) ∙ e
-
-pub there_end : (p f r at : ℕ) (ds xs : List ℕ) → length xs ≤ at → there p f r ds (drop at xs) ≡ there p f r ds xs → true ≡ there p f r ds xs
-unfolding lost_in others_there
-there_end p f r at ds xs h e = sym (ap (there p f r ds) (drop_of_length-le xs h)) ∙ e
-
--- refusal 6: row, number or kind is too large
-abbrev pub out_of_form : ℕ → Step → Bool
-out_of_form p s = leb p s.row || (leb p s.number || ltb 1 s.kind)
-
-pub row_out : (p : ℕ) (s : Step) → p ≤ s.row → out_of_form p s ≡ true
-row_out p s h = or_l (leb p s.row) (leb p s.number || ltb 1 s.kind) (le-leb p s.row h)
-
-pub number_out : (p : ℕ) (s : Step) → p ≤ s.number → out_of_form p s ≡ true
-number_out p s h = or_r (leb p s.row) (leb p s.number || ltb 1 s.kind) (or_l (leb p s.number) (ltb 1 s.kind) (le-leb p s.number h))
-
-pub kind_out : (p : ℕ) (s : Step) → 1 < s.kind → out_of_form p s ≡ true
-kind_out p s h = or_r (leb p s.row) (leb p s.number || ltb 1 s.kind) (or_r (leb p s.number) (ltb 1 s.kind) (lt-ltb 1 s.kind h))
-
-pub all_in_form : (p : ℕ) (s : Step) → s.row < p → s.number < p → s.kind ≤ 1 → out_of_form p s ≡ false
-all_in_form p s h l m =
+-- past refusal 6
+in_range : (p : ℕ) (s : Step) → s.row < p → s.number < p → s.kind ≤ 1 → is_out_of_range p s ≡ false
+in_range p s h l m =
     ap₂ (λ (x y : Bool). x || (y || ltb 1 s.kind)) (lt-leb p s.row h) (lt-leb p s.number l) ∙ le-ltb 1 s.kind m
 
--- a step's refusal from its four tests
-pub refusal_is : (p k f : ℕ) (ds : List ℕ) (s : Step) (a b c d : Bool) → out_of_form p s ≡ a → b ≡ is_in s.row (lost_in p f (set_of p k s.kind s.number)) → c ≡ is_in s.row ds → d ≡ there p f s.row ds (set_of p k s.kind s.number) → step_refusal p k f ds s ≡ first_of (when a 6) (first_of (when (not b) 7) (first_of (when c 8) (when (not d) 9)))
+-- a step's refusal from its tests
+pub refusal_is : (p k f : ℕ) (ds : List ℕ) (s : Step) (b c d : Bool) → s.row < p → s.number < p → s.kind ≤ 1 → b ≡ is_in s.row (lost_in p f (set_of p k s.kind s.number)) → c ≡ is_in s.row ds → d ≡ there p f s.row ds (set_of p k s.kind s.number) → first_of (when (not b) 7) (first_of (when c 8) (when (not d) 9)) ≡ step_refusal p k f ds s
 unfolding step_refusal
-refusal_is p k f ds s a b c d ea eb ec ed =
-    ap₂ (λ (x y : Bool). first_of (when x 6) (first_of (when (not y) 7) (first_of (when (is_in s.row ds) 8) (when (not (there p f s.row ds (set_of p k s.kind s.number))) 9)))) ea (sym eb)
-    ∙ ap₂ (λ (x y : Bool). first_of (when a 6) (first_of (when (not b) 7) (first_of (when x 8) (when (not y) 9)))) (sym ec) (sym ed)
+refusal_is p k f ds s b c d h l m eb ec ed =
+    sym (
+    ap₂ (λ (x y : Bool). first_of (when x 6) (first_of (when (not y) 7) (first_of (when (is_in s.row ds) 8) (when (not (there p f s.row ds (set_of p k s.kind s.number))) 9)))) (in_range p s h l m) (sym eb)
+    ∙ ap₂ (λ (x y : Bool). first_of (when (not b) 7) (first_of (when x 8) (when (not y) 9))) (sym ec) (sym ed)
+    )
+
+-- a step that is out of range
+pub refusal_6 : (p k f : ℕ) (ds : List ℕ) (s : Step) → is_out_of_range p s ≡ true → 6 ≡ step_refusal p k f ds s
+unfolding step_refusal
+refusal_6 p k f ds s e =
+    let xs = lost_in p f (set_of p k s.kind s.number) in
+    sym (ap (λ (x : Bool). first_of (when x 6) (first_of (when (not (is_in s.row xs)) 7) (first_of (when (is_in s.row ds) 8) (when (not (others_there s.row xs ds)) 9)))) e)

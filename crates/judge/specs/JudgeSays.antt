@@ -5,7 +5,7 @@ use Rattle.mathematics.specs.Choice.{pick, first_of}
 use Rattle.liberation.specs.Sets.{plan_refusal, long_refusal}
 use Rattle.liberation.specs.Plans.{read_count}
 use Rattle.liberation.specs.Judging.{Judged as Verdict, judge, steps_in}
-use Rattle.refusals.specs.declared.Answer.{Answer}
+use Rattle.refusals.specs.declared.answer.Answer.{Answer}
 use Rattle.judge.specs.declared.all_steps.Judged.{Judged}
 
 -- refusals before any step is looked at

@@ -1,13 +1,13 @@
 // The judge of the steps of a plan, one after another: its read count, or a refusal of a step with
 // its place.
 ghost use Rattle.std.specs.Prelude.{◌≡◌, [], ◌+◌, ◌*◌, ◌≤◌, length};
-ghost use Rattle.liberation.specs.Limits.{InArray};
 ghost use Rattle.liberation.specs.Plans.{marks_from};
 ghost use Rattle.judge.specs.JudgeStepsSays.{StepsSay};
+ghost use Rattle.judge.specs.Verdicts.{judged_of};
 
-use super::{STEP_BYTES, one_step};
+use super::{PlanRefusal, STEP_BYTES, one_step};
 use parity_sets::MAX_WIDTH;
-use refusals::Answer;
+use refusals::{Answer, Array};
 
 // The answer, and the read count.
 #[repr(C)]
@@ -17,46 +17,48 @@ pub struct Judged {
     pub reads: u32,
 }
 
-// A byte of a plan as a number to count with.
-pub fn wide(byte: u8) -> usize
-    ensures { result ≡ byte }
-{
-    byte as usize
+impl From<Result<u32, PlanRefusal>> for Judged {
+    ghost from_gives = { λ r j. j ≡ judged_of r };
+
+    fn from(judged: Result<u32, PlanRefusal>) -> Judged {
+        match judged {
+            Ok(reads) => Judged {
+                answer: Answer::accepted(),
+                reads,
+            },
+            Err(refused) => Judged {
+                answer: Answer::from(refused),
+                reads: 0,
+            },
+        }
+    }
 }
 
 // Judges the steps in order. `marks` has a byte a cell, none marked, and collects the cells that
-// the steps read. The lent marks are then left free.
-pub fn judge_steps(width: usize, disks: usize, lost: usize, plan: &[u8], marks: &mut [u8]) -> Judged
-    requires in_array { InArray width disks × (lost ≤ disks + 1) }
-    requires plan_len { length plan.now ≡ 3 * width }
-    requires marks_value { marks.old ≡ marks_from (width * (disks + 2)) 0 [] }
-    ensures { StepsSay width disks lost plan.now result }
+// the steps read.
+pub fn judge_steps(
+    array: Array,
+    lost: usize,
+    plan: &[u8],
+    marks: &mut [u8],
+) -> Result<u32, PlanRefusal>
+    requires disk { lost ≤ array.disks + 1 }
+    requires plan_len { length plan.now ≡ 3 * array.width }
+    requires marks_value { marks.old ≡ marks_from (array.width * (array.disks + 2)) 0 [] }
+    ensures { StepsSay array.width array.disks lost plan.now (judged_of result) }
 {
-    let mut done = [0u8; MAX_WIDTH];
+    let mut rebuilt = [false; MAX_WIDTH];
     let mut reads: u32 = 0;
-    let mut i = 0;
-    while i < width {
-        let row = wide(plan[STEP_BYTES * i]);
-        let kind = wide(plan[STEP_BYTES * i + 1]);
-        let number = wide(plan[STEP_BYTES * i + 2]);
-        let refusal = one_step::step_refusal(width, disks, lost, row, kind, number, done);
-        if refusal != 0 {
-            let place = i as u32;
-            return Judged {
-                answer: Answer {
-                    refusal: refusal,
-                    place,
-                },
-                reads: 0,
-            };
-        }
-        done[row] = 1;
-        let fresh = parity_sets::mark_set(width, disks, lost, kind, number, marks);
-        reads += fresh;
-        i += 1;
+    for (place, bytes) in plan.chunks_exact(STEP_BYTES).enumerate() {
+        let step = match one_step::next_step(array, lost, bytes, rebuilt) {
+            Ok(step) => step,
+            Err(refusal) => {
+                let place = place as u32;
+                return Err(PlanRefusal { refusal, place });
+            }
+        };
+        rebuilt[step.row] = true;
+        reads += parity_sets::mark_set(array, lost, step.set, marks);
     }
-    Judged {
-        answer: refusals::answered(0),
-        reads,
-    }
+    Ok(reads)
 }

@@ -1,121 +1,110 @@
 // The judge of one step of a plan: its refusal by 6 to 9.
-ghost use Rattle.std.specs.Prelude.{◌≡◌, not, List, [], ◌∷◌, ℕ, ◌+◌, ◌≤◌, ◌<◌};
+ghost use Rattle.std.specs.Prelude.{◌≡◌, true, List, ℕ, ◌+◌, ◌≤◌, IfOk, MatchResult, length};
 ghost use Rattle.mathematics.specs.Lists.{is_in};
-ghost use Rattle.liberation.specs.Limits.{InArray};
-ghost use Rattle.liberation.specs.Sets.{set_of, lost_in};
-ghost use Rattle.liberation.specs.Plans.{step, marks_from};
+ghost use Rattle.liberation.specs.Sets.{lost_in};
 ghost use Rattle.liberation.specs.Judging.{others_there, step_refusal};
+ghost use Rattle.parity_sets.specs.ParitySets.{cells_of};
+ghost use Rattle.refusals.specs.Refused.{refused};
+ghost use Rattle.refusals.specs.declared.refusal.Refusal.TheVariants.{StepRange};
+ghost use Rattle.judge.specs.Steps.{AreRebuilt, IsWithin, is_there, is_out_of_range, bytes_step, step_of};
 
-use parity_sets::{DIAGONAL_SET, MAX_WIDTH};
-use refusals::numbers::{STEP_EARLY, STEP_RANGE, STEP_REPEATED, STEP_SET};
+use parity_sets::{DIAGONAL_SET, MAX_WIDTH, ParitySet};
+use refusals::{Array, Refusal};
 
-// Does a set hold the cell of this row on the lost disk?
-fn holds_row(
-    width: usize,
-    disks: usize,
-    lost: usize,
-    row: usize,
-    kind: usize,
-    number: usize,
-) -> bool
-    requires in_array { InArray width disks × (lost ≤ disks + 1) }
-    requires row_lt_width { (row < width) × (number < width) }
-    ensures { result ≡ is_in row (lost_in width lost (set_of width disks kind number)) }
-{
-    let wanted = lost * width + row;
-    let size = parity_sets::set_size(width, disks, kind, number);
-    let mut on = number;
-    let mut at = 0;
-    while at < size {
-        if parity_sets::cell_in_row(width, disks, kind, number, at, on) == wanted {
-            return true;
+// A step: the row that it rebuilds, and the set that it does so by.
+#[derive(Clone, Copy)]
+pub struct Step {
+    pub row: usize,
+    pub set: ParitySet,
+}
+
+impl Step {
+    // The step of three bytes of a plan: row, kind, number. Refusal: 6.
+    fn of_bytes(array: Array, bytes: &[u8]) -> Result<Step, Refusal>
+        requires { length bytes.now ≡ 3 }
+        ensures { MatchResult result (λ s. (step_of s ≡ bytes_step bytes.now) × IsWithin array.width s) (λ e. (e ≡ StepRange) × (is_out_of_range array.width (bytes_step bytes.now) ≡ true)) }
+    {
+        let row = usize::from(bytes[0]);
+        let kind = bytes[1];
+        let number = bytes[2];
+        if array.width <= row
+            || array.width <= usize::from(number)
+            || DIAGONAL_SET < usize::from(kind)
+        {
+            return Err(Refusal::StepRange);
         }
-        on = parity_sets::next_row(width, on);
-        at += 1;
+        Ok(Step {
+            row,
+            set: ParitySet::of_step(kind, number),
+        })
     }
-    false
 }
 
-// Is this a cell of the lost disk, in another row, that is not rebuilt yet?
-fn is_missing(
-    width: usize,
-    disks: usize,
-    lost: usize,
-    row: usize,
-    cell: usize,
-    done: [u8; MAX_WIDTH],
-) -> bool
-    requires { InArray width disks × (lost ≤ disks + 1) }
-    ensures { (ds : List ℕ) → done ≡ marks_from 31 0 ds → not result ≡ others_there row (lost_in width lost (cell ∷ [])) ds }
+// Is a cell on another disk than the lost one, in this row, or rebuilt?
+fn is_there(array: Array, lost: usize, row: usize, cell: usize, rebuilt: [bool; MAX_WIDTH]) -> bool
+    requires { lost ≤ array.disks + 1 }
+    ensures { result ≡ is_there array.width lost row rebuilt cell }
 {
-    if !parity_sets::on_disk(width, lost, cell) {
-        return false;
+    if !parity_sets::is_on_disk(array, lost, cell) {
+        return true;
     }
-    let other = cell - lost * width;
-    if other == row {
-        return false;
-    }
-    done[other] == 0
+    let other = cell - lost * array.width;
+    other == row || rebuilt[other]
 }
 
-// Are the lost cells of a set all rebuilt, that of this row apart?
-fn others_there(
-    width: usize,
-    disks: usize,
-    lost: usize,
-    row: usize,
-    kind: usize,
-    number: usize,
-    done: [u8; MAX_WIDTH],
-) -> bool
-    requires { InArray width disks × (lost ≤ disks + 1) × (number < width) }
-    ensures { (ds : List ℕ) → done ≡ marks_from 31 0 ds → result ≡ others_there row (lost_in width lost (set_of width disks kind number)) ds }
+// Does the set of a step hold the cell of its row on the lost disk?
+fn holds_row(array: Array, lost: usize, step: Step) -> bool
+    requires { (lost ≤ array.disks + 1) × IsWithin array.width step }
+    ensures { result ≡ is_in step.row (lost_in array.width lost (cells_of array.width array.disks step.set)) }
 {
-    let size = parity_sets::set_size(width, disks, kind, number);
-    let mut on = number;
-    let mut at = 0;
-    while at < size {
-        let cell = parity_sets::cell_in_row(width, disks, kind, number, at, on);
-        if is_missing(width, disks, lost, row, cell, done) {
-            return false;
-        }
-        on = parity_sets::next_row(width, on);
-        at += 1;
-    }
-    true
+    let wanted = lost * array.width + step.row;
+    step.set.cells(array).any(|cell| cell == wanted)
 }
 
-// The refusal of one step, 0 for none; `done` has a byte a row, 1 where the row is rebuilt.
-pub fn step_refusal(
-    width: usize,
-    disks: usize,
-    lost: usize,
-    row: usize,
-    kind: usize,
-    number: usize,
-    done: [u8; MAX_WIDTH],
-) -> u8
-    requires { InArray width disks × (lost ≤ disks + 1) }
-    ensures { (ds : List ℕ) → done ≡ marks_from 31 0 ds → result ≡ step_refusal width disks lost ds (step row kind number) }
+// Are the lost cells of a step's set all rebuilt, that of its row apart?
+fn others_there(array: Array, lost: usize, step: Step, rebuilt: [bool; MAX_WIDTH]) -> bool
+    requires { (lost ≤ array.disks + 1) × IsWithin array.width step }
+    ensures { (ds : List ℕ) → AreRebuilt rebuilt ds → result ≡ others_there step.row (lost_in array.width lost (cells_of array.width array.disks step.set)) ds }
 {
-    if width <= row {
-        return STEP_RANGE;
+    step.set
+        .cells(array)
+        .all(|cell| is_there(array, lost, step.row, cell, rebuilt))
+}
+
+// May this step come next, after those of the rows that are rebuilt? Refusals: 7 to 9.
+fn check_step(
+    array: Array,
+    lost: usize,
+    step: Step,
+    rebuilt: [bool; MAX_WIDTH],
+) -> Result<(), Refusal>
+    requires { (lost ≤ array.disks + 1) × IsWithin array.width step }
+    ensures { (ds : List ℕ) → AreRebuilt rebuilt ds → refused result ≡ step_refusal array.width array.disks lost ds (step_of step) }
+{
+    if !holds_row(array, lost, step) {
+        return Err(Refusal::StepSet);
     }
-    if width <= number {
-        return STEP_RANGE;
+    if rebuilt[step.row] {
+        return Err(Refusal::StepRepeated);
     }
-    if DIAGONAL_SET < kind {
-        return STEP_RANGE;
+    if !others_there(array, lost, step, rebuilt) {
+        return Err(Refusal::StepEarly);
     }
-    if !holds_row(width, disks, lost, row, kind, number) {
-        return STEP_SET;
-    }
-    if done[row] == 1 {
-        return STEP_REPEATED;
-    }
-    if others_there(width, disks, lost, row, kind, number, done) {
-        0
-    } else {
-        STEP_EARLY
-    }
+    Ok(())
+}
+
+// The next step of a plan by its bytes, after those of the rows that are rebuilt. Refusals: 6 to 9.
+pub fn next_step(
+    array: Array,
+    lost: usize,
+    bytes: &[u8],
+    rebuilt: [bool; MAX_WIDTH],
+) -> Result<Step, Refusal>
+    requires { (lost ≤ array.disks + 1) × (length bytes.now ≡ 3) }
+    ensures refusal { (ds : List ℕ) → AreRebuilt rebuilt ds → refused result ≡ step_refusal array.width array.disks lost ds (bytes_step bytes.now) }
+    ensures step { IfOk result (λ s. (step_of s ≡ bytes_step bytes.now) × IsWithin array.width s) }
+{
+    let step = Step::of_bytes(array, bytes)?;
+    check_step(array, lost, step, rebuilt)?;
+    Ok(step)
 }

@@ -2,6 +2,5 @@
 -- the XOR of the other servers.
 pub mod ServerCallRefusals
 pub mod Turning
-pub mod ServerRefusals
 pub mod OtherServers
 pub mod LossRefusals

@@ -1,15 +1,13 @@
 -- The refusals of losses from their tests: a byte, a pair, and the pairs one after another.
 use mathlib.Core.Path.{◌≡◌, refl, sym, ap, ap₂, ◌∙◌}
-use mathlib.Core.Bool.{Bool, true, false, not, ◌&&◌}
+use mathlib.Core.Bool.{Bool, true, false, not}
 use mathlib.Core.List.{List}
 use Prim.Native.Nat.{ℕ, ◌+◌}
 use native.Mathlib.Numerals.{add-one}
 use lib.Dec.{eqb}
 use borrow.Author.Tests.{eq-eqb, ne_eqb}
-use Rattle.mathematics.specs.Choice.{pick, when, first_of}
-use Rattle.mathematics.proofs.ChoiceLaws.{first_next}
-use Rattle.liberation.specs.Sets.{disk_refusal}
-use Rattle.liberation.specs.ParityServer.Servers.{lost, first_loss, second_loss, byte_refusal, pair_refusal, losses_refusal}
+use Rattle.mathematics.specs.Choice.{pick, first_of}
+use Rattle.liberation.specs.ParityServer.Servers.{lost, first_loss, second_loss, pair_refusal, losses_refusal}
 
 -- 255 is no disk
 pub lost_false : (d : ℕ) → d ≡ 255 → lost d ≡ false
@@ -17,26 +15,6 @@ lost_false d e = ap not (eq-eqb d 255 e)
 
 pub lost_true : (d : ℕ) → (d ≡ 255 → ⊥) → lost d ≡ true
 lost_true d n = ap not (ne_eqb d 255 n)
-
-pub refusal_none : (k d : ℕ) → d ≡ 255 → 0 ≡ byte_refusal k d
-refusal_none k d e = sym (ap (λ (b : Bool). pick b (disk_refusal k d) 0) (lost_false d e))
-
-pub refusal_disk : (k d r : ℕ) → (d ≡ 255 → ⊥) → r ≡ disk_refusal k d → r ≡ byte_refusal k d
-refusal_disk k d r n e = e ∙ sym (ap (λ (b : Bool). pick b (disk_refusal k d) 0) (lost_true d n))
-
--- neither of a pair is refused by itself
-module _ (k a b : ℕ) (za : byte_refusal k a ≡ 0) (zb : byte_refusal k b ≡ 0) where
-  last : (n : ℕ) → n ≡ when (lost a && eqb a b) 4 → n ≡ pair_refusal k a b
-  last n e = first_next n (byte_refusal k a) (first_of (byte_refusal k b) (when (lost a && eqb a b) 4)) za (first_next n (byte_refusal k b) (when (lost a && eqb a b) 4) zb e)
-
-  pub pair_none : a ≡ 255 → 0 ≡ pair_refusal k a b
-  pair_none e = last 0 (sym (ap (λ (c : Bool). when (c && eqb a b) 4) (lost_false a e)))
-
-  pub pair_same : (a ≡ 255 → ⊥) → a ≡ b → 4 ≡ pair_refusal k a b
-  pair_same n e = last 4 (sym (ap₂ (λ (c d : Bool). when (c && d) 4) (lost_true a n) (eq-eqb a b e)))
-
-  pub pair_apart : (a ≡ 255 → ⊥) → (a ≡ b → ⊥) → 0 ≡ pair_refusal k a b
-  pair_apart n e = last 0 (sym (ap₂ (λ (c d : Bool). when (c && d) 4) (lost_true a n) (ne_eqb a b e)))
 
 -- the lost server's turn, and another one's
 module _ (k j i : ℕ) (ls : List ℕ) where

@@ -5,7 +5,7 @@ use Rattle.mathematics.specs.Choice.{pick, when, first_of}
 use Rattle.mathematics.specs.Xor.{all_bytes}
 use Rattle.liberation.specs.Sets.{shape_refusal, long_refusal}
 use Rattle.liberation.specs.ParityServer.Servers.{servers_long, server_written, server_rebuilt, server_refusal, losses_refusal, write_refusal, rebuild_refusal}
-use Rattle.refusals.specs.declared.Answer.{Answer}
+use Rattle.refusals.specs.declared.answer.Answer.{Answer}
 use Rattle.refusals.specs.Answers.{Answers}
 
 -- the refusals of a rebuild of server j, of stripes of n bytes in all

@@ -6,51 +6,43 @@
 mod limits;
 mod losses;
 mod mends;
+mod servers;
 mod sums;
 
-ghost use Rattle.std.specs.Prelude.{◌≡◌};
+ghost use Rattle.std.specs.Prelude.{◌≡◌, IfOk};
+ghost use Rattle.refusals.specs.Refused.{refused, answer_of};
+ghost use Rattle.parity_server.specs.Checked.{IsChecked};
 ghost use Rattle.parity_server.specs.Says.{rebuild_tests, WriteServerSays, RebuildServerSays};
 
-use refusals::{Answer, Shape};
+use refusals::{Refusal, Shape};
+use servers::Servers;
 
-// The refusal of a rebuild, 0 for none: all of it is tested before a byte is written.
-fn rebuild_refusal(
-    width: usize,
-    disks: usize,
-    size: usize,
+// The servers of a rebuild: all of it is tested before a byte is written. Refusals: 1, 13, 2, 18,
+// 5, 3, 4.
+fn check_rebuild(
+    shape: Shape,
     servers: usize,
     lost: usize,
     long: usize,
     losses: &[u8],
-) -> u8
-    ensures { result ≡ rebuild_tests width disks size servers lost long losses.now }
+) -> Result<Servers, Refusal>
+    ensures refusal { refused result ≡ rebuild_tests shape.width shape.disks shape.cell_size servers lost long losses.now }
+    ensures servers { IfOk result (λ s. IsChecked shape servers lost long s) }
 {
-    let call = limits::call_refusal(width, disks, size, servers, lost, long);
-    if call != 0 {
-        return call;
-    }
-    let pairs = refusals::length_refusal(losses.len(), 2 * (servers + 1));
-    if pairs != 0 {
-        return pairs;
-    }
-    losses::losses_refusal(disks, servers, lost, losses)
+    let servers = limits::check_call(shape, servers, lost, long)?;
+    refusals::check_length(losses.len(), 2 * servers.stripes())?;
+    losses::check_losses(servers, lost, losses)?;
+    Ok(servers)
 }
 
 // Writes the extra server's stripe. Refusals: 1, 13, 2, 18, 5; a refused call leaves the stripes as
 // they were.
-pub fn write_server(shape: Shape, servers: usize, stripes: &mut [u8]) -> Answer
-    ensures { WriteServerSays shape.width shape.disks shape.cell_size servers stripes.old stripes.new result }
+pub fn write_server(shape: Shape, servers: usize, stripes: &mut [u8]) -> Result<(), Refusal>
+    ensures { WriteServerSays shape.width shape.disks shape.cell_size servers stripes.old stripes.new (answer_of result) }
 {
-    let width = shape.width;
-    let disks = shape.disks;
-    let size = shape.cell_size;
-    let refusal = limits::call_refusal(width, disks, size, servers, servers, stripes.len());
-    if refusal != 0 {
-        return refusals::answered(refusal);
-    }
-    let long = (disks + 2) * (width * size);
-    sums::solve_server(long, servers, servers, stripes);
-    refusals::answered(0)
+    let servers = limits::check_call(shape, servers, servers, stripes.len())?;
+    sums::solve_server(servers, servers.count, stripes);
+    Ok(())
 }
 
 // Rebuilds a lost server from the others, whose losses are mended first. Refusals: 1, 13, 2, 18, 5,
@@ -61,18 +53,11 @@ pub fn rebuild_server(
     lost: usize,
     stripes: &mut [u8],
     losses: &[u8],
-) -> Answer
-    ensures { RebuildServerSays shape.width shape.disks shape.cell_size servers lost stripes.old losses.now stripes.new result }
+) -> Result<(), Refusal>
+    ensures { RebuildServerSays shape.width shape.disks shape.cell_size servers lost stripes.old losses.now stripes.new (answer_of result) }
 {
-    let width = shape.width;
-    let disks = shape.disks;
-    let size = shape.cell_size;
-    let refusal = rebuild_refusal(width, disks, size, servers, lost, stripes.len(), losses);
-    if refusal != 0 {
-        return refusals::answered(refusal);
-    }
-    mends::mend_all(width, disks, size, servers, lost, stripes, losses);
-    let long = (disks + 2) * (width * size);
-    sums::solve_server(long, servers, lost, stripes);
-    refusals::answered(0)
+    let servers = check_rebuild(shape, servers, lost, stripes.len(), losses)?;
+    mends::mend_all(servers, lost, stripes, losses);
+    sums::solve_server(servers, lost, stripes);
+    Ok(())
 }

@@ -1,49 +1,40 @@
-// The refusals of a call on the stripes of several servers by 1, 13, 2, 18 and 5.
-ghost use Rattle.std.specs.Prelude.{◌≡◌, not, eqb};
+// The tests of a call on the stripes of several servers.
+ghost use Rattle.std.specs.Prelude.{◌≡◌, not, eqb, IfOk};
 ghost use Rattle.mathematics.specs.Choice.{when, first_of};
 ghost use Rattle.liberation.specs.Sets.{shape_refusal};
 ghost use Rattle.liberation.specs.ParityServer.Servers.{servers_long, server_refusal};
+ghost use Rattle.refusals.specs.Refused.{refused};
+ghost use Rattle.parity_server.specs.Checked.{IsChecked};
 
-use refusals::numbers::NO_SUCH_SERVER;
+use super::servers::{MAX_SERVERS, MIN_SERVERS, Servers};
+use refusals::{Geometry, Refusal, Shape};
 
-// The fewest servers, the parity server not counted.
-const MIN_SERVERS: usize = 2;
-
-// The most servers, the parity server not counted.
-pub const MAX_SERVERS: usize = 16;
-
-// The refusal of the number of servers, and of a server, by 18, 0 for none. The extra server's
-// number is as many as the others are.
-fn server_refusal(servers: usize, server: usize) -> u8
-    ensures { result ≡ server_refusal servers server }
+// Are there so many servers, and is this one of them or the extra one? Refusal: 18.
+fn check_server(servers: usize, server: usize) -> Result<(), Refusal>
+    ensures { refused result ≡ server_refusal servers server }
 {
-    if servers < MIN_SERVERS {
-        return NO_SUCH_SERVER;
+    if servers < MIN_SERVERS || MAX_SERVERS < servers || servers < server {
+        return Err(Refusal::NoSuchServer);
     }
-    if MAX_SERVERS < servers {
-        return NO_SUCH_SERVER;
-    }
-    if servers < server { NO_SUCH_SERVER } else { 0 }
+    Ok(())
 }
 
-// The refusal of either call on stripes of `long` bytes in all, by 1, 13, 2, 18 or 5, 0 for none.
-pub fn call_refusal(
-    width: usize,
-    disks: usize,
-    size: usize,
+// The servers of either call, on stripes of `long` bytes in all. Refusals: 1, 13, 2, 18, 5.
+pub fn check_call(
+    shape: Shape,
     servers: usize,
     server: usize,
     long: usize,
-) -> u8
-    ensures { result ≡ first_of (shape_refusal width disks size) (first_of (server_refusal servers server) (when (not (eqb long (servers_long width disks size servers))) 5)) }
+) -> Result<Servers, Refusal>
+    ensures refusal { refused result ≡ first_of (shape_refusal shape.width shape.disks shape.cell_size) (first_of (server_refusal servers server) (when (not (eqb long (servers_long shape.width shape.disks shape.cell_size servers))) 5)) }
+    ensures servers { IfOk result (λ s. IsChecked shape servers server long s) }
 {
-    let shape = refusals::shape_refusal(width, disks, size);
-    if shape != 0 {
-        return shape;
-    }
-    let number = server_refusal(servers, server);
-    if number != 0 {
-        return number;
-    }
-    refusals::length_refusal(long, (servers + 1) * ((disks + 2) * (width * size)))
+    let geometry = Geometry::new(shape)?;
+    check_server(servers, server)?;
+    let servers = Servers {
+        geometry,
+        count: servers,
+    };
+    refusals::check_length(long, servers.bytes())?;
+    Ok(servers)
 }

@@ -1,65 +1,60 @@
-// The refusals of the lost disks of several servers by 3 and 4.
-ghost use Rattle.std.specs.Prelude.{◌≡◌, ◌+◌, ◌*◌, ◌≤◌, ◌<◌, eqb, length};
-ghost use Rattle.mathematics.specs.Choice.{pick};
-ghost use Rattle.liberation.specs.ParityServer.Servers.{first_loss, second_loss, byte_refusal, pair_refusal, losses_refusal};
+// The lost disks of several servers, two bytes a server, and their tests.
+ghost use Rattle.std.specs.Prelude.{◌≡◌, ◌+◌, ◌*◌, ◌≤◌, ◌<◌, length, MatchOption};
+ghost use Rattle.liberation.specs.ParityServer.Servers.{byte_refusal, pair_refusal, losses_refusal};
+ghost use Rattle.refusals.specs.Refused.{refused};
 
-use refusals::numbers::SAME_DISK;
+use super::servers::Servers;
+use refusals::{Array, Refusal};
 
 // The byte for no loss in the pairs of losses.
-pub const NO_LOSS: usize = 255;
+const NO_LOSS: u8 = 255;
 
-// The refusal of a lost disk by 3, 0 for none: 255 is no disk.
-fn byte_refusal(disks: usize, disk: usize) -> u8
-    ensures { result ≡ byte_refusal disks disk }
+// The disk that a byte names, if it names one.
+pub fn loss_of(byte: u8) -> Option<usize>
+    ensures { MatchOption result (byte ≡ 255) (λ disk. (disk ≡ byte) × (byte ≡ 255 → ⊥)) }
 {
-    if disk == NO_LOSS {
-        return 0;
+    if byte == NO_LOSS {
+        return None;
     }
-    refusals::disk_refusal(disks, disk)
+    Some(usize::from(byte))
 }
 
-// The refusal of a server's two losses by 3 or 4, 0 for none.
-fn pair_refusal(disks: usize, first: usize, second: usize) -> u8
-    ensures { result ≡ pair_refusal disks first second }
+// Is a loss one of the disks? Refusal: 3.
+fn check_loss(array: Array, byte: u8) -> Result<(), Refusal>
+    ensures { refused result ≡ byte_refusal array.disks byte }
 {
-    let refusal = byte_refusal(disks, first);
-    if refusal != 0 {
-        return refusal;
+    match loss_of(byte) {
+        Some(disk) => array.check_disk(disk),
+        None => Ok(()),
     }
-    let other = byte_refusal(disks, second);
-    if other != 0 {
-        return other;
-    }
-    if first == NO_LOSS {
-        return 0;
-    }
-    if first == second { SAME_DISK } else { 0 }
 }
 
-// The refusal of the losses of server i. Those of the lost server are not read.
-fn turn_refusal(disks: usize, lost: usize, i: usize, losses: &[u8]) -> u8
-    requires { 2 * i + 1 < length losses.now }
-    ensures { result ≡ pick (eqb i lost) 0 (pair_refusal disks (first_loss losses.now i) (second_loss losses.now i)) }
+// May a server have these two losses? Refusals: 3, 4.
+fn check_pair(array: Array, first: u8, second: u8) -> Result<(), Refusal>
+    ensures { refused result ≡ pair_refusal array.disks first second }
 {
-    if i == lost {
-        return 0;
+    check_loss(array, first)?;
+    check_loss(array, second)?;
+    if first != NO_LOSS && first == second {
+        return Err(Refusal::SameDisk);
     }
-    let at = 2 * i;
-    pair_refusal(disks, losses[at] as usize, losses[at + 1] as usize)
+    Ok(())
 }
 
-// The refusal of all losses, server by server, but the lost one's: the first that is refused.
-pub fn losses_refusal(disks: usize, servers: usize, lost: usize, losses: &[u8]) -> u8
-    requires { (servers ≤ 16) × (length losses.now ≡ 2 * (servers + 1)) }
-    ensures { result ≡ losses_refusal (servers + 1) disks lost losses.now }
+// May the servers have these losses? Those of the lost server are not read. Refusals: 3, 4 of the
+// first server that is refused.
+pub fn check_losses(servers: Servers, lost: usize, losses: &[u8]) -> Result<(), Refusal>
+    requires { length losses.now ≡ 2 * (servers.count + 1) }
+    ensures { refused result ≡ losses_refusal (servers.count + 1) servers.geometry.array.disks lost losses.now }
 {
-    let mut i = 0;
-    while i <= servers {
-        let refusal = turn_refusal(disks, lost, i, losses);
-        if refusal != 0 {
-            return refusal;
+    for server in 0..servers.stripes() {
+        if server != lost {
+            check_pair(
+                servers.geometry.array,
+                losses[2 * server],
+                losses[2 * server + 1],
+            )?;
         }
-        i += 1;
     }
-    0
+    Ok(())
 }

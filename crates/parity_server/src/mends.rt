@@ -2,87 +2,53 @@
 // one by our plan and two by the walk.
 ghost use Rattle.std.specs.Prelude.{◌≡◌, ◌+◌};
 ghost use Rattle.liberation.specs.ParityServer.Servers.{pair_refusal, mended, mended_turn, mended_all};
-ghost use Rattle.liberation.specs.ParityServer.ServerClaims.{Given, GivenLosses};
-ghost use Rattle.liberation.specs.Stripes.StripeLimits.{Sized};
-ghost use Rattle.parity_server.specs.Turns.{only_loss, Turn};
+ghost use Rattle.liberation.specs.ParityServer.ServerClaims.{GivenLosses};
+ghost use Rattle.refusals.specs.StripeOf.{IsStripeOf};
+ghost use Rattle.parity_server.specs.Turns.{AreStripesOf, Turn};
 
-use super::losses::NO_LOSS;
+use super::losses;
+use super::servers::Servers;
+use rebuild_one::LostDisk;
+use refusals::Geometry;
 
-// The one lost disk of a stripe, 255 if none is lost or two are.
-fn only_loss(first: usize, second: usize) -> usize
-    ensures { result ≡ only_loss first second }
+// Mends a stripe's losses in place.
+fn mend_stripe(geometry: Geometry, first: u8, second: u8, stripe: &mut [u8])
+    requires stripe_len { IsStripeOf geometry stripe.old }
+    requires accepted { pair_refusal geometry.array.disks first second ≡ 0 }
+    ensures { stripe.new ≡ mended geometry.array.width geometry.array.disks geometry.cell_size first second stripe.old }
 {
-    if first == NO_LOSS {
-        return second;
+    match (losses::loss_of(first), losses::loss_of(second)) {
+        (None, None) => {}
+        (Some(disk), None) | (None, Some(disk)) => {
+            LostDisk { geometry, disk }.rebuild_within(stripe);
+        }
+        (Some(a), Some(b)) => rebuild_two::solve_pair(geometry, a, b, stripe),
     }
-    if second == NO_LOSS { first } else { NO_LOSS }
 }
 
-// Mends a stripe's losses in place: one lost disk by our plan for it, two by the walk; 255 is none.
-fn mend_server(
-    width: usize,
-    disks: usize,
-    size: usize,
-    first: usize,
-    second: usize,
-    stripe: &mut [u8],
-)
-    requires sized { Sized width disks size stripe.old }
-    requires second_value { pair_refusal disks first second ≡ 0 }
-    ensures { stripe.new ≡ mended width disks size first second stripe.old }
+// Mends a server in the slice of all stripes, the lost server not.
+fn mend_turn(servers: Servers, lost: usize, server: usize, stripes: &mut [u8], losses: &[u8])
+    requires { Turn servers lost server losses.now stripes.old }
+    ensures { stripes.new ≡ mended_turn servers.geometry.array.width servers.geometry.array.disks servers.geometry.cell_size lost losses.now server stripes.old }
 {
-    let disk = only_loss(first, second);
-    if disk != NO_LOSS {
-        rebuild_one::rebuild_within(width, disks, size, disk, stripe);
-        return;
+    if server != lost {
+        let long = servers.geometry.stripe_bytes();
+        let start = server * long;
+        mend_stripe(
+            servers.geometry,
+            losses[2 * server],
+            losses[2 * server + 1],
+            &mut stripes[start..start + long],
+        );
     }
-    if first == NO_LOSS {
-        return;
-    }
-    rebuild_two::solve_pair(width, disks, size, first, second, stripe);
-}
-
-// Mends server i in the slice of all stripes, the lost server not.
-fn mend_turn(
-    width: usize,
-    disks: usize,
-    size: usize,
-    lost: usize,
-    i: usize,
-    stripes: &mut [u8],
-    losses: &[u8],
-)
-    requires { Turn width disks size lost i losses.now stripes.old }
-    ensures { stripes.new ≡ mended_turn width disks size lost losses.now i stripes.old }
-{
-    if i == lost {
-        return;
-    }
-    let long = (disks + 2) * (width * size);
-    let start = i * long;
-    let end = start + long;
-    let at = 2 * i;
-    let first = losses[at] as usize;
-    let second = losses[at + 1] as usize;
-    mend_server(width, disks, size, first, second, &mut stripes[start..end]);
 }
 
 // Mends every server but the lost one.
-pub fn mend_all(
-    width: usize,
-    disks: usize,
-    size: usize,
-    servers: usize,
-    lost: usize,
-    stripes: &mut [u8],
-    losses: &[u8],
-)
-    requires { Given width disks size servers stripes.old × GivenLosses disks servers lost losses.now }
-    ensures { stripes.new ≡ mended_all (servers + 1) width disks size lost losses.now stripes.old }
+pub fn mend_all(servers: Servers, lost: usize, stripes: &mut [u8], losses: &[u8])
+    requires { AreStripesOf servers stripes.old × GivenLosses servers.geometry.array.disks servers.count lost losses.now }
+    ensures { stripes.new ≡ mended_all (servers.count + 1) servers.geometry.array.width servers.geometry.array.disks servers.geometry.cell_size lost losses.now stripes.old }
 {
-    let mut i = 0;
-    while i <= servers {
-        mend_turn(width, disks, size, lost, i, stripes, losses);
-        i += 1;
+    for server in 0..servers.stripes() {
+        mend_turn(servers, lost, server, stripes, losses);
     }
 }

@@ -176,3 +176,38 @@ halfway_end p f xs m₀ m fresh at h k =
   where
     none : drop at xs ≡ []
     none = drop_of_length-le xs h
+
+-- Marking the surviving cells of xs one by one: the cells `rest` are still to be marked in m.
+pub record Marking (n p f : ℕ) (xs m₀ m : List ℕ) (fresh : ℕ) (rest : List ℕ) : Type 0 where
+  pub below : all_below n rest ≡ true
+  pub long : length m ≡ n
+  pub few : fresh + length rest ≤ length xs
+  pub marks : mark_all m (surviving_in p f rest) ≡ mark_all m₀ (surviving_in p f xs)
+  pub count : fresh + fresh_in m (surviving_in p f rest) ≡ fresh_in m₀ (surviving_in p f xs)
+
+pub marking_start : (n p f : ℕ) (xs m : List ℕ) → all_below n xs ≡ true → length m ≡ n → Marking n p f xs m m 0 xs
+marking_start n p f xs m b l = record { below = b; long = l; few = omega arith; marks = refl; count = omega arith }
+
+-- the next cell is one of the marks
+pub marking_next : {n p f : ℕ} {xs m₀ m : List ℕ} {fresh : ℕ} {rest : List ℕ} (x : ℕ) (left : List ℕ) → rest ≡ x ∷ left → Marking n p f xs m₀ m fresh rest → (x < length m) × (fresh < length xs)
+marking_next {n} {fresh = fresh} x left e k =
+    let b = rw e at k.below in
+    (omega (arith, ltb-true x n (and_l (ltb x n) (all_below n left) b), k.long), omega (arith, ap length e, k.few))
+
+pub marking_turn : {n p f : ℕ} {xs m₀ m : List ℕ} {fresh : ℕ} {rest : List ℕ} (x : ℕ) (left m' : List ℕ) (r : ℕ) → rest ≡ x ∷ left → Marking n p f xs m₀ m fresh rest → Marked m m' (surviving_in p f (x ∷ [])) r → Marking n p f xs m₀ m' (fresh + r) left
+marking_turn {n} {p} {f} {xs} {m₀} {m} {fresh} {rest} x left m' r e k d =
+    record {
+      below = and_r (ltb x n) (all_below n left) (rw e at k.below);
+      long = ap length d.marks ∙ length_mark m (surviving_in p f (x ∷ [])) ∙ k.long;
+      few = omega (arith, one_fresh p f x r m m' d, k.few, ap length e);
+      marks = sym (mark_turn p f x r m m' left d) ∙ ap (λ (l : List ℕ). mark_all m (surviving_in p f l)) (sym e) ∙ k.marks;
+      count = omega (arith, fresh_turn p f x r m m' left d, ap (λ (l : List ℕ). fresh_in m (surviving_in p f l)) e, k.count);
+    }
+
+pub marking_end : {n p f : ℕ} {xs m₀ m : List ℕ} {fresh : ℕ} {rest : List ℕ} → rest ≡ [] → Marking n p f xs m₀ m fresh rest → Marked m₀ m (surviving_in p f xs) fresh
+unfolding surviving_in
+marking_end {p = p} {f = f} {m = m} e k =
+    record {
+      fresh = omega (arith, ap (λ (l : List ℕ). fresh_in m (surviving_in p f l)) e, (nothing_marked m).1, k.count);
+      marks = sym (nothing_marked m).0 ∙ ap (λ (l : List ℕ). mark_all m (surviving_in p f l)) (sym e) ∙ k.marks;
+    }

@@ -7,9 +7,7 @@
 
 fn main() {
     let mut buffer = io::buffer();
-    let n = io::read_full(0, &mut buffer);
-    let text = printed_plan::plan_text(&buffer[..n]);
-    let bytes = text.bytes;
-    let length = text.length;
-    io::write_all(1, &bytes[..length]);
+    let length = io::read_full(0, &mut buffer);
+    let text = printed_plan::plan_text(&buffer[..length]);
+    io::write_all(1, &text.bytes[..text.length]);
 }

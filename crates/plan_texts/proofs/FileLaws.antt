@@ -1,80 +1,73 @@
--- What the calls that write answer, refusal by refusal: those before any step, then the judge's,
--- and the plain form of an accepted plan.
-use mathlib.Core.Path.{◌≡◌, sym, ap, ap₂, ◌∙◌}
-use mathlib.Core.Bool.{true}
-use mathlib.Core.List.{List, ◌++◌}
-use Prim.Native.Nat.{ℕ}
-use native.Mathlib.Omega.{arith}
+-- What the calls that write answer: the plain form of a plan that the judge accepts, and the judge's
+-- refusal with its place.
+use mathlib.Core.Path.{◌≡◌, refl, sym, ap, subst, ◌∙◌}
+use mathlib.Core.Bool.{Bool, true, false}
+use mathlib.Core.List.{List, [], ◌∷◌, ◌++◌}
+use Prim.Native.Nat.{ℕ, suc, ◌*◌}
 use lib.Dec.{eqb}
 use lib.ListN.{length, drop}
-use borrow.Author.Tests.{eq-eqb}
-use Rattle.mathematics.specs.Choice.{pick, first_of}
+use borrow.Author.Tests.{eq-eqb, eqb-false}
 use Rattle.mathematics.proofs.Flags.{and_i}
-use Rattle.mathematics.proofs.ChoiceLaws.{first_kept, pick_refused, pick_done}
-use Rattle.liberation.specs.Sets.{plan_refusal}
+use Rattle.mathematics.proofs.ChoiceLaws.{first_none, first_next, pick_done}
+use Rattle.liberation.specs.Sets.{plan_refusal, long_refusal}
 use Rattle.liberation.specs.Plans.{Step}
-use Rattle.liberation.specs.Judging.{judge, steps_in, accepted}
-use Rattle.liberation.proofs.RefusalLaws.{plan_of_lem}
+use Rattle.liberation.specs.Judging.{Judged as Verdict, judged, judge, judge_from, step_refusal, steps_in, accepted}
+use Rattle.liberation.proofs.RefusalLaws.{plan_of_lem, long_of}
 use Rattle.judge.specs.declared.all_steps.Judged.{Judged}
-use Rattle.judge.proofs.AcceptLaws.{steps_long}
-use Rattle.text.specs.Writing.{Wrote}
+use Rattle.judge.specs.JudgeSays.{JudgeSays}
 use Rattle.plan_texts.specs.Form.Plain.{plain, writable}
+use Rattle.plan_texts.specs.Form.Reading.{steps_read, step_bytes}
 use Rattle.plan_texts.proofs.Form.TextTheorems.{accepted_writable}
-use Rattle.plan_texts.specs.JudgeTextSays.{all_refusals, Judges}
+use Rattle.plan_texts.specs.JudgeTextSays.{text_refusal}
+use Rattle.plan_texts.specs.PlainTextSays.{room_refusal, Writes, PlainSays}
 use Rattle.plan_texts.specs.declared.plain.Written.{Written}
-use Rattle.plan_texts.specs.PlainTextSays.{Writes, Refuses}
+use Rattle.plan_texts.proofs.PlainLoop.{steps_many}
+use Rattle.plan_texts.proofs.JudgeTextLaws.{judges_steps, read_long, read_steps}
 
--- The writers: refused by n, and nothing written.
-module _ (n p k f : ℕ) (ss : List Step) where
-  pub writes_refused : (m : ℕ) (o : List ℕ) (r : Written) → m ≡ n → (m ≡ 0 → ⊥) → Refuses m r → Writes n p k f ss o o r
-  writes_refused m o r e z a =
-      let refusal : m ≡ all_refusals n p k f ss = first_kept m n (judge p k f ss).number e z in
-      record {
-        refusal = a.answer.refusal ∙ refusal;
-        place = a.answer.place ∙ pick_refused m n (judge p k f ss).place 0 e z;
-        size = a.size ∙ pick_refused m (all_refusals n p k f ss) (length (plain ss)) 0 refusal z;
-        bytes = pick_refused m (all_refusals n p k f ss) (plain ss ++ drop (length (plain ss)) o) o refusal z;
-      }
+-- a plan that is not refused has no place
+no_place : (i p k f : ℕ) (done : List ℕ) (ss : List Step) → (judge_from i p k f done ss).number ≡ 0 → (judge_from i p k f done ss).place ≡ 0
+unfolding judge_from
+no_place i p k f done [] z = refl
+no_place i p k f done (s ∷ ss) z = go (eqb (step_refusal p k f done s) 0) refl (no_place (suc i) p k f (s.row ∷ done) ss) z
+  where
+    rest : Verdict
+    rest = judge_from (suc i) p k f (s.row ∷ done) ss
 
-  -- the same steps, nothing being refused before them
-  pub writes_steps : (rs : List Step) (o o' : List ℕ) (r : Written) → n ≡ 0 → rs ≡ ss → Writes 0 p k f rs o o' r → Writes n p k f ss o o' r
-  writes_steps rs o o' r z e w =
-      record {
-        refusal = w.refusal ∙ ap₂ (λ (m : ℕ) (x : List Step). first_of m (judge p k f x).number) (sym z) e;
-        place = w.place ∙ ap₂ (λ (m : ℕ) (x : List Step). pick (eqb m 0) (judge p k f x).place 0) (sym z) e;
-        size = w.size ∙ ap₂ (λ (m : ℕ) (x : List Step). pick (eqb (first_of m (judge p k f x).number) 0) (length (plain x)) 0) (sym z) e;
-        bytes = w.bytes ∙ ap₂ (λ (m : ℕ) (x : List Step). pick (eqb (first_of m (judge p k f x).number) 0) (plain x ++ drop (length (plain x)) o) o) (sym z) e;
-      }
+    here : Bool → Verdict
+    here b = elim b [ true ↦ rest | false ↦ judged (step_refusal p k f done s) i ]
 
--- The judge's answer handed on: the steps are refused, or accepted and then written.
-module _ (p k f : ℕ) (bs : List ℕ) (j : Judged) (g : Judges 0 p k f (steps_in p bs) j) where
-  pub steps_refused : (o : List ℕ) (r : Written) → (j.answer.refusal ≡ 0 → ⊥) → r.answer ≡ j.answer → r.length ≡ 0 → Writes 0 p k f (steps_in p bs) o o r
-  steps_refused o r z a l =
-      let ss = steps_in p bs in
-      let m = j.answer.refusal in
-      record {
-        refusal = ap (λ x. x.refusal) a ∙ g.refusal;
-        place = ap (λ x. x.place) a ∙ g.place;
-        size = l ∙ pick_refused m (judge p k f ss).number (length (plain ss)) 0 g.refusal z;
-        bytes = pick_refused m (judge p k f ss).number (plain ss ++ drop (length (plain ss)) o) o g.refusal z;
-      }
+    go : (b : Bool) → eqb (step_refusal p k f done s) 0 ≡ b → (rest.number ≡ 0 → rest.place ≡ 0) → (here b).number ≡ 0 → (here b).place ≡ 0
+    go true e h q = h q
+    go false e h q = absurd (eqb-false (step_refusal p k f done s) 0 e q)
 
-  pub steps_accepted : j.answer.refusal ≡ 0 → accepted p k f (steps_in p bs) ≡ true
+-- the judge accepts the steps whose bytes are bs
+module _ (p k f : ℕ) (bs : List ℕ) (j : Judged) (z : plan_refusal p k f ≡ 0) (l : length bs ≡ 3 * p) (g : JudgeSays p k f bs j) (a : j.answer.refusal ≡ 0) where
+  accepts : (judge p k f (steps_in p bs)).number ≡ 0
+  accepts = sym (judges_steps p k f (steps_in p bs) bs j z l refl g).refusal ∙ a
+
+  -- so they can be told
+  pub tellable : writable (steps_in p bs) ≡ true
   unfolding accepted
-  steps_accepted z = and_i _ _ (eq-eqb (length (steps_in p bs)) p (steps_long p bs)) (eq-eqb (judge p k f (steps_in p bs)).number 0 (sym g.refusal ∙ z))
+  tellable = accepted_writable p k f (steps_in p bs) (plan_of_lem p k f z).0.width (and_i _ _ (eq-eqb (length (steps_in p bs)) p (steps_many p bs)) (eq-eqb (judge p k f (steps_in p bs)).number 0 accepts))
 
-  pub steps_written : (o o' : List ℕ) (n : ℕ) (r : Written) → j.answer.refusal ≡ 0 → r.answer ≡ j.answer → r.length ≡ n → Wrote o o' 0 n (plain (steps_in p bs)) → Writes 0 p k f (steps_in p bs) o o' r
-  steps_written o o' n r z a l w =
+  -- and are written
+  pub written : (t o : List ℕ) → t ≡ plain (steps_in p bs) → Writes 0 p k f (steps_in p bs) o (t ++ drop (length t) o) (record { answer = record { refusal = 0; place = 0 }; length = length t })
+  written t o e =
       let ss = steps_in p bs in
-      let q : (judge p k f ss).number ≡ 0 = sym g.refusal ∙ z in
-      let e : n ≡ length (plain ss) = omega (arith, w.ends) in
+      let n = (judge p k f ss).number in
       record {
-        refusal = ap (λ x. x.refusal) a ∙ g.refusal;
-        place = ap (λ x. x.place) a ∙ g.place;
-        size = l ∙ e ∙ pick_done (judge p k f ss).number (length (plain ss)) 0 q;
-        bytes = w.bytes ∙ ap (λ (m : ℕ). plain ss ++ drop m o) e ∙ pick_done (judge p k f ss).number (plain ss ++ drop (length (plain ss)) o) o q;
+        refusal = sym accepts;
+        place = sym (no_place 0 p k f [] ss accepts);
+        size = ap length e ∙ pick_done n (length (plain ss)) 0 accepts;
+        bytes = ap (λ (x : List ℕ). x ++ drop (length x) o) e ∙ pick_done n (plain ss ++ drop (length (plain ss)) o) o accepts;
       }
 
--- what is asked of a plan before it is written
-pub writable_steps : (p k f : ℕ) (ss : List Step) → plan_refusal p k f ≡ 0 → accepted p k f ss ≡ true → writable ss ≡ true
-writable_steps p k f ss z h = accepted_writable p k f ss (plan_of_lem p k f z).0.width h
+-- nothing is refused before the steps of a text
+module _ (p k f : ℕ) (t o bs : List ℕ) (room : 0 ≡ room_refusal p k f o) (e : bs ≡ step_bytes (steps_read p t)) where
+  pub text_ready : (plan_refusal p k f ≡ 0) × (length bs ≡ 3 * p) × (length o ≡ 263)
+  text_ready =
+      let w = first_none (plan_refusal p k f) (long_refusal 263 o) (sym room) in
+      (w.0, read_long p t bs e, long_of 263 o w.1)
+
+  pub text_written : (o' : List ℕ) (r : Written) → 0 ≡ text_refusal p t → Writes 0 p k f (steps_in p bs) o o' r → PlainSays p k f t o o' r
+  text_written o' r q w = subst (λ (n : ℕ). Writes n p k f (steps_read p t) o o' r) (first_next 0 (room_refusal p k f o) (text_refusal p t) (sym room) q) (subst (λ (ss : List Step). Writes 0 p k f ss o o' r) (read_steps p t bs e) w)

@@ -1,9 +1,8 @@
--- Theorems about the form of a text, the loops that read and write it, and the promises of the
--- calls.
+-- Theorems about the form of a text, and the loops that read and write it.
 pub mod Form
-pub mod NumberReading
-pub mod LineLaws
-pub mod JudgeTextLaws
-pub mod PlainLoop
-pub mod LetterTests
-pub mod FileLaws
+mod ReadLoops
+mod FrontLaws
+mod LineLaws
+mod PlainLoop
+mod JudgeTextLaws
+mod FileLaws

@@ -1,11 +1,11 @@
 -- The promises of the calls that write plans as text (document 02, ask 14), for accepted and
 -- refused calls alike.
-use Rattle.std.specs.Prelude.{◌≡◌, List, ◌++◌, ℕ, ◌*◌, eqb, length, drop}
+use Rattle.std.specs.Prelude.{◌≡◌, List, ◌++◌, ℕ, ◌*◌, eqb, length, drop, Result, Ok, Err}
 use Rattle.mathematics.specs.Choice.{pick, first_of}
 use Rattle.liberation.specs.Sets.{plan_refusal, long_refusal}
 use Rattle.liberation.specs.Plans.{Step}
 use Rattle.liberation.specs.Judging.{judge, steps_in}
-use Rattle.refusals.specs.Answers.{Answers}
+use Rattle.refusals.specs.declared.answer.Answer.{Answer}
 use Rattle.plan_texts.specs.Form.Reading.{steps_read}
 use Rattle.plan_texts.specs.Form.Plain.{plain}
 use Rattle.plan_texts.specs.JudgeTextSays.{text_refusal, all_refusals}
@@ -31,10 +31,10 @@ pub record Writes (n p k f : ℕ) (ss : List Step) (o o' : List ℕ) (r : Writte
   pub size : r.length ≡ pick (eqb (all_refusals n p k f ss) 0) (length (plain ss)) 0
   pub bytes : o' ≡ pick (eqb (all_refusals n p k f ss) 0) (plain ss ++ drop (length (plain ss)) o) o
 
--- refused by n, with nothing written
-pub record Refuses (n : ℕ) (r : Written) : Type 0 where
-  pub answer : Answers n r.answer
-  pub size : r.length ≡ 0
+-- what C gets of a call that writes n bytes, or is refused and writes none
+abbrev pub written_of : Result ℕ Answer → Written
+written_of (Ok n) = record { answer = record { refusal = 0; place = 0 }; length = n }
+written_of (Err a) = record { answer = a; length = 0 }
 
 -- "Also write an accepted plan in its one plain form"
 abbrev pub WriteSays : ℕ → ℕ → ℕ → List ℕ → List ℕ → List ℕ → Written → Type 0

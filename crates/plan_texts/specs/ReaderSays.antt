@@ -1,31 +1,33 @@
--- What the functions that read a text promise: each answer equated with the definition on the bytes
--- from its place on.
-use Rattle.std.specs.Prelude.{◌≡◌, Bool, ◌&&◌, List, ◌++◌, ℕ, ◌+◌, ◌-◌, eqb, length, drop, replicate}
-use Rattle.mathematics.specs.Choice.{pick}
-use Rattle.liberation.specs.Plans.{Step, step}
-use Rattle.plan_texts.specs.Form.Reading.{line_in, lines_in, readable, steps_read, step_bytes}
-use Rattle.plan_texts.specs.declared.reader.Line.{Line}
-use Rattle.plan_texts.specs.declared.reader.Parsed.{Parsed}
+-- What the functions that read a text from its front promise: whether there is what they look for,
+-- what it says, and what follows it, each equated with the definition on the bytes of the text.
+use Rattle.std.specs.Prelude.{◌≡◌, Bool, true, false, ◌&&◌, List, [], ◌∷◌, ℕ, leb, eqb, length, drop, Option, MatchOption}
+use Rattle.std.specs.Borrow.{Bor}
+use Rattle.plan_texts.specs.Form.Reading.{digits_in, number_in, is_number, kind_of, byte_at, is_set, end_in, line_in, lines_in, readable, steps_read, step_bytes}
 
--- the line at place `at` of the text t
-pub record LineAt (t : List ℕ) (at : ℕ) (r : Line) : Type 0 where
-  pub ok : r.ok ≡ (line_in (drop at t)).ok
-  pub read : step r.row r.kind r.number ≡ (line_in (drop at t)).read
-  pub next : r.next ≡ at + (line_in (drop at t)).size
+-- r has a value exactly if b, and then Q of it
+abbrev pub Reads : {T : Type 0} → Bool → Option T → (T → Type 0) → Type 0
+Reads b r Q = MatchOption r (b ≡ false) (λ x. (b ≡ true) × Q x)
 
--- the bytes of steps, and zeros after them
-unfoldable pub plan_bytes : List Step → List ℕ
-plan_bytes ss = step_bytes ss ++ replicate (93 - length (step_bytes ss)) 0
+-- the number at the front, and what follows its digits
+abbrev pub NumberReads : List ℕ → Option (ℕ × Bor (List ℕ)) → Type 0
+NumberReads t r = Reads (is_number t) r (λ x. (x.0 ≡ number_in t) × (x.1.now ≡ drop (digits_in t) t))
 
--- a plan of the steps ss was read, if b
-pub record Reads (b : Bool) (ss : List Step) (r : Parsed) : Type 0 where
-  pub ok : r.ok ≡ b
-  pub plan : r.plan ≡ pick b (plan_bytes ss) (replicate 93 0)
+-- the kind of the set whose letter is at the front between commas, and what follows these
+abbrev pub SetReads : List ℕ → Option (ℕ × Bor (List ℕ)) → Type 0
+SetReads t r = Reads (is_set t) r (λ x. (x.0 ≡ kind_of (byte_at t 1)) × (x.1.now ≡ drop 3 t))
 
--- p lines from place `at` on, and nothing after them
-abbrev pub LinesSay : ℕ → List ℕ → ℕ → Parsed → Type 0
-LinesSay p t at r = let b = lines_in p (drop at t) in Reads (b.ok && eqb (at + b.size) (length t)) b.steps r
+-- what follows the line end at the front
+abbrev pub EndReads : List ℕ → Option (Bor (List ℕ)) → Type 0
+EndReads t r = Reads (leb 1 (end_in t)) r (λ x. x.now ≡ drop (end_in t) t)
 
--- the whole text
-abbrev pub ParseSays : ℕ → List ℕ → Parsed → Type 0
-ParseSays p t r = Reads (readable p t) (steps_read p t) r
+-- the three bytes of the step that the line at the front names, and what follows the line
+abbrev pub LineReads : List ℕ → Option (List ℕ × Bor (List ℕ)) → Type 0
+LineReads t r = let l = line_in t in Reads l.ok r (λ x. (x.0 ≡ step_bytes (l.read ∷ [])) × (x.1.now ≡ drop l.size t))
+
+-- the bytes of the steps that n lines name, and nothing after them
+abbrev pub LinesRead : ℕ → List ℕ → Option (List ℕ) → Type 0
+LinesRead n t r = let l = lines_in n t in Reads (l.ok && eqb l.size (length t)) r (λ x. x ≡ step_bytes l.steps)
+
+-- the bytes of the steps that the whole text names
+abbrev pub ParseSays : ℕ → List ℕ → Option (List ℕ) → Type 0
+ParseSays p t r = Reads (readable p t) r (λ x. x ≡ step_bytes (steps_read p t))

@@ -1,59 +1,37 @@
-// The fields of a line in a text from the host that are no numbers: the letter between its commas
-// and the line end, each at a place of a lent slice.
-// A number has at most three digits and a line at most 11 bytes, so no place that is read lies past
-// 400.
-ghost use Rattle.std.specs.Prelude.{◌≡◌, ◌≤◌, drop};
-ghost use Rattle.plan_texts.specs.Form.Reading.{is_letter, kind_of, is_set, end_in};
+// What is no number in a text from the host: the letter of a set between its commas, and the line
+// end.
+ghost use Rattle.std.specs.Prelude.{◌≡◌};
+ghost use Rattle.plan_texts.specs.Form.Reading.{is_letter, kind_of};
+ghost use Rattle.plan_texts.specs.ReaderSays.{Reads, SetReads, EndReads};
 
-// The bytes of the line end at a place: 1 for LF, 2 for CR LF, 0 if there is none.
-pub fn end_at(text: &[u8], at: usize) -> usize
-    requires { at ≤ 400 }
-    ensures { result ≡ end_in (drop at text.now) }
-{
-    let first = text::byte_at(text, at);
-    if first == b'\n' {
-        return 1;
-    }
-    if first != b'\r' {
-        return 0;
-    }
-    if text::byte_at(text, at + 1) == b'\n' {
-        2
-    } else {
-        0
-    }
-}
+// The kind of a row set, as a plan's bytes have it.
+const ROW_KIND: u8 = 0;
 
-// Is this byte D, R, d or r?
-fn is_letter(byte: u8) -> bool
-    ensures { result ≡ is_letter byte }
-{
-    match byte {
-        b'D' | b'R' | b'd' | b'r' => true,
-        _ => false,
-    }
-}
+// The kind of a diagonal set.
+const DIAGONAL_KIND: u8 = 1;
 
-// The kind that a letter names: 0 for R and r, 1 for D and d.
-pub fn kind_of(letter: u8) -> usize
-    ensures { result ≡ kind_of letter }
+// The kind that a letter names.
+fn kind_of(letter: u8) -> Option<u8>
+    ensures { Reads (is_letter letter) result (λ kind. kind ≡ kind_of letter) }
 {
     match letter {
-        b'R' | b'r' => 0,
-        _ => 1,
+        b'R' | b'r' => Some(ROW_KIND),
+        b'D' | b'd' => Some(DIAGONAL_KIND),
+        _ => None,
     }
 }
 
-// Do a comma, a letter and a comma stand at a place?
-pub fn is_set(text: &[u8], at: usize) -> bool
-    requires { at ≤ 400 }
-    ensures { result ≡ is_set (drop at text.now) }
+// The kind whose letter is at the front of a text between commas, and what follows these.
+pub fn set(text: &[u8]) -> Option<(u8, &[u8])>
+    ensures { SetReads text.now result }
 {
-    if text::byte_at(text, at) != b',' {
-        return false;
-    }
-    if !is_letter(text::byte_at(text, at + 1)) {
-        return false;
-    }
-    text::byte_at(text, at + 2) == b','
+    let (&letter, rest) = text.strip_prefix(b",")?.split_first()?;
+    Some((kind_of(letter)?, rest.strip_prefix(b",")?))
+}
+
+// What follows the line end at the front of a text, LF or CR LF.
+pub fn line_end(text: &[u8]) -> Option<&[u8]>
+    ensures { EndReads text.now result }
+{
+    text.strip_prefix(b"\n").or(text.strip_prefix(b"\r\n"))
 }

@@ -1,63 +1,42 @@
-// The numbers of a line in a text from the host, each at a place of a lent slice.
-// A number has at most three digits and a line at most 11 bytes, so no place that is read lies past
-// 400.
-ghost use Rattle.std.specs.Prelude.{◌≡◌, ◌≤◌};
-ghost use Rattle.plan_texts.specs.Form.Reading.{is_digit};
-ghost use Rattle.plan_texts.specs.NumberSays.{MadeNumber, NumberAt};
+// The number at the front of a text from the host.
+ghost use Rattle.std.specs.Prelude.{◌≡◌, leb, take, length};
+ghost use Rattle.std.specs.List.{prefix_len};
+ghost use Rattle.plan_texts.specs.Form.Reading.{is_digit, value_from};
+ghost use Rattle.plan_texts.specs.ReaderSays.{Reads, NumberReads};
 
-// The largest number of a field.
-const MAX_NUMBER: usize = 255;
+// The most digits of a number.
+const MAX_DIGITS: usize = 3;
 
-// A number in a text: whether there is one, its value, and the place after its digits.
-#[derive(Clone, Copy)]
-pub struct Number {
-    pub ok: bool,
-    pub value: usize,
-    pub next: usize,
+// How many digits are at the front, up to three.
+fn digit_count(text: &[u8]) -> usize
+    ensures { result ≡ length (take (prefix_len is_digit (take 3 text.now)) (take 3 text.now)) }
+{
+    text.iter()
+        .take(MAX_DIGITS)
+        .take_while(|byte| byte.is_ascii_digit())
+        .count()
 }
 
-// Is this byte a digit?
-fn is_digit(byte: u8) -> bool
-    ensures { result ≡ is_digit byte }
+// The value of digits, if it is at most 255.
+fn value_of(digits: &[u8]) -> Option<u8>
+    ensures { Reads (leb (value_from 0 digits.now) 255) result (λ value. value ≡ value_from 0 digits.now) }
 {
-    if byte < b'0' {
-        return false;
+    let mut value = 0u8;
+    for digit in digits {
+        value = value
+            .checked_mul(10)?
+            .checked_add(digit.saturating_sub(b'0'))?;
     }
-    byte <= b'9'
+    Some(value)
 }
 
-// A number of some digits, which has to be at most 255.
-fn number_of(value: usize, next: usize) -> Number
-    ensures { MadeNumber value next result }
+// The number at the front of a text, and what follows its digits.
+pub fn number(text: &[u8]) -> Option<(u8, &[u8])>
+    ensures { NumberReads text.now result }
 {
-    Number {
-        ok: value <= MAX_NUMBER,
-        value: value,
-        next: next,
+    let (digits, rest) = text.split_at(digit_count(text));
+    if digits.is_empty() {
+        return None;
     }
-}
-
-// The number at a place, of up to three digits.
-pub fn number_at(text: &[u8], at: usize) -> Number
-    requires { at ≤ 400 }
-    ensures { NumberAt text.now at result }
-{
-    let first = text::byte_at(text, at);
-    if !is_digit(first) {
-        return Number {
-            ok: false,
-            value: 0,
-            next: at,
-        };
-    }
-    let second = text::byte_at(text, at + 1);
-    if !is_digit(second) {
-        return number_of(text::digit(first), at + 1);
-    }
-    let two = 10 * text::digit(first) + text::digit(second);
-    let third = text::byte_at(text, at + 2);
-    if !is_digit(third) {
-        return number_of(two, at + 2);
-    }
-    number_of(10 * two + text::digit(third), at + 3)
+    Some((value_of(digits)?, rest))
 }

@@ -1,133 +1,58 @@
-// A plan as text from the host, read from a lent slice: the names line, then p lines of values,
-// each line ended by LF or CR LF.
-ghost use Rattle.std.specs.Prelude.{◌≡◌, false, ◌&&◌, ◌≤◌, take, replicate};
-ghost use Rattle.mathematics.specs.Lists.{same};
-ghost use Rattle.plan_texts.specs.Form.Reading.{names};
-ghost use Rattle.plan_texts.specs.ReaderSays.{LineAt, LinesSay, ParseSays};
+// A plan as text from the host: the names line, then p lines of values, each line ended by LF or
+// CR LF.
+ghost use Rattle.std.specs.Prelude.{◌≡◌, ◌≤◌, IfOk};
+ghost use Rattle.refusals.specs.Refused.{refused};
+ghost use Rattle.plan_texts.specs.Form.Reading.{steps_read, step_bytes};
+ghost use Rattle.plan_texts.specs.ReaderSays.{LineReads, LinesRead, ParseSays};
+ghost use Rattle.plan_texts.specs.JudgeTextSays.{text_refusal};
 
 use super::{letters, numbers};
 use judge::STEP_BYTES;
+use refusals::{Array, Refusal};
+use text::Buffer;
 
 // The bytes of the largest plan: three for each of 31 steps.
-const PLAN_BYTES: usize = 31 * STEP_BYTES;
+pub const PLAN_BYTES: usize = 31 * STEP_BYTES;
 
-// The bytes of the head line without its end.
-const HEAD_BYTES: usize = 14;
-
-// A line in a text: whether there is one, the step that it names, and the place after it.
-#[derive(Clone, Copy)]
-pub struct Line {
-    pub ok: bool,
-    pub row: usize,
-    pub kind: usize,
-    pub number: usize,
-    pub next: usize,
-}
-
-// What was read of a text: whether it is a plan's, and the plan as three bytes a step, with zeros
-// after them.
-#[derive(Clone, Copy)]
-pub struct Parsed {
-    pub ok: bool,
-    pub plan: [u8; PLAN_BYTES],
-}
-
-// Are all four parts of a line there?
-fn all_there(row: bool, set: bool, number: bool, end: bool) -> bool
-    ensures { result ≡ (row && (set && (number && end))) }
+// The step that the line at the front of a text names, and what follows the line.
+fn line(text: &[u8]) -> Option<([u8; STEP_BYTES], &[u8])>
+    ensures { LineReads text.now result }
 {
-    if !row {
-        return false;
-    }
-    if !set {
-        return false;
-    }
-    if !number {
-        return false;
-    }
-    end
+    let (row, after_row) = numbers::number(text)?;
+    let (kind, after_set) = letters::set(after_row)?;
+    let (number, after_number) = numbers::number(after_set)?;
+    let after_line = letters::line_end(after_number)?;
+    Some(([row, kind, number], after_line))
 }
 
-// The line at a place.
-fn line_at(text: &[u8], at: usize) -> Line
-    requires { at ≤ 380 }
-    ensures { LineAt text.now at result }
+// The lines of `width` steps, after which the text has to end.
+fn lines(width: usize, text: &[u8]) -> Option<Buffer<PLAN_BYTES>>
+    requires { width ≤ 31 }
+    ensures { LinesRead width text.now result }
 {
-    let row = numbers::number_at(text, at);
-    let set = row.next;
-    let number = numbers::number_at(text, set + 3);
-    let last = number.next;
-    let end = letters::end_at(text, last);
-    let ok = all_there(row.ok, letters::is_set(text, set), number.ok, 1 <= end);
-    let kind = letters::kind_of(text::byte_at(text, set + 1));
-    Line {
-        ok: ok,
-        row: row.value,
-        kind: kind,
-        number: number.value,
-        next: last + end,
+    let mut plan = Buffer::new();
+    let mut rest = text;
+    for _ in 0..width {
+        let (step, after) = line(rest)?;
+        plan.extend_from_slice(&step);
+        rest = after;
     }
+    if rest.is_empty() { Some(plan) } else { None }
 }
 
-// No plan was read.
-fn unread() -> Parsed
-    ensures { (result.ok ≡ false) × (result.plan ≡ replicate 93 0) }
-{
-    Parsed {
-        ok: false,
-        plan: [0; PLAN_BYTES],
-    }
-}
-
-// The lines of `width` steps from a place on, after which the text has to end.
-fn lines_at(width: usize, text: &[u8], at: usize) -> Parsed
-    requires { (width ≤ 31) × (at ≤ 16) }
-    ensures { LinesSay width text.now at result }
-{
-    let mut plan = [0u8; PLAN_BYTES];
-    let mut next = at;
-    let mut i = 0;
-    while i < width {
-        let line = line_at(text, next);
-        if !line.ok {
-            return unread();
-        }
-        plan[STEP_BYTES * i] = line.row as u8;
-        plan[STEP_BYTES * i + 1] = line.kind as u8;
-        plan[STEP_BYTES * i + 2] = line.number as u8;
-        next = line.next;
-        i += 1;
-    }
-    if next != text.len() {
-        return unread();
-    }
-    Parsed {
-        ok: true,
-        plan: plan,
-    }
-}
-
-// Does the text begin with the names?
-fn has_names(text: &[u8]) -> bool
-    ensures { result ≡ same (take 14 text.now) names }
-{
-    if text.len() < HEAD_BYTES {
-        return false;
-    }
-    text::is_same(&text[..HEAD_BYTES], b"row,set,number")
-}
-
-// Reads a whole text as a plan of `width` steps.
-pub fn parse(width: usize, text: &[u8]) -> Parsed
+// A whole text as the bytes of a plan of `width` steps.
+fn parse(width: usize, text: &[u8]) -> Option<Buffer<PLAN_BYTES>>
     requires { width ≤ 31 }
     ensures { ParseSays width text.now result }
 {
-    if !has_names(text) {
-        return unread();
-    }
-    let end = letters::end_at(text, HEAD_BYTES);
-    if end == 0 {
-        return unread();
-    }
-    lines_at(width, text, HEAD_BYTES + end)
+    let after_names = text.strip_prefix(b"row,set,number")?;
+    lines(width, letters::line_end(after_names)?)
+}
+
+// Reads a whole text as the bytes of a plan for an array. Refusal: 22.
+pub fn read_plan(array: Array, text: &[u8]) -> Result<Buffer<PLAN_BYTES>, Refusal>
+    ensures refusal { refused result ≡ text_refusal array.width text.now }
+    ensures plan { IfOk result (λ plan. plan ≡ step_bytes (steps_read array.width text.now)) }
+{
+    parse(array.width, text).ok_or(Refusal::BadPlanText)
 }

@@ -1,34 +1,25 @@
-// The one plain form of a plan, written into a lent slice: the names line, then a line for each
-// step.
-ghost use Rattle.std.specs.Prelude.{◌≡◌, true, ◌+◌, ◌*◌, ◌≤◌, length};
+// The one plain form of a plan: the names line, then a line for each step.
+ghost use Rattle.std.specs.Prelude.{◌≡◌, true, ◌*◌, ◌≤◌, ◌/◌, length};
 ghost use Rattle.liberation.specs.Judging.{steps_in};
-ghost use Rattle.plan_texts.specs.Form.Plain.{plain_lines, plain, writable};
-ghost use Rattle.text.specs.Writing.{Wrote};
+ghost use Rattle.plan_texts.specs.Form.Plain.{plain, writable};
 
 use judge::STEP_BYTES;
+use text::Buffer;
 
-// Puts the lines of a plan's steps, three bytes a step, and says where they end.
-fn put_lines(out: &mut [u8], at: usize, width: usize, plan: &[u8]) -> usize
-    requires { (length plan.now ≡ 3 * width) × (writable (steps_in width plan.now) ≡ true) × (at + 8 * width ≤ length out.old) }
-    ensures { Wrote out.old out.new at result (plain_lines (steps_in width plan.now)) }
+// The bytes of the room for a plan that is written as text: 15 for the names, and 8 for each of 31
+// steps.
+pub const TEXT_BYTES: usize = 263;
+
+// The plain form of a plan of three bytes a step.
+pub fn plain_form(plan: &[u8]) -> Buffer<TEXT_BYTES>
+    requires { (length plan.now ≤ 93) × (writable (steps_in (length plan.now / 3) plan.now) ≡ true) }
+    ensures { result ≡ plain (steps_in (length plan.now / 3) plan.now) }
 {
-    let mut next = at;
-    let mut i = 0;
-    while i < width {
-        let row = judge::wide(plan[STEP_BYTES * i]);
-        let kind = judge::wide(plan[STEP_BYTES * i + 1]);
-        let number = judge::wide(plan[STEP_BYTES * i + 2]);
-        next = text::put_step(out, next, row, kind, number, b'\n');
-        i += 1;
+    let mut text = Buffer::new();
+    text.extend_from_slice(b"row,set,number\n");
+    let (steps, _) = plan.as_chunks::<STEP_BYTES>();
+    for &[row, kind, number] in steps {
+        text.push_step(row, kind, number, b'\n');
     }
-    next
-}
-
-// Puts the plain form of a plan at the start of a slice, and says how long it is.
-pub fn put_plain(width: usize, plan: &[u8], out: &mut [u8]) -> usize
-    requires { (length plan.now ≡ 3 * width) × (writable (steps_in width plan.now) ≡ true) × (15 + 8 * width ≤ length out.old) }
-    ensures { Wrote out.old out.new 0 result (plain (steps_in width plan.now)) }
-{
-    let lines = text::put(out, 0, b"row,set,number\n");
-    put_lines(out, lines, width, plan)
+    text
 }

@@ -24,13 +24,13 @@ use Rattle.liberation.specs.BalancedPlan.Balanced.{balanced_routes}
 use Rattle.liberation.specs.ReliefPlan.Relief.{progression_routes}
 use Rattle.liberation.specs.FewestPlan.Fewest.{fewest_step, fewer, fewest_routes, fewest_plan}
 use Rattle.liberation.proofs.FewestPlan.FewestPlan.{fewer_first, fewer_second, fewest_data, fewest_parity}
-use Rattle.refusals.specs.Answers.{Answers}
 use Rattle.refusals.proofs.AnswerLaws.{answers_as}
 use Rattle.planner.specs.StepRecords.{Holds, held}
 use Rattle.planner.specs.declared.records.Steps.{Steps}
 use Rattle.planner.proofs.HeldLaws.{held_is}
 use Rattle.planner.specs.declared.steps.Planned.{Planned}
 use Rattle.planner.proofs.PlannedLaws.{held_as}
+use Rattle.refusals.specs.declared.array.Array.{Array}
 use Rattle.planner.specs.declared.Plan.{Plan}
 use Rattle.planner.specs.PlanSays.{Finished, GivesPlan, PlanSays}
 use Rattle.planner.specs.PlanStepsSays.{ByRoutes}
@@ -50,7 +50,7 @@ routes_held p k f rs s a h e q = held_is p (steps_of p f rs) s (accepted_length 
 pub routed_is : (p k f : ℕ) (rs : List ℕ) (q : Planned) (r : Plan) → InArray p k → f < k → length rs ≡ p → ByRoutes p f rs q → Finished p k f q r → Routed p k f rs r
 routed_is p k f rs q r a h e o d =
     record {
-      answer = subst (Answers 0) (sym d.answer) o.answer;
+      answer = d.answer;
       steps = subst (λ (x : Steps). Holds (steps_of p f rs) x) (sym d.steps) o.steps;
       routes = d.routes ∙ o.routes;
       reads = d.reads ∙ ap (read_count p k f) (routes_held p k f rs q.steps a h e o.steps);
@@ -59,6 +59,10 @@ routed_is p k f rs q r a h e o d =
 -- the same routes by another name
 pub routed_as : (p k f : ℕ) (us vs : List ℕ) (r : Plan) → us ≡ vs → Routed p k f us r → Routed p k f vs r
 routed_as p k f us vs r e d = subst (λ (x : List ℕ). Routed p k f x r) e d
+
+-- the same array by another name
+pub routed_by : (a b : Array) (f : ℕ) (rs : List ℕ) (r : Plan) → b ≡ a → Routed b.width b.disks f rs r → Routed a.width a.disks f rs r
+routed_by a b f rs r e d = subst (λ (x : Array). Routed x.width x.disks f rs r) e d
 
 -- the one of two that reads fewer
 pub routed_fewer : (p k f : ℕ) (us vs : List ℕ) (a b r : Plan) → Routed p k f us a → Routed p k f vs b → r ≡ pick (ltb b.reads a.reads) b a → Routed p k f (fewer p k f us vs) r

@@ -16,3 +16,4 @@ pub mod RelievedSteps
 pub mod FewestLaws
 pub mod RouteLaws
 pub mod PlannedLaws
+pub mod WalkLaws

@@ -7,7 +7,6 @@ use mathlib.Core.List.{List, []}
 use Prim.Native.Nat.{ℕ, ◌+◌, ◌-◌, ◌^◌, ◌≤◌, ◌<◌}
 use native.Mathlib.Omega.{arith}
 use lib.Dec.{eqb}
-use lib.ListN.{take}
 use borrow.Author.Tests.{eq-eqb, ne_eqb, lt-ltb, le-ltb}
 use Rattle.mathematics.specs.Choice.{pick}
 use Rattle.mathematics.proofs.ChoiceLaws.{pick_done}
@@ -18,8 +17,9 @@ use Rattle.liberation.specs.Judging.{accepted}
 use Rattle.liberation.proofs.PartPlans.{plan_accepted}
 use Rattle.liberation.proofs.RowSteps.{steps_of}
 use Rattle.liberation.proofs.RecordLaws.{plan_length}
-use Rattle.refusals.specs.Answers.{Answers}
-use Rattle.planner.specs.RouteRecords.{RoutesAre}
+use Rattle.refusals.specs.declared.array.Array.{Array}
+use Rattle.planner.specs.declared.routes.Routes.{Routes}
+use Rattle.planner.specs.RouteRecords.{rows_in}
 use Rattle.planner.specs.declared.records.Steps.{Steps}
 use Rattle.planner.specs.StepRecords.{Holds, held}
 use Rattle.planner.proofs.HeldLaws.{held_is}
@@ -30,28 +30,18 @@ use Rattle.planner.specs.PlanStepsSays.{GivesSteps, ByRoutes, word_by, OurPlan, 
 pub held_as : (ss ts : List Step) (s : Steps) → ss ≡ ts → Holds ss s → Holds ts s
 held_as ss ts s e h = subst (λ (x : List Step). Holds x s) e h
 
--- the word of routes in an array
-pub word_is : (p : ℕ) (rs R : List ℕ) (w : ℕ) → RoutesAre p rs R w → w ≡ word_from 0 (take p R)
-word_is p rs R w a = a.word ∙ ap (word_from 0) (sym a.routes)
-
--- A plan that is not refused, from what its record was made of.
-pub given_is : (ss : List Step) (w v : ℕ) (s : Steps) (r : Planned) → Holds ss s → w ≡ v → Answers 0 r.answer × (r.steps ≡ s) × (r.routes ≡ w) → GivesSteps ss v r
-given_is ss w v s r h e a = record { answer = a.0; steps = subst (λ (x : Steps). Holds ss x) (sym a.1) h; routes = a.2 ∙ e }
-
 -- A rule gives the routes rs of a data disk: its plan is made of them,
-pub data_given : (p k f : ℕ) (rs R : List ℕ) (w : ℕ) (ss : List Step) (r : Planned) → f < k → RoutesAre p rs R w → ss ≡ steps_of p f rs → ByRoutes p f (take p R) r → GivesSteps ss (word_by p k f rs) r
-data_given p k f rs R w ss r l a e o =
+pub data_given : (a : Array) (f : ℕ) (rs : List ℕ) (ss : List Step) (t : Routes) (r : Planned) → f < a.disks → (t.array ≡ a) × (rows_in t ≡ rs) → ss ≡ steps_of a.width f rs → ByRoutes t.array.width f (rows_in t) r → GivesSteps ss (word_by a.width a.disks f rs) r
+data_given a f rs ss t r l q e o =
     record {
-      answer = o.answer;
-      steps = held_as (steps_of p f (take p R)) ss r.steps (ap (steps_of p f) a.routes ∙ sym e) o.steps;
-      routes = o.routes ∙ ap (word_from 0) a.routes ∙ sym (ap (λ (b : Bool). pick b (word_from 0 rs) (route_word p k f)) (lt-ltb f k l));
+      steps = held_as (steps_of t.array.width f (rows_in t)) ss r.steps (ap₂ (λ (x : Array) (us : List ℕ). steps_of x.width f us) q.0 q.1 ∙ sym e) o.steps;
+      routes = o.routes ∙ ap (word_from 0) q.1 ∙ sym (ap (λ (b : Bool). pick b (word_from 0 rs) (route_word a.width a.disks f)) (lt-ltb f a.disks l));
     }
 
 -- and for P and Q it is ours.
 pub parity_given : (p k f : ℕ) (rs : List ℕ) (ss : List Step) (r : Planned) → k ≤ f → ss ≡ plan_of p k f → OurPlan p k f r → GivesSteps ss (word_by p k f rs) r
 parity_given p k f rs ss r l e o =
     record {
-      answer = o.answer;
       steps = held_as (plan_of p k f) ss r.steps (sym e) o.steps;
       routes = o.routes ∙ sym (ap (λ (b : Bool). pick b (word_from 0 rs) (route_word p k f)) (le-ltb f k l));
     }
@@ -61,7 +51,6 @@ pub ours_given : (p k f : ℕ) (r : Planned) → GivesSteps (plan_of p k f) (wor
 unfolding route_word
 ours_given p k f r o l =
     record {
-      answer = o.answer;
       steps = o.steps;
       routes = o.routes ∙ ap (λ (b : Bool). pick b (word_from 0 (routes p f)) (route_word p k f)) (lt-ltb f k l) ∙ sym (ap (λ (b : Bool). pick b (word_from 0 (routes p f)) (pick (eqb f k) 0 (2 ^ p - 1))) (lt-ltb f k l));
     }

@@ -16,7 +16,7 @@ use Rattle.liberation.proofs.ReadLaws.{marks_count}
 use Rattle.liberation.proofs.UsedLaws.{named_numbers}
 use Rattle.liberation.proofs.AcceptedLaws.{accepted_named}
 use Rattle.liberation.proofs.PartPlans.{plan_accepted}
-use Rattle.refusals.specs.declared.Answer.{Answer}
+use Rattle.refusals.specs.declared.answer.Answer.{Answer}
 use Rattle.refusals.proofs.AnswerLaws.{answers_none}
 use Rattle.planner.specs.declared.Plan.{Plan}
 use Rattle.planner.specs.PlanSays.{PlanSays}

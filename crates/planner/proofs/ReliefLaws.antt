@@ -1,34 +1,27 @@
 -- The relief plan of a data disk in a record; what its refusals leave, and what a record that holds
 -- it has as its steps.
-use mathlib.Core.Path.{◌≡◌, sym, ap, ◌∙◌}
-use mathlib.Core.Bool.{Bool, true}
+use mathlib.Core.Path.{◌≡◌, ap, ◌∙◌}
+use mathlib.Core.Bool.{true}
 use mathlib.Core.Logic.{⊎_elim}
 use Prim.Native.Nat.{ℕ, ◌+◌, ◌≤◌, ◌<◌}
 use lib.Dec.{eqb, leb}
-use borrow.Author.Tests.{lt-ltb, leb-false, eqb-false}
-use Rattle.mathematics.specs.Choice.{pick, when, first_of}
+use borrow.Author.Tests.{leb-false, eqb-false}
+use Rattle.mathematics.specs.Choice.{when, first_of}
 use Rattle.mathematics.proofs.ChoiceLaws.{first_none, when_none}
 use Rattle.mathematics.proofs.OrderLaws.{lt_or_le}
 use Rattle.liberation.specs.Limits.{InArray}
 use Rattle.liberation.specs.Sets.{plan_refusal}
-use Rattle.liberation.specs.Plans.{word_from, route_word}
 use Rattle.liberation.specs.Judging.{accepted}
 use Rattle.liberation.proofs.RefusalLaws.{plan_of_lem}
 use Rattle.liberation.proofs.AcceptedLaws.{accepted_length}
 use Rattle.liberation.proofs.PartPlans.{plan_accepted}
-use Rattle.liberation.specs.ReliefPlan.Relief.{relief_step, relief_routes, relief_plan}
+use Rattle.liberation.specs.ReliefPlan.Relief.{relief_step, relief_plan}
 use Rattle.liberation.proofs.ReliefPlan.ProgressionPlan.{progression_parity}
 use Rattle.liberation.proofs.ReliefPlan.ReliefPlan.{plans_relief}
 use Rattle.planner.specs.StepRecords.{Holds, held}
 use Rattle.planner.specs.declared.records.Steps.{Steps}
 use Rattle.planner.proofs.HeldLaws.{held_is}
-use Rattle.planner.specs.declared.steps.Planned.{Planned}
-use Rattle.planner.specs.ReliefStepsSays.{ReliefPlanned}
-use Rattle.planner.specs.ReliefPlanSays.{relief_refusal, ReliefGiven}
-
--- a data disk
-pub data_given : (p k f c : ℕ) (r : Planned) → f < k → ReliefPlanned p k f c r → ReliefGiven p k f c r
-data_given p k f c r l o = record { answer = o.answer; steps = o.steps; routes = o.routes ∙ sym (ap (λ (b : Bool). pick b (word_from 0 (relief_routes p f c)) (route_word p k f)) (lt-ltb f k l)) }
+use Rattle.planner.specs.ReliefPlanSays.{relief_refusal}
 
 -- none of the refusals
 pub record Passed (p k f c : ℕ) : Type 0 where

@@ -2,7 +2,7 @@
 use mathlib.Core.Path.{◌≡◌, refl, sym, ap, ap₂, ◌∙◌}
 use mathlib.Core.Bool.{Bool, true, false}
 use Prim.Native.Nat.{ℕ, ◌+◌, ◌-◌, ◌*◌, ◌/◌, ◌%◌, ◌≤◌, ◌<◌}
-use native.Mathlib.Nat.{mod-lt, mod-eq_of_lt, mod-add-mod, mul-le-mul_left}
+use native.Mathlib.Nat.{mod-eq_of_lt, mod-add-mod, mul-le-mul_left}
 use native.Mathlib.Numerals.{add-one}
 use native.Mathlib.Omega.{arith}
 use lib.Dec.{ltb, leb}
@@ -34,9 +34,6 @@ pub summed_none : (p k f g : ℕ) → f < p → Summed p k f g 0 f 0
 summed_none p k f g h =
     let still : f + g * 0 ≡ f = omega arith in
     record { few = omega arith; at = sym (ap (λ (x : ℕ). x % p) still ∙ mod-eq_of_lt h); so_far = sym (sum_zero _); small = omega arith }
-
-pub summed_below : (p k f g x disk sum : ℕ) → f < p → Summed p k f g x disk sum → disk < p
-summed_below p k f g x disk sum h u = omega (arith, u.at, mod-lt (f + g * x) {m = p} (omega arith))
 
 pub summed_next : (p k f g x disk sum d next : ℕ) → x < p → Summed p k f g x disk sum → d ≡ when (ltb disk k) (distance p x) → next ≡ (disk + g) % p → Summed p k f g (x + 1) next (sum + d)
 summed_next p k f g x disk sum d next l u e q =

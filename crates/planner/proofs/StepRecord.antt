@@ -1,8 +1,8 @@
 -- Steps put into the record one by one, and the definition's list of steps taken row by row.
-use mathlib.Core.Path.{◌≡◌, refl, sym, ap, subst, ◌∙◌}
+use mathlib.Core.Path.{◌≡◌, sym, ap, subst, ◌∙◌}
 use mathlib.Core.Bool.{Bool}
 use mathlib.Core.List.{List, [], ◌∷◌, ◌++◌, append_assoc, append-nil}
-use Prim.Native.Nat.{ℕ, zero, suc, ◌+◌, ◌-◌, ◌≤◌, ◌<◌}
+use Prim.Native.Nat.{ℕ, suc, ◌+◌, ◌-◌, ◌≤◌, ◌<◌}
 use native.Mathlib.Numerals.{add-one}
 use native.Mathlib.Omega.{arith}
 use lib.ListN.{length, get_or, drop, set, replicate, length-append, drop_of_length-le}
@@ -10,9 +10,12 @@ use lib.Seq.{drop-cons, set_at}
 use borrow.Author.Tests.{eq-eqb, ne_eqb}
 use Rattle.mathematics.specs.Choice.{pick}
 use Rattle.liberation.specs.Plans.{Step, step, diagonal_of, row_steps, diagonal_steps, all_of}
-use Rattle.planner.specs.StepRecords.{Counts}
-use Rattle.liberation.specs.Records.{listed, padded}
-use Rattle.liberation.proofs.RecordLaws.{listed_append, length_listed}
+use Rattle.liberation.specs.Records.{listed, padded, recorded}
+use Rattle.liberation.proofs.RecordLaws.{listed_append, length_listed, length_recorded}
+use Rattle.liberation.proofs.RowSteps.{steps_long}
+use Rattle.planner.specs.declared.records.Steps.{Steps}
+use Rattle.planner.specs.StepRecords.{Holds, Counts}
+use Rattle.planner.proofs.HeldLaws.{held_is}
 
 -- the first zero after a list becomes its next element
 padded_more : (xs : List ℕ) (at v : ℕ) → at ≡ length xs → at < 31 → set (padded xs) at v ≡ padded (xs ++ (v ∷ []))
@@ -39,42 +42,40 @@ counts_more st ss rows kinds numbers count h k =
       count = ap (λ (n : ℕ). n + 1) k.count ∙ sym (length-append ss (st ∷ []));
     }
 
--- a zero written over a zero
-pub zero_again : (n i : ℕ) → set {A = ℕ} (replicate n 0) i 0 ≡ replicate n 0
-zero_again zero i = refl
-zero_again (suc n) zero = refl
-zero_again (suc n) (suc i) = ap (λ (l : List ℕ). 0 ∷ l) (zero_again n i)
+-- one step more in a record of steps, and what it has then
+counts_is : (n : ℕ) (s : Steps) → Holds (recorded n 0 s.rows s.kinds s.numbers) s → Counts (recorded n 0 s.rows s.kinds s.numbers) s.rows s.kinds s.numbers n
+counts_is n s h = record { rows = h.rows; kinds = h.kinds; numbers = h.numbers; count = sym (length_recorded n 0 s.rows s.kinds s.numbers) }
 
--- A loop that puts the steps `whole` into the arrays: those so far are there, the rest is still to
--- come.
-pub record Collected (whole rest : List Step) (rows kinds numbers : List ℕ) (count : ℕ) : Type 0 where
-  pub steps : List Step
-  pub held : Counts steps rows kinds numbers count
-  pub joined : steps ++ rest ≡ whole
+pub steps_more : (n : ℕ) (st : Step) (s t : Steps) → n < 31 → t ≡ record { rows = set s.rows n st.row; kinds = set s.kinds n st.kind; numbers = set s.numbers n st.number } → Holds (recorded n 0 s.rows s.kinds s.numbers) s → recorded (n + 1) 0 t.rows t.kinds t.numbers ≡ recorded n 0 s.rows s.kinds s.numbers ++ (st ∷ [])
+steps_more n st s t h e k =
+    let ss : List Step = recorded n 0 s.rows s.kinds s.numbers in
+    let c = counts_more st ss s.rows s.kinds s.numbers n h (counts_is n s k) in
+    let q : Holds (ss ++ (st ∷ [])) t = rw e (record { rows = c.rows; kinds = c.kinds; numbers = c.numbers }) in
+    held_is (n + 1) (ss ++ (st ∷ [])) t (sym c.count) q
 
-pub collect_start : (whole : List Step) → Collected whole whole (replicate 31 0) (replicate 31 0) (replicate 31 0) 0
-collect_start whole = record { steps = []; held = record { rows = refl; kinds = refl; numbers = refl; count = refl }; joined = refl }
+pub holds_more : (n : ℕ) (st : Step) (s t : Steps) → n < 31 → t ≡ record { rows = set s.rows n st.row; kinds = set s.kinds n st.kind; numbers = set s.numbers n st.number } → Holds (recorded n 0 s.rows s.kinds s.numbers) s → Holds (recorded (n + 1) 0 t.rows t.kinds t.numbers) t
+holds_more n st s t h e k =
+    let ss : List Step = recorded n 0 s.rows s.kinds s.numbers in
+    let c = counts_more st ss s.rows s.kinds s.numbers n h (counts_is n s k) in
+    subst (λ (x : List Step). Holds x t) (sym (steps_more n st s t h e k)) (rw e (record { rows = c.rows; kinds = c.kinds; numbers = c.numbers }))
 
-pub collect_push : (whole rest all : List Step) (st : Step) (rows kinds numbers : List ℕ) (count : ℕ) → all ≡ st ∷ rest → count < 31 → Collected whole all rows kinds numbers count
-    → Collected whole rest (set rows count st.row) (set kinds count st.kind) (set numbers count st.number) (count + 1)
-collect_push whole rest all st rows kinds numbers count e h k =
-    record {
-      steps = k.steps ++ (st ∷ []);
-      held = counts_more st k.steps rows kinds numbers count h k.held;
-      joined = append_assoc k.steps (st ∷ []) rest ∙ ap (λ (l : List Step). k.steps ++ l) (sym e) ∙ k.joined;
-    }
-
-pub collect_skip : (whole rest all : List Step) (rows kinds numbers : List ℕ) (count : ℕ) → all ≡ rest → Collected whole all rows kinds numbers count → Collected whole rest rows kinds numbers count
-collect_skip whole rest all rows kinds numbers count e k = record { steps = k.steps; held = k.held; joined = ap (λ (l : List Step). k.steps ++ l) (sym e) ∙ k.joined }
-
-pub collect_end : (whole rest : List Step) (rows kinds numbers : List ℕ) (count : ℕ) → rest ≡ [] → Collected whole rest rows kinds numbers count → Counts whole rows kinds numbers count
-collect_end whole rest rows kinds numbers count e k =
-    subst (λ (l : List Step). Counts l rows kinds numbers count) (sym (append-nil k.steps) ∙ ap (λ (l : List Step). k.steps ++ l) (sym e) ∙ k.joined) k.held
+-- A loop that puts the steps `whole`: those so far, and the rest that is still to come.
+pub push : (done : List Step) {whole more rest all : List Step} (st : Step) → all ≡ st ∷ rest → done ++ all ≡ whole → more ≡ done ++ (st ∷ []) → more ++ rest ≡ whole
+push done {rest = rest} st e q m = ap (λ (l : List Step). l ++ rest) m ∙ append_assoc done (st ∷ []) rest ∙ ap (λ (l : List Step). done ++ l) (sym e) ∙ q
 
 -- there is room for a step that is still to come
-pub collect_room : (whole rest all : List Step) (st : Step) (rows kinds numbers : List ℕ) (count : ℕ) → all ≡ st ∷ rest → length whole ≤ 31 → Collected whole all rows kinds numbers count → count < 31
-collect_room whole rest all st rows kinds numbers count e h k =
-    omega (arith, k.held.count, length-append k.steps all, ap (λ (l : List Step). length l) k.joined, ap (λ (l : List Step). length l) e)
+pub room : (done all : List Step) {whole rest : List Step} {st : Step} → all ≡ st ∷ rest → done ++ all ≡ whole → length whole ≤ 31 → length done < 31
+room done all e q h = omega (arith, ap length q, length-append done all, ap length e, h)
+
+pub over : (done : List Step) {whole all : List Step} → all ≡ [] → done ++ all ≡ whole → done ≡ whole
+over done e q = sym (append-nil done) ∙ ap (λ (l : List Step). done ++ l) (sym e) ∙ q
+
+-- the row sets are at most as many as the rows, and with the diagonals just as many
+pub rows_many : (rs : List ℕ) → length (row_steps 0 rs) ≤ length rs
+rows_many rs = omega (arith, steps_long 0 0 0 rs)
+
+pub steps_many : (p f : ℕ) (rs : List ℕ) → length (row_steps 0 rs ++ diagonal_steps p f 0 rs) ≡ length rs
+steps_many p f rs = omega (arith, length-append (row_steps 0 rs) (diagonal_steps p f 0 rs), steps_long p f 0 rs)
 
 -- the definition's steps, from row j on
 pub row_some : (j : ℕ) (rs : List ℕ) → j < length rs → (get_or rs j 0 ≡ 2 → ⊥) → row_steps j (drop j rs) ≡ step j 0 j ∷ row_steps (j + 1) (drop (j + 1) rs)

@@ -1,5 +1,4 @@
--- The balanced plan for disk f of an array with k data disks, in a record, not refused. p is the
--- width.
+-- The balanced plan for disk f of an array with k data disks, in a record. p is the width.
 use Rattle.std.specs.Prelude.{ℕ, ltb}
 use Rattle.mathematics.specs.Choice.{pick}
 use Rattle.liberation.specs.Plans.{word_from, route_word}

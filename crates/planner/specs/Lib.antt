@@ -1,7 +1,6 @@
 -- What the planner promises: our plan, its steps and its read list, the balanced, the relief and
 -- the fewest plan, and their records of routes and steps.
 pub mod PlanSays
-pub mod ReliefStepsSays
 pub mod ReadListSays
 pub mod StepRecords
 pub mod SquareRoutes
@@ -11,3 +10,7 @@ pub mod FewestPlanSays
 pub mod BalancedStepsSays
 pub mod RouteRecords
 pub mod PlanStepsSays
+pub mod Route
+pub mod Walks
+pub mod StepLists
+pub mod PlanResults

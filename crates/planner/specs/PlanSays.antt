@@ -1,4 +1,4 @@
--- Plan records: a plan with its reads counted, a refusal, and the promise of a planner, for
+-- Plan records: a plan with its reads counted, and the promise of a planner, for
 -- accepted and refused calls alike. p is the width, k the number of data disks, f the lost disk.
 use Rattle.std.specs.Prelude.{◌≡◌, List, [], ℕ, eqb}
 use Rattle.mathematics.specs.Choice.{pick}
@@ -11,17 +11,10 @@ use Rattle.planner.specs.declared.Plan.{Plan}
 
 -- plan q with its reads counted
 pub record Finished (p k f : ℕ) (q : Planned) (r : Plan) : Type 0 where
-  pub answer : r.answer ≡ q.answer
+  pub answer : Answers 0 r.answer
   pub steps : r.steps ≡ q.steps
   pub routes : r.routes ≡ q.routes
   pub reads : r.reads ≡ read_count p k f (held p q.steps)
-
--- a refusal by number n
-pub record NoPlan (n : ℕ) (r : Plan) : Type 0 where
-  pub answer : Answers n r.answer
-  pub steps : Holds [] r.steps
-  pub routes : r.routes ≡ 0
-  pub reads : r.reads ≡ 0
 
 -- a planner that refuses by n, 0 for none: else the plan ss, whose route word is w, with its read
 -- count

@@ -5,13 +5,11 @@ use Rattle.std.specs.Prelude.{◌≡◌, List, [], ◌++◌, ℕ, eqb, ltb}
 use Rattle.mathematics.specs.Choice.{pick}
 use Rattle.liberation.specs.Sets.{plan_refusal}
 use Rattle.liberation.specs.Plans.{Step, row_steps, diagonal_steps, plan_of, word_from, route_word}
-use Rattle.refusals.specs.Answers.{Answers}
 use Rattle.planner.specs.StepRecords.{Holds}
 use Rattle.planner.specs.declared.steps.Planned.{Planned}
 
--- the plan ss, whose route word is w, not refused
+-- the plan ss, whose route word is w
 pub record GivesSteps (ss : List Step) (w : ℕ) (r : Planned) : Type 0 where
-  pub answer : Answers 0 r.answer
   pub steps : Holds ss r.steps
   pub routes : r.routes ≡ w
 

@@ -4,7 +4,7 @@ use Rattle.std.specs.Prelude.{◌≡◌, List, ℕ, ◌+◌, ◌*◌, eqb}
 use Rattle.mathematics.specs.Choice.{pick, first_of}
 use Rattle.liberation.specs.Sets.{plan_refusal, long_refusal}
 use Rattle.liberation.specs.Plans.{read_list}
-use Rattle.refusals.specs.declared.Answer.{Answer}
+use Rattle.refusals.specs.declared.answer.Answer.{Answer}
 use Rattle.refusals.specs.Answers.{Answers}
 
 -- the read list refuses by 1, 13, 3 and 5

@@ -19,7 +19,7 @@ relief_refusal p k f c = first_of (plan_refusal p k f) (first_of (when (leb k c)
 abbrev pub relief_word : ℕ → ℕ → ℕ → ℕ → ℕ
 relief_word p k f c = pick (ltb f k) (word_from 0 (relief_routes p f c)) (route_word p k f)
 
--- the plan in a record, not refused
+-- the plan in a record
 abbrev pub ReliefGiven : ℕ → ℕ → ℕ → ℕ → Planned → Type 0
 ReliefGiven p k f c r = GivesSteps (relief_plan p k f c) (relief_word p k f c) r
 

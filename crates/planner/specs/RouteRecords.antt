@@ -1,10 +1,13 @@
--- Routes in an array, with their word: "The routes are also given as one 32-bit word, bit i set if
--- row i takes a diagonal".
-use Rattle.std.specs.Prelude.{◌≡◌, List, ℕ, length, take}
-use Rattle.liberation.specs.Plans.{word_from}
+-- Routes in an array, by the numbers of the definitions.
+use Rattle.std.specs.Prelude.{◌≡◌, List, ℕ, take, map}
+use Rattle.planner.specs.declared.routes.Routes.{Routes}
+use Rattle.planner.specs.Route.{route_number}
 
--- the routes rs of p rows in an array of 31 places, and their word
-pub record RoutesAre (p : ℕ) (rs R : List ℕ) (w : ℕ) : Type 0 where
-  pub long : length R ≡ 31
-  pub routes : take p R ≡ rs
-  pub word : w ≡ word_from 0 rs
+-- the routes of the array's rows
+abbrev pub rows_in : Routes → List ℕ
+rows_in r = take r.array.width (map route_number r.routes)
+
+-- routes of the same array that are rs
+pub record Becomes (old new : Routes) (rs : List ℕ) : Type 0 where
+  pub array : new.array ≡ old.array
+  pub rows : rows_in new ≡ rs

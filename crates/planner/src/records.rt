@@ -1,17 +1,16 @@
-// The steps of a plan in a record of three arrays: those of a data disk by its routes, all sets of
-// one kind for a parity disk, or none.
-ghost use Rattle.std.specs.Prelude.{◌≡◌, [], ◌++◌, ◌≤◌, ◌<◌, length, take, replicate};
+// The steps of a plan in a record of three arrays: those of a data disk by its routes, or all sets
+// of one kind for a parity disk.
+ghost use Rattle.std.specs.Prelude.{◌≡◌, ℕ, ◌++◌, [], ◌<◌, get_or};
 ghost use Rattle.liberation.specs.Plans.{row_steps, diagonal_steps, all_of};
-ghost use Rattle.planner.specs.StepRecords.{Holds, Counts};
+ghost use Rattle.parity_sets.specs.ParitySets.{kind_of, number_of, parity_set};
+ghost use Rattle.planner.specs.RouteRecords.{rows_in};
+ghost use Rattle.planner.specs.StepRecords.{Holds};
+ghost use Rattle.planner.specs.StepLists.{steps_put};
 
-use super::routes::BY_DIAGONAL;
-use parity_sets::{DIAGONAL_SET, MAX_WIDTH, ROW_SET};
-
-// The kind of a row set as a step's byte.
-pub const ROW_KIND: u8 = ROW_SET as u8;
-
-// The kind of a diagonal set as a step's byte.
-pub const DIAGONAL_KIND: u8 = DIAGONAL_SET as u8;
+use super::routes::Routes;
+use super::step_list::StepList;
+use parity_sets::{MAX_WIDTH, ParitySet};
+use refusals::Array;
 
 // The steps of a plan, each with its row, its kind and its set number, in 31 places; zeros after
 // the last.
@@ -23,108 +22,74 @@ pub struct Steps {
     pub numbers: [u8; MAX_WIDTH],
 }
 
-// Writes the row-set steps, rows upward, into zeros, and returns how many; their kinds are zeros.
-fn row_steps(
-    width: usize,
-    routes: &[u8; MAX_WIDTH],
-    rows: &mut [u8; MAX_WIDTH],
-    numbers: &mut [u8; MAX_WIDTH],
-) -> usize
-    requires { (width ≤ 31) × (length routes.now ≡ 31) × (rows.old ≡ replicate 31 0) × (numbers.old ≡ replicate 31 0) }
-    ensures { Counts (row_steps 0 (take width routes.now)) rows.new (replicate 31 0) numbers.new result }
-{
-    let mut count = 0;
-    let mut row = 0;
-    while row < width {
-        if routes[row] != BY_DIAGONAL {
-            rows[count] = row as u8;
-            numbers[count] = row as u8;
-            count += 1;
+impl Steps {
+    // No steps.
+    pub fn none() -> Steps
+        ensures { Holds [] result }
+    {
+        Steps {
+            rows: [0; MAX_WIDTH],
+            kinds: [0; MAX_WIDTH],
+            numbers: [0; MAX_WIDTH],
         }
-        row += 1;
     }
-    count
+
+    // The set of the step at a place.
+    pub fn set(&self, place: usize) -> ParitySet
+        requires { place < 31 }
+        ensures { result ≡ parity_set (get_or self.now.kinds place 0) (get_or self.now.numbers place 0) }
+    {
+        ParitySet::of_step(self.kinds[place], self.numbers[place])
+    }
 }
 
-// Then the diagonal steps, rows upward, after the `first` that are there.
-fn diagonal_steps(
-    width: usize,
-    disk: usize,
-    routes: &[u8; MAX_WIDTH],
-    rows: &mut [u8; MAX_WIDTH],
-    kinds: &mut [u8; MAX_WIDTH],
-    numbers: &mut [u8; MAX_WIDTH],
-    first: usize,
-)
-    requires { (width ≤ 31) × (disk < width) × (length routes.now ≡ 31) × Counts (row_steps 0 (take width routes.now)) rows.old kinds.old numbers.old first }
-    ensures { Counts (row_steps 0 (take width routes.now) ++ diagonal_steps width disk 0 (take width routes.now)) rows.new kinds.new numbers.new width }
+// The row-set steps by the routes, rows upward.
+fn put_rows(routes: &Routes, list: &mut StepList)
+    requires { steps_put list.old ≡ [] }
+    ensures { steps_put list.new ≡ row_steps 0 (rows_in routes.now) }
 {
-    let mut count = first;
-    let mut row = 0;
-    while row < width {
-        let number = parity_sets::diagonal_of(width, disk, row);
-        if routes[row] == BY_DIAGONAL {
-            rows[count] = row as u8;
-            kinds[count] = DIAGONAL_KIND;
-            numbers[count] = number as u8;
-            count += 1;
+    let array = routes.array();
+    for row in 0..array.width {
+        if !routes.takes_diagonal(row) {
+            list.push(row, ParitySet::Row(row));
         }
-        row += 1;
+    }
+}
+
+// Then the diagonal steps, rows upward.
+fn put_diagonals(routes: &Routes, disk: usize, list: &mut StepList)
+    requires { (disk < routes.now.array.width) × (steps_put list.old ≡ row_steps 0 (rows_in routes.now)) }
+    ensures { steps_put list.new ≡ row_steps 0 (rows_in routes.now) ++ diagonal_steps routes.now.array.width disk 0 (rows_in routes.now) }
+{
+    let array = routes.array();
+    for row in 0..array.width {
+        if routes.takes_diagonal(row) {
+            let number = parity_sets::diagonal_of(array, disk, row);
+            list.push(row, ParitySet::Diagonal(number));
+        }
     }
 }
 
 // The steps for a data disk, after its routes.
-pub fn data_steps(width: usize, disk: usize, routes: [u8; MAX_WIDTH]) -> Steps
-    requires { (width ≤ 31) × (disk < width) }
-    ensures { Holds (row_steps 0 (take width routes) ++ diagonal_steps width disk 0 (take width routes)) result }
+pub fn data_steps(routes: &Routes, disk: usize) -> Steps
+    requires { disk < routes.now.array.width }
+    ensures { Holds (row_steps 0 (rows_in routes.now) ++ diagonal_steps routes.now.array.width disk 0 (rows_in routes.now)) result }
 {
-    let mut rows = [0u8; MAX_WIDTH];
-    let mut kinds = [0u8; MAX_WIDTH];
-    let mut numbers = [0u8; MAX_WIDTH];
-    let first = row_steps(width, &routes, &mut rows, &mut numbers);
-    diagonal_steps(
-        width,
-        disk,
-        &routes,
-        &mut rows,
-        &mut kinds,
-        &mut numbers,
-        first,
-    );
-    Steps {
-        rows: rows,
-        kinds: kinds,
-        numbers: numbers,
-    }
+    let mut list = StepList::new();
+    put_rows(routes, &mut list);
+    put_diagonals(routes, disk, &mut list);
+    list.steps
 }
 
 // All sets of one kind, upward.
-pub fn all_steps(width: usize, kind: u8) -> Steps
-    requires { width ≤ 31 }
-    ensures { Holds (all_of width kind 0) result }
+pub fn all_steps<F: Fn(usize) -> ParitySet>(array: Array, set: F) -> Steps
+    requires callable { (n : ℕ) → n < array.width → F.pre set n }
+    requires numbered { (n : ℕ) → (s : _) → n < array.width → F.post set n s → number_of s ≡ n }
+    ensures { (t : ℕ) → ((n : ℕ) → (s : _) → n < array.width → F.post set n s → kind_of s ≡ t) → Holds (all_of array.width t 0) result }
 {
-    let mut rows = [0u8; MAX_WIDTH];
-    let mut kinds = [0u8; MAX_WIDTH];
-    let mut row = 0;
-    while row < width {
-        rows[row] = row as u8;
-        kinds[row] = kind;
-        row += 1;
+    let mut list = StepList::new();
+    for row in 0..array.width {
+        list.push(row, set(row));
     }
-    Steps {
-        rows: rows,
-        kinds: kinds,
-        numbers: rows,
-    }
-}
-
-// No steps.
-pub fn no_steps() -> Steps
-    ensures { Holds [] result }
-{
-    Steps {
-        rows: [0; MAX_WIDTH],
-        kinds: [0; MAX_WIDTH],
-        numbers: [0; MAX_WIDTH],
-    }
+    list.steps
 }

@@ -7,7 +7,8 @@ use mathlib.Core.List.{List, [], ◌∷◌, ◌++◌}
 use mathlib.Core.Logic.{⊎_elim}
 use Prim.Native.Nat.{ℕ, ◌+◌, ◌-◌, ◌*◌, ◌/◌, ◌%◌, ◌≤◌, ◌<◌}
 use native.Mathlib.Omega.{arith}
-use lib.Dec.{ltb}
+use lib.Dec.{eqb, ltb}
+use lib.Pointwise.{pointwise}
 use lib.ListN.{length, drop, length-append}
 use borrow.Author.Tests.{lt-ltb, le-ltb, ltb-true, eq-eqb, ne_eqb}
 use Rattle.mathematics.specs.Choice.{pick}
@@ -16,6 +17,7 @@ use Rattle.mathematics.proofs.Flags.{and_l, and_r, and_i, flag}
 use Rattle.mathematics.proofs.OrderLaws.{lt_or_le}
 use Rattle.mathematics.proofs.MemberLaws.{same_true, same_self}
 use Rattle.text.specs.Digits.{digits_of}
+use Rattle.text.proofs.CompareLaws.{compared}
 use Rattle.text.proofs.DigitLaws.{one_digit, two_digits}
 use Rattle.text.proofs.FieldLaws.{field_most}
 use Rattle.printed_plan.specs.Input.{names_line, input_of, value_to, first_value, after_first, second_value, is_form}
@@ -30,10 +32,12 @@ pub no_form_second : (t : List ℕ) → 100 ≤ second_value t → is_form t ≡
 unfolding is_form
 no_form_second t h = ap (λ (b : Bool). ltb (first_value t) 100 && (b && same t (input_of (first_value t) (second_value t)))) (le-ltb (second_value t) 100 h) ∙ and-false (ltb (first_value t) 100)
 
-pub form_same : (t x : List ℕ) (r : Bool) → first_value t < 100 → second_value t < 100 → x ≡ input_of (first_value t) (second_value t) → r ≡ same t x → r ≡ is_form t
+pub form_compared : (t x : List ℕ) (f s : ℕ) (b : Bool) → f ≡ first_value t → s ≡ second_value t → f < 100 → s < 100 → x ≡ input_of f s → b ≡ pointwise eqb t x → is_form t ≡ b
 unfolding is_form
-form_same t x r h k e q =
-    q ∙ ap (same t) e ∙ sym (ap₂ (λ (a b : Bool). a && (b && same t (input_of (first_value t) (second_value t)))) (lt-ltb (first_value t) 100 h) (lt-ltb (second_value t) 100 k))
+form_compared t x f s b e q h k r c =
+    ap₂ (λ (a b : Bool). a && (b && same t (input_of (first_value t) (second_value t)))) (lt-ltb (first_value t) 100 (omega (arith, e))) (lt-ltb (second_value t) 100 (omega (arith, q)))
+    ∙ ap (same t) (sym (r ∙ ap₂ input_of e q))
+    ∙ sym (c ∙ compared t x)
 
 -- a number is read back from its digits, if the byte after it is none
 value_back : (stop n : ℕ) (rest : List ℕ) → n < 100 → stop < 48 → value_to stop (digits_of n ++ (stop ∷ rest)) ≡ n

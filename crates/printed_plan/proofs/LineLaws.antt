@@ -1,6 +1,6 @@
 -- The loop that prints the steps of our plan: after i of them their lines are written and their
 -- cells marked, and with the lines still to come that is the whole text.
-use mathlib.Core.Path.{◌≡◌, refl, sym, ap, ◌∙◌}
+use mathlib.Core.Path.{◌≡◌, refl, sym, ap, subst, ◌∙◌}
 use mathlib.Core.Bool.{true}
 use mathlib.Core.List.{List, [], ◌++◌, append_assoc, append-nil}
 use Prim.Native.Nat.{ℕ, suc, ◌+◌, ◌-◌, ◌*◌, ◌≤◌, ◌<◌}
@@ -12,13 +12,14 @@ use Rattle.liberation.specs.Sets.{is_width, set_of, surviving_in}
 use Rattle.liberation.specs.Plans.{Step, plan_of, marks_from}
 use Rattle.liberation.proofs.SetLaws.{survivors_below}
 use Rattle.parity_sets.specs.Marks.{Marked}
+use Rattle.parity_sets.specs.declared.set.ParitySet.{ParitySet}
+use Rattle.parity_sets.specs.ParitySets.{cells_of, parity_set}
+use Rattle.planner.proofs.MarkingLoop.{cells_named}
 use Rattle.parity_sets.proofs.MarkLaws.{marked_read}
 use Rattle.planner.specs.declared.records.Steps.{Steps}
 use Rattle.planner.specs.StepRecords.{Holds}
 use Rattle.liberation.proofs.RecordLaws.{StepAt, step_at_lem, plan_length, plan_passed, plan_number}
-use Rattle.printed_plan.specs.Text.{line_of, new_from, lines_from}
-use Rattle.text.specs.Writing.{Wrote}
-use Rattle.text.proofs.WriteLaws.{wrote_none, wrote_more}
+use Rattle.printed_plan.specs.Text.{head_line, line_of, new_from, lines_from, plan_text}
 use Rattle.printed_plan.proofs.TextLaws.{line_most}
 
 -- Step i of our plan, and where the plan record has its numbers.
@@ -44,18 +45,22 @@ plan_step p f i r w h k l =
     a : StepAt (plan_of p p f) i
     a = step_at_lem (plan_of p p f) i (omega (arith, plan_length p p f w (omega arith) h))
 
--- o becomes o', written from place `at` to place r; the marks are m; i steps are printed
-pub record Printing (p f : ℕ) (ss : List Step) (o o' m : List ℕ) (at r i : ℕ) : Type 0 where
-  pub text : List ℕ
-  pub cells : List ℕ
-  pub wrote : Wrote o o' at r text
-  pub few : length text ≤ 14 * i
-  pub marks : m ≡ marks_from (p * (p + 2)) 0 cells
-  pub rest : text ++ lines_from i (drop i ss) (new_from p f cells (drop i ss)) ≡ lines_from 0 ss (new_from p f [] ss)
+-- the cells of the set that the record has at a place are those of the step
+pub marked_step : (p k f kind number a b : ℕ) {s : ParitySet} {m m' : List ℕ} {r : ℕ} → s ≡ parity_set kind number → k ≡ p → kind ≡ a → number ≡ b → Marked m m' (surviving_in p f (cells_of p k s)) r → Marked m m' (surviving_in p f (set_of p p a b)) r
+marked_step p k f kind number a b {s} {m} {m'} {r} e q x y d = subst (λ (xs : List ℕ). Marked m m' (surviving_in p f xs) r) (ap (cells_of p k) e ∙ cells_named p k kind number ∙ same) d
+  where
+    same : set_of p k kind number ≡ set_of p p a b
+    same = rw (q, x, y) refl
 
-pub printing_start : {p f : ℕ} {ss : List Step} {o m : List ℕ} {at : ℕ} → at ≤ length o → m ≡ marks_from (p * (p + 2)) 0 [] → Printing p f ss o o m at at 0
-printing_start {p} {o = o} {at = at} h e =
-    record { text = []; cells = []; wrote = wrote_none o at h; few = omega arith; marks = e; rest = refl }
+-- After i steps the text is t and the marks are m.
+pub record Printing (p f : ℕ) (ss : List Step) (t m : List ℕ) (i : ℕ) : Type 0 where
+  pub cells : List ℕ
+  pub few : length t ≤ 24 + 14 * i
+  pub marks : m ≡ marks_from (p * (p + 2)) 0 cells
+  pub rest : t ++ lines_from i (drop i ss) (new_from p f cells (drop i ss)) ≡ head_line ++ lines_from 0 ss (new_from p f [] ss)
+
+pub printing_start : (p f : ℕ) (ss : List Step) (m : List ℕ) → m ≡ marks_from (p * (p + 2)) 0 [] → Printing p f ss head_line m 0
+printing_start p f ss m e = record { cells = []; few = omega arith; marks = e; rest = refl }
 
 -- one step more
 module _ (p f : ℕ) (ss : List Step) (i : ℕ) (a : StepAt ss i) where
@@ -71,29 +76,19 @@ module _ (p f : ℕ) (ss : List Step) (i : ℕ) (a : StepAt ss i) where
       ∙ ap (λ (n : ℕ). line_of i a.this n ++ lines_from (suc i) (drop (suc i) ss) (new_from p f (union this ys) (drop (suc i) ss))) q
       ∙ ap (λ (j : ℕ). line_of i a.this new ++ lines_from j (drop j ss) (new_from p f (union this ys) (drop j ss))) (sym (add-one i))
 
-  pub printing_turn :
-      {o o₁ o₂ m m' : List ℕ} {at r s new : ℕ}
-      → a.this.number < p
-      → Printing p f ss o o₁ m at r i
-      → Marked m m' (surviving_in p f (set_of p p a.this.kind a.this.number)) new
-      → Wrote o₁ o₂ r s (line_of i a.this new)
-      → Printing p f ss o o₂ m' at s (i + 1)
-  printing_turn {m = m} {m' = m'} {new = new} n k d w =
+  pub printing_turn : {t m m' : List ℕ} {new : ℕ} → a.this.number < p → Printing p f ss t m i → Marked m m' (surviving_in p f (set_of p p a.this.kind a.this.number)) new → Printing p f ss (t ++ line_of i a.this new) m' (i + 1)
+  printing_turn {t} {m} {m'} {new} n k d =
       record {
-        text = k.text ++ line_of i a.this new;
         cells = union this k.cells;
-        wrote = wrote_more k.wrote w;
-        few = omega (arith, k.few, length-append k.text (line_of i a.this new), line_most i a.this new);
+        few = omega (arith, k.few, length-append t (line_of i a.this new), line_most i a.this new);
         marks = read.0;
-        rest = append_assoc k.text (line_of i a.this new) _ ∙ ap (λ (x : List ℕ). k.text ++ x) (sym (next_line k.cells new read.1)) ∙ k.rest;
+        rest = append_assoc t (line_of i a.this new) _ ∙ ap (λ (x : List ℕ). t ++ x) (sym (next_line k.cells new read.1)) ∙ k.rest;
       }
     where
       read : (m' ≡ marks_from (p * (p + 2)) 0 (union this k.cells)) × (new + length k.cells ≡ length (union this k.cells))
       read = marked_read (p * (p + 2)) this k.cells m m' new (survivors_below p p f a.this.kind a.this.number n) k.marks d
 
-pub printing_end : {p f : ℕ} {ss : List Step} {o o' m : List ℕ} {at r i : ℕ} → length ss ≤ i → Printing p f ss o o' m at r i → Wrote o o' at r (lines_from 0 ss (new_from p f [] ss))
-unfolding lines_from
-printing_end {p} {f} {ss} {i = i} h k = rw all at k.wrote
-  where
-    all : k.text ≡ lines_from 0 ss (new_from p f [] ss)
-    all = sym (append-nil k.text) ∙ ap (λ (x : List Step). k.text ++ lines_from i x (new_from p f k.cells x)) (sym (drop_of_length-le ss h)) ∙ k.rest
+pub printing_end : {p f i : ℕ} {t m : List ℕ} → length (plan_of p p f) ≤ i → Printing p f (plan_of p p f) t m i → t ≡ plan_text p f
+unfolding lines_from plan_text
+printing_end {p} {f} {i} {t} h k =
+    sym (append-nil t) ∙ ap (λ (x : List Step). t ++ lines_from i x (new_from p f k.cells x)) (sym (drop_of_length-le (plan_of p p f) h)) ∙ k.rest

@@ -1,6 +1,6 @@
 -- What is printed for an input: refusal 12 without the form, else what its two numbers give. The
 -- first 14 bytes of an input decide.
-use mathlib.Core.Path.{◌≡◌, sym, ap, ◌∙◌}
+use mathlib.Core.Path.{◌≡◌, sym, ap, ap₂, ◌∙◌}
 use mathlib.Core.Bool.{Bool, true, false}
 use mathlib.Core.List.{List}
 use mathlib.Core.Logic.{⊎_elim}
@@ -12,7 +12,10 @@ use lib.Seq.{length-take-le, take_all}
 use borrow.Author.Tests.{ne_eqb}
 use Rattle.mathematics.specs.Choice.{pick, first_of}
 use Rattle.mathematics.proofs.OrderLaws.{lt_or_le}
-use Rattle.liberation.specs.Sets.{width_refusal, disk_refusal}
+use Rattle.liberation.specs.Sets.{width_refusal, disk_refusal, plan_refusal}
+use Rattle.liberation.proofs.RefusalLaws.{array_same}
+use Rattle.refusals.specs.declared.refusal.Refusal.{Refusal}
+use Rattle.refusals.specs.Refused.{number_of}
 use Rattle.printed_plan.specs.Input.{first_value, second_value, is_form}
 use Rattle.printed_plan.proofs.FormLaws.{long_no_form}
 use Rattle.printed_plan.specs.Text.{input_refusal, plan_text, refused_line, printed}
@@ -39,6 +42,21 @@ printed_plan t e = ap (λ (m : ℕ). pick (eqb m 0) (plan_text (first_value t) (
 
 pub no_form_printed : (t : List ℕ) → is_form t ≡ false → printed t ≡ refused_line 12
 no_form_printed t e = printed_refusal t 12 (no_form_refusal t e) (λ q. omega arith)
+
+-- an input of the form, of the numbers p and f: refusals 1 and 3 are the planner's for a full array
+pub numbers_refusal : (t : List ℕ) (p f n : ℕ) → is_form t ≡ true → p ≡ first_value t → f ≡ second_value t → n ≡ plan_refusal p p f → n ≡ input_refusal t
+numbers_refusal t p f n h e q r =
+    r
+    ∙ ap (λ (m : ℕ). first_of m (disk_refusal p f)) (array_same p)
+    ∙ ap₂ (λ (x y : ℕ). first_of (width_refusal x) (disk_refusal x y)) e q
+    ∙ sym (form_refusal_lem t h)
+
+-- a refusal is printed
+number_some : (r : Refusal) → number_of r ≡ 0 → ⊥
+number_some r e = grind arith
+
+pub refusal_printed : (t : List ℕ) (r : Refusal) → number_of r ≡ input_refusal t → refused_line (number_of r) ≡ printed t
+refusal_printed t r e = sym (printed_refusal t (number_of r) (sym e) (number_some r))
 
 -- the first 14 bytes of an input decide
 pub printed_cut : (n : ℕ) (t : List ℕ) → 14 ≤ n → printed (take n t) ≡ printed t

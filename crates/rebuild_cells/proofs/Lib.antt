@@ -12,3 +12,5 @@ pub mod WholeLaws
 pub mod NearestLoops
 pub mod NearestTurns
 pub mod SetSteps
+pub mod ToggleLoops
+pub mod RowListLaws

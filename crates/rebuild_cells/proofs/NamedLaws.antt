@@ -1,16 +1,16 @@
 -- Marks toggled for the sets that a word names, and the gather of those that are odd: a step of the
 -- mend.
-use mathlib.Core.Path.{◌≡◌, refl, sym, ap, ap₂, subst, ◌∙◌}
-use mathlib.Core.Bool.{Bool, true, false}
-use mathlib.Core.List.{List, [], ◌∷◌}
+use mathlib.Core.Path.{◌≡◌, refl, sym, ap, ap₂, ◌∙◌}
+use mathlib.Core.Bool.{Bool, true, false, not}
+use mathlib.Core.List.{List, [], ◌∷◌, ◌++◌}
 use mathlib.Core.Logic.{⊎_elim}
-use Prim.Native.Nat.{ℕ, zero, suc, ◌+◌, ◌-◌, ◌*◌, ◌≤◌, ◌<◌}
+use Prim.Native.Nat.{ℕ, zero, suc, ◌+◌, ◌*◌, ◌≤◌, ◌<◌}
 use native.Mathlib.Omega.{arith}
 use lib.Dec.{eqb}
 use lib.ListN.{length, get_or, set, replicate, length-set, length-replicate}
 use lib.Seq.{get_or-set_same}
 use borrow.Author.Tests.{eq-eqb, ne_eqb}
-use Rattle.mathematics.specs.Choice.{pick}
+use Rattle.mathematics.specs.Choice.{pick, when}
 use Rattle.mathematics.proofs.Flags.{flag}
 use Rattle.mathematics.specs.BitRows.Parity.{bit}
 use Rattle.liberation.specs.Stripes.Stripes.{cell_at, with_cell, xor_over, without, solved}
@@ -24,25 +24,32 @@ use Rattle.rebuild_cells.specs.Theory.Mending.{set_numbered, words_from, powers_
 use Rattle.stripe_cells.proofs.OddLaws.{toggled_long, toggled_append}
 use Rattle.rebuild_cells.proofs.Theory.WordLaws.{words_long}
 use Rattle.rebuild_cells.proofs.Theory.MendLaws.{mendable_few}
-use Rattle.mathematics.specs.BitRows.Rows.{rows, Reduced, reduction, reduced_from}
-use Rattle.rebuild_cells.specs.Lent.{ReducedTo}
-
--- ---- one set, if the word names it
-pub if_named : (w i : ℕ) (xs ms u : List ℕ) (t : Bool) → t ≡ bit w i → t ≡ true → u ≡ toggled_all xs ms → u ≡ toggled_all (pick (bit w i) xs []) ms
-if_named w i xs ms u t e h k = k ∙ ap (λ (b : Bool). toggled_all (pick b xs []) ms) (sym h ∙ e)
-
-pub if_none : (w i : ℕ) (xs ms : List ℕ) (t : Bool) → t ≡ bit w i → t ≡ false → ms ≡ toggled_all (pick (bit w i) xs []) ms
-unfolding toggled_all
-if_none w i xs ms t e h = ap (λ (b : Bool). toggled_all (pick b xs []) ms) (sym h ∙ e)
+use Rattle.mathematics.specs.BitRows.Rows.{Rows, rows, Reduced, reduced_from}
+use Rattle.std.proofs.Common.{Result, Ok, Err}
+use Rattle.std.specs.Result.{is_ok}
+use Rattle.refusals.proofs.RefusalNumbers.{number_some}
+use Rattle.std.proofs.lemmas.List.{length-map}
+use Rattle.refusals.specs.declared.array.Geometry.{Geometry}
+use Rattle.refusals.specs.declared.refusal.Refusal.{Refusal}
+use Rattle.refusals.specs.Refused.{refused}
+use Rattle.rebuild_cells.specs.declared.reduction.Row.{Row}
+use Rattle.rebuild_cells.specs.RowLists.{words_of, sums_of, rows_of}
+use Rattle.rebuild_cells.specs.Listed.{Mended}
 
 -- ---- all sets, the last one first
-pub named_turn : (p k w i : ℕ) (ms u : List ℕ) → 0 < i → u ≡ toggled_all (pick (bit w (i - 1)) (set_numbered p k (i - 1)) []) ms → toggled_all (named_to (i - 1) p k w) u ≡ toggled_all (named_to i p k w) ms
+pub named_on : (p k w i n : ℕ) (xs ms u : List ℕ) → bit w n ≡ true → suc n ≡ i → xs ≡ set_numbered p k n → u ≡ toggled_all xs ms → toggled_all (named_to n p k w) u ≡ toggled_all (named_to i p k w) ms
 unfolding named_to
-named_turn p k w i ms u h e =
-    let q : suc (i - 1) ≡ i = omega arith in
-    ap (toggled_all (named_to (i - 1) p k w)) e
-    ∙ sym (toggled_append (pick (bit w (i - 1)) (set_numbered p k (i - 1)) []) (named_to (i - 1) p k w) ms)
-    ∙ ap (λ (n : ℕ). toggled_all (named_to n p k w) ms) q
+named_on p k w i n xs ms u on q x e =
+    ap (toggled_all (named_to n p k w)) (e ∙ ap (λ (l : List ℕ). toggled_all l ms) x)
+    ∙ sym (toggled_append (set_numbered p k n) (named_to n p k w) ms)
+    ∙ sym (ap (λ (b : Bool). toggled_all (pick b (set_numbered p k n) [] ++ named_to n p k w) ms) on)
+    ∙ ap (λ (m : ℕ). toggled_all (named_to m p k w) ms) q
+
+pub named_off : (p k w i n : ℕ) (ms : List ℕ) → bit w n ≡ false → suc n ≡ i → toggled_all (named_to n p k w) ms ≡ toggled_all (named_to i p k w) ms
+unfolding named_to
+named_off p k w i n ms off q =
+    sym (ap (λ (b : Bool). toggled_all (pick b (set_numbered p k n) [] ++ named_to n p k w) ms) off)
+    ∙ ap (λ (m : ℕ). toggled_all (named_to m p k w) ms) q
 
 pub named_end : (p k w i : ℕ) (ms : List ℕ) → i ≤ 0 → ms ≡ toggled_all (named_to i p k w) ms
 unfolding named_to toggled_all
@@ -110,28 +117,31 @@ module _ (p k s x w : ℕ) (ms t : List ℕ) (z : Sized p k s t) (hx : x < p * (
 
 -- ---- the rows filled and reduced
 pub cells_reduced :
-    (p k : ℕ) (cs ws ts ws' ts' : List ℕ) (r : ℕ) → ws ≡ words_from (2 * p) 0 p k cs → ts ≡ powers_from (2 * p) 0 → ReducedTo (length cs) ws ts ws' ts' r
-    → (eqb r (length cs) ≡ mendable p k cs) × (ts' ≡ (reduced_cells p k cs).left.sums)
+    (p k : ℕ) (cs : List ℕ) (rs rs' : List Row) (b : Bool) → words_of rs ≡ words_from (2 * p) 0 p k cs → sums_of rs ≡ powers_from (2 * p) 0
+    → b ≡ eqb (reduced_from (length cs) (length rs) 0 (rows_of rs)).done (length cs) → rows_of rs' ≡ (reduced_from (length cs) (length rs) 0 (rows_of rs)).left
+    → (b ≡ mendable p k cs) × (sums_of rs' ≡ (reduced_cells p k cs).left.sums)
 unfolding reduced_cells
-cells_reduced p k cs ws ts ws' ts' r ew et g = (ap (λ (q : Reduced). eqb q.done (length cs)) whole, ap (λ (q : Reduced). q.left.sums) whole)
+cells_reduced p k cs rs rs' b ew et d e = (d ∙ ap (λ (q : Reduced). eqb q.done (length cs)) whole, ap (λ (r : Rows). r.sums) e ∙ ap (λ (q : Reduced). q.left.sums) whole)
   where
-    long : length ws ≡ 2 * p
-    long = ap length ew ∙ words_long (2 * p) 0 p k cs
+    long : length rs ≡ 2 * p
+    long = sym (length-map rs (λ (r : Row). r.word)) ∙ ap length ew ∙ words_long (2 * p) 0 p k cs
 
-    whole : reduction r (rows ws' ts') ≡ reduced_from (length cs) (2 * p) 0 (equations p k cs)
-    whole = g.reduced ∙ ap (λ (n : ℕ). reduced_from (length cs) n 0 (rows ws ts)) long ∙ ap₂ (λ (x y : List ℕ). reduced_from (length cs) (2 * p) 0 (rows x y)) ew et
+    whole : reduced_from (length cs) (length rs) 0 (rows_of rs) ≡ reduced_from (length cs) (2 * p) 0 (equations p k cs)
+    whole = ap (λ (n : ℕ). reduced_from (length cs) n 0 (rows_of rs)) long ∙ ap₂ (λ (x y : List ℕ). reduced_from (length cs) (2 * p) 0 (rows x y)) ew et
 
 -- ---- mended, or not
-pub list_refused : (t : Bool) (m u : List ℕ) (r : Bool) → r ≡ t → r ≡ false → (false ≡ t) × (u ≡ pick t m u)
-list_refused t m u r e h = (sym h ∙ e, ap (λ (b : Bool). pick b m u) (sym h ∙ e))
-
 -- more missing cells than sets
-pub too_many : (p k : ℕ) (cs m u : List ℕ) → 2 * p < length cs → (false ≡ mendable p k cs) × (u ≡ pick (mendable p k cs) m u)
-too_many p k cs m u h = (sym none, ap (λ (b : Bool). pick b m u) (sym none))
+pub too_many : (g : Geometry) (cs t : List ℕ) (r : Result Unit Refusal) → refused r ≡ 23 → 2 * g.array.width < length cs → Mended g cs t t r
+too_many g cs t r e h =
+    record {
+      refusal = e ∙ sym (ap (λ (b : Bool). when (not b) 23) none);
+      stripe = sym (ap (λ (b : Bool). pick b (mended_cells g.array.width g.array.disks g.cell_size cs t) t) none);
+    }
   where
-    none : mendable p k cs ≡ false
-    none = ⊎_elim (λ t. let l = mendable_few p k cs t in absurd (omega arith)) (λ f. f) (flag (mendable p k cs))
+    none : mendable g.array.width g.array.disks cs ≡ false
+    none = ⊎_elim (λ m. let l = mendable_few g.array.width g.array.disks cs m in absurd (omega arith)) (λ f. f) (flag (mendable g.array.width g.array.disks cs))
 
--- the list of the missing cells
-pub as_listed : (p k s : ℕ) (cs ds t u : List ℕ) (r : Bool) → cs ≡ ds → (r ≡ mendable p k cs) × (u ≡ pick (mendable p k cs) (mended_cells p k s cs t) t) → (r ≡ mendable p k ds) × (u ≡ pick (mendable p k ds) (mended_cells p k s ds t) t)
-as_listed p k s cs ds t u r e h = subst (λ (l : List ℕ). (r ≡ mendable p k l) × (u ≡ pick (mendable p k l) (mended_cells p k s l t) t)) e h
+-- it is mended exactly if the others determine it
+pub mended_if : (g : Geometry) (cs t u : List ℕ) (r : Result Unit Refusal) → Mended g cs t u r → is_ok r ≡ mendable g.array.width g.array.disks cs
+mended_if g cs t u (Ok x) m = ⊎_elim (λ h. sym h) (λ h. absurd (omega (arith, m.refusal, ap (λ (b : Bool). when (not b) 23) h))) (flag (mendable g.array.width g.array.disks cs))
+mended_if g cs t u (Err e) m = ⊎_elim (λ h. absurd (number_some e (m.refusal ∙ ap (λ (b : Bool). when (not b) 23) h))) (λ h. sym h) (flag (mendable g.array.width g.array.disks cs))

@@ -1,26 +1,17 @@
 -- The loops of the reduction: the rows and unknowns still to come, from what is there, give what
 -- all give from the start.
 use mathlib.Core.Path.{◌≡◌, sym, ap, ap₂, ◌∙◌}
-use mathlib.Core.Bool.{Bool, true, false, not, ◌&&◌, and-false}
-use mathlib.Core.List.{List}
+use mathlib.Core.Bool.{Bool, true, false}
 use Prim.Native.Nat.{ℕ, suc, ◌+◌, ◌-◌, ◌≤◌, ◌<◌}
 use native.Mathlib.Numerals.{add-one}
 use native.Mathlib.Omega.{arith}
 use lib.Dec.{eqb, ltb}
-use borrow.Author.Tests.{lt-ltb, le-ltb}
+use borrow.Author.Tests.{lt-ltb, le-ltb, ne_eqb, eq-eqb}
 use Rattle.mathematics.specs.Choice.{pick}
 use Rattle.mathematics.specs.Sums.{first_from}
-use Rattle.mathematics.specs.BitRows.Rows.{Rows, rows, has, plus, row_added, row_cleared, cleared_from, pivot, pivoted, column_done, reduction, reduced_from}
+use Rattle.mathematics.specs.BitRows.Rows.{Rows, Reduced, row_cleared, cleared_from, pivot, pivoted, column_done, reduction, reduced_from}
 
 -- ---- one row
-pub row_same : (b i : ℕ) (r : Rows) → eqb i b ≡ true → r ≡ row_cleared b i r
-row_same b i r e = ap (λ (t : Bool). pick (not t && has r i b) (row_added i b r) r) (sym e)
-
-pub row_kept : (b i : ℕ) (r : Rows) (t : Bool) → t ≡ has r i b → t ≡ false → r ≡ row_cleared b i r
-row_kept b i r t e k = ap (λ (u : Bool). pick u (row_added i b r) r) (sym (ap (λ (u : Bool). not (eqb i b) && u) (sym e ∙ k) ∙ and-false (not (eqb i b))))
-
-pub row_added_lem : (b i : ℕ) (ws ts ws' ts' : List ℕ) (t : Bool) → eqb i b ≡ false → t ≡ has (rows ws ts) i b → t ≡ true → ws' ≡ plus i b ws → ts' ≡ plus i b ts → rows ws' ts' ≡ row_cleared b i (rows ws ts)
-row_added_lem b i ws ts ws' ts' t e h k w v = ap₂ rows w v ∙ ap₂ (λ (x y : Bool). pick (not x && y) (row_added i b (rows ws ts)) (rows ws ts)) (sym e) (sym k ∙ h)
 
 -- ---- all rows
 pub clear_turn : (n b i : ℕ) (r r' : Rows) → i < n → r' ≡ row_cleared b i r → cleared_from (n - (i + 1)) b (i + 1) r' ≡ cleared_from (n - i) b i r
@@ -28,9 +19,6 @@ unfolding cleared_from
 clear_turn n b i r r' h e =
     let w : n - i ≡ suc (n - (i + 1)) = omega arith in
     ap₂ (λ (j : ℕ) (q : Rows). cleared_from (n - (i + 1)) b j q) (add-one i) e ∙ sym (ap (λ (m : ℕ). cleared_from m b i r) w)
-
-pub clear_start : (n b : ℕ) (r : Rows) → cleared_from (n - 0) b 0 r ≡ cleared_from n b 0 r
-clear_start n b r = let w : n - 0 ≡ n = omega arith in ap (λ (m : ℕ). cleared_from m b 0 r) w
 
 pub clear_end : (n b i : ℕ) (r : Rows) → n ≤ i → r ≡ cleared_from (n - i) b i r
 unfolding cleared_from
@@ -68,9 +56,6 @@ reduce_turn m n b j r r' h e l w =
     ap₂ (λ (c : ℕ) (x : Rows). reduced_from (m - (b + 1)) n c x) (add-one b) (w ∙ ap (λ (i : ℕ). column_done n b i r) e)
     ∙ sym (ap (λ (x : ℕ). reduced_from x n b r) q ∙ ap (λ (t : Bool). pick t (reduced_from (m - (b + 1)) n (suc b) (column_done n b (pivot n b r) r)) (reduction b r)) (ap (λ (i : ℕ). ltb i n) (sym e) ∙ lt-ltb j n l))
 
-pub reduce_start : (m n : ℕ) (r : Rows) → reduced_from (m - 0) n 0 r ≡ reduced_from m n 0 r
-reduce_start m n r = let w : m - 0 ≡ m = omega arith in ap (λ (x : ℕ). reduced_from x n 0 r) w
-
 pub reduce_stop : (m n b j : ℕ) (r : Rows) → b < m → j ≡ pivot n b r → n ≤ j → reduction b r ≡ reduced_from (m - b) n b r
 unfolding reduced_from
 reduce_stop m n b j r h e l =
@@ -80,3 +65,10 @@ reduce_stop m n b j r h e l =
 pub reduce_end : (m n b : ℕ) (r : Rows) → m ≤ b → reduction b r ≡ reduced_from (m - b) n b r
 unfolding reduced_from
 reduce_end m n b r h = let q : 0 ≡ m - b = omega arith in ap (λ (x : ℕ). reduced_from x n b r) q
+
+-- ---- the end: some unknowns are done, or all
+pub reduced_less : (m b : ℕ) (r : Rows) (q : Reduced) → reduction b r ≡ q → b < m → (false ≡ eqb q.done m) × (r ≡ q.left)
+reduced_less m b r q e h = (sym (ap (λ (x : Reduced). eqb x.done m) (sym e) ∙ ne_eqb b m (λ z. omega arith)), ap (λ (x : Reduced). x.left) e)
+
+pub reduced_whole : (m b : ℕ) (r : Rows) (q : Reduced) → reduction b r ≡ q → b ≡ m → (true ≡ eqb q.done m) × (r ≡ q.left)
+reduced_whole m b r q e h = (sym (ap (λ (x : Reduced). eqb x.done m) (sym e) ∙ eq-eqb b m h), ap (λ (x : Reduced). x.left) e)

@@ -15,9 +15,13 @@ use Rattle.mathematics.specs.Lists.{is_in, distinct, all_below}
 use Rattle.mathematics.proofs.SearchLaws.{drop_next}
 use Rattle.mathematics.specs.BitRows.Parity.{differ, odd_in}
 use Rattle.mathematics.proofs.BitRows.ParityLaws.{differ_false, in_distinct}
+use Rattle.liberation.proofs.DistinctLaws.{distinct_set}
+use Rattle.liberation.proofs.SetLaws.{set_below}
+use Rattle.parity_sets.specs.declared.set.ParitySet.{ParitySet}
+use Rattle.parity_sets.specs.ParitySets.{cells_of, kind_of, number_of}
 use Rattle.stripe_cells.specs.Toggled.{is_odd, toggled_all}
 use Rattle.rebuild_cells.specs.Theory.Mending.{set_numbered, word_of, words_from, powers_from}
-use Rattle.rebuild_cells.proofs.Theory.OddCells.{toggled_odd, none_odd, numbered_distinct, numbered_below}
+use Rattle.rebuild_cells.proofs.Theory.OddCells.{toggled_odd, none_odd}
 use Rattle.rebuild_cells.specs.Words.{marks_word}
 
 -- ---- a word from marks
@@ -32,9 +36,6 @@ word_turn cs ms i w h l e =
     let d : drop (i - 1) cs ≡ get_or cs (i - 1) 0 ∷ drop i cs = drop_next cs (i - 1) (get_or cs (i - 1) 0) (omega arith) refl ∙ ap (λ (j : ℕ). get_or cs (i - 1) 0 ∷ drop j cs) q in
     let v : 2 * w ≡ 2 * marks_word (drop i cs) ms = ap (λ (x : ℕ). 2 * x) e in
     omega (arith, v) ∙ sym (ap (λ (l : List ℕ). marks_word l ms) d)
-
-pub word_end : (cs ms : List ℕ) (i w : ℕ) → i ≤ 0 → w ≡ marks_word (drop i cs) ms → w ≡ marks_word cs ms
-word_end cs ms i w h e = let z : i ≡ 0 = omega arith in e ∙ ap (λ (j : ℕ). marks_word (drop j cs) ms) z
 
 word_lt : (cs ms : List ℕ) → marks_word cs ms < 2 ^ length cs
 unfolding marks_word
@@ -74,8 +75,10 @@ words_same n [] xs once below = refl
 words_same n (c ∷ cs) xs once below =
     ap₂ (λ (x y : ℕ). x + 2 * y) (mark_digit (get_or (toggled_all xs (replicate n 0)) c 0) (is_in c xs) (set_marks n c xs once below)) (words_same n cs xs once below)
 
-pub set_word_is : (p k i : ℕ) (cs ms : List ℕ) (w : ℕ) → 0 < p → ms ≡ toggled_all (set_numbered p k i) (replicate (p * (k + 2)) 0) → w ≡ marks_word cs ms → w ≡ word_of cs (set_numbered p k i)
-set_word_is p k i cs ms w some e h = h ∙ ap (marks_word cs) e ∙ words_same (p * (k + 2)) cs (set_numbered p k i) (numbered_distinct p k some i) (numbered_below p k some i)
+pub set_word_is : (p k : ℕ) (set : ParitySet) (cs ms : List ℕ) (w : ℕ) → number_of set < p → ms ≡ toggled_all (cells_of p k set) (replicate (p * (k + 2)) 0) → w ≡ marks_word cs ms → w ≡ word_of cs (cells_of p k set)
+set_word_is p k set cs ms w h e q =
+    q ∙ ap (marks_word cs) e
+    ∙ words_same (p * (k + 2)) cs (cells_of p k set) (distinct_set p k (kind_of set) (number_of set) h) (set_below p k (kind_of set) (number_of set) h)
 
 -- ---- the words of all sets
 pub record Filling (p k : ℕ) (cs ws ts : List ℕ) (i : ℕ) : Type 0 where

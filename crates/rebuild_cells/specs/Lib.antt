@@ -3,5 +3,7 @@ pub mod Says
 pub mod Theory
 pub mod Listed
 pub mod Words
-pub mod Lent
 pub mod Renewed
+pub mod Checked
+pub mod RowLists
+pub mod Alone

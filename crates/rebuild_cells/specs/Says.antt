@@ -5,7 +5,7 @@ use Rattle.mathematics.specs.Xor.{all_bytes}
 use Rattle.liberation.specs.Sets.{shape_refusal, long_refusal}
 use Rattle.liberation.specs.Stripes.Stripes.{stripe_long}
 use Rattle.rebuild_cells.specs.Theory.Mending.{missing_cells, mendable, mended_cells}
-use Rattle.refusals.specs.declared.Answer.{Answer}
+use Rattle.refusals.specs.declared.answer.Answer.{Answer}
 use Rattle.refusals.specs.Answers.{Answers}
 
 -- 1, 13, 2, and 5 for the marks and for the stripe

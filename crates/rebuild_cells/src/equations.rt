@@ -1,72 +1,36 @@
-// Missing cells as the unknowns of equations, one a set: the cells listed, and for each set the
-// word of those that it holds.
+// Missing cells as the unknowns of equations, one a set: for each set the word of the cells that it
+// holds.
 ghost use Rattle.std.specs.Prelude.{◌≡◌, ℕ, ◌+◌, ◌*◌, ◌^◌, ◌<◌, ◌≤◌, length, get_or};
-ghost use Rattle.liberation.specs.Limits.{InArray};
-ghost use Rattle.liberation.specs.Sets.{set_of};
-ghost use Rattle.rebuild_cells.specs.Theory.Mending.{missing_cells, set_numbered, word_of, words_from, powers_from};
+ghost use Rattle.parity_sets.specs.ParitySets.{cells_of, number_of};
+ghost use Rattle.rebuild_cells.specs.Theory.Mending.{set_numbered, word_of, words_from, powers_from};
 ghost use Rattle.stripe_cells.specs.Toggled.{toggled_all};
 ghost use Rattle.rebuild_cells.specs.Words.{marks_word};
+ghost use Rattle.rebuild_cells.specs.RowLists.{words_of, sums_of};
 
-// How many marks are not 0.
-pub fn count_missing(missing: &[u8]) -> usize
-    ensures { result ≡ length (missing_cells missing.now) }
-{
-    let all = missing.len();
-    let mut n = 0;
-    let mut x = 0;
-    while x < all {
-        if missing[x] != 0 {
-            n += 1;
-        }
-        x += 1;
-    }
-    n
-}
+use super::reduction::Row;
+use parity_sets::ParitySet;
+use refusals::Array;
 
-// The places of the marks that are not 0, in a list of just their number.
-pub fn list_missing(missing: &[u8], cells: &mut [usize])
-    requires { length cells.old ≡ length (missing_cells missing.now) }
-    ensures { cells.new ≡ missing_cells missing.now }
+// A set by its number among all, row sets first.
+pub fn set_numbered(array: Array, number: usize) -> ParitySet
+    requires { number < 2 * array.width }
+    ensures { (number_of result < array.width) × (cells_of array.width array.disks result ≡ set_numbered array.width array.disks number) }
 {
-    let all = missing.len();
-    let mut n = 0;
-    let mut x = 0;
-    while x < all {
-        if missing[x] != 0 {
-            cells[n] = x;
-            n += 1;
-        }
-        x += 1;
+    if number < array.width {
+        ParitySet::Row(number)
+    } else {
+        ParitySet::Diagonal(number - array.width)
     }
 }
 
-// Toggles the marks of the cells of a set. From cell to cell the row of a diagonal goes up by one
-// and round.
-fn toggle_cells(width: usize, disks: usize, kind: usize, number: usize, marks: &mut [u8])
-    requires { InArray width disks × (number < width) × (length marks.old ≡ width * (disks + 2)) }
-    ensures { marks.new ≡ toggled_all (set_of width disks kind number) marks.old }
+// Toggles the marks of the cells of a set.
+pub fn toggle_set(array: Array, set: ParitySet, marks: &mut [u8])
+    requires { (number_of set < array.width) × (length marks.old ≡ array.width * (array.disks + 2)) }
+    ensures { marks.new ≡ toggled_all (cells_of array.width array.disks set) marks.old }
 {
-    let size = parity_sets::set_size(width, disks, kind, number);
-    let mut row = number;
-    let mut at = 0;
-    while at < size {
-        let x = parity_sets::cell_in_row(width, disks, kind, number, at, row);
-        marks[x] = marks[x] ^ 1;
-        row = parity_sets::next_row(width, row);
-        at += 1;
+    for cell in set.cells(array) {
+        marks[cell] ^= 1;
     }
-}
-
-// The same of a set by its number among all, row sets first.
-pub fn toggle_set(width: usize, disks: usize, set: usize, marks: &mut [u8])
-    requires { InArray width disks × (set < 2 * width) × (length marks.old ≡ width * (disks + 2)) }
-    ensures { marks.new ≡ toggled_all (set_numbered width disks set) marks.old }
-{
-    if set < width {
-        toggle_cells(width, disks, 0, set, marks);
-        return;
-    }
-    toggle_cells(width, disks, 1, set - width, marks);
 }
 
 // The word whose bit b says that the mark of cell b of the list is odd.
@@ -74,25 +38,22 @@ fn marks_word(marks: &[u8], cells: &[usize]) -> u64
     requires { (length cells.now ≤ 62) × ((i : ℕ) → i < length cells.now → get_or cells.now i 0 < length marks.now) }
     ensures { result ≡ marks_word cells.now marks.now }
 {
-    let mut word = 0u64;
-    let mut i = cells.len();
-    while 0 < i {
-        i -= 1;
-        let x = cells[i];
-        word = 2 * word + (marks[x] & 1) as u64;
+    let mut word = 0;
+    for i in (0..cells.len()).rev() {
+        word = 2 * word + u64::from(marks[cells[i]] & 1);
     }
     word
 }
 
 // The word of a set: bit b says that it holds cell b of the list.
-fn set_word(width: usize, disks: usize, set: usize, cells: &[usize]) -> u64
-    requires { InArray width disks × (set < 2 * width) × (length cells.now ≤ 62) × ((i : ℕ) → i < length cells.now → get_or cells.now i 0 < width * (disks + 2)) }
-    ensures { result ≡ word_of cells.now (set_numbered width disks set) }
+fn set_word(array: Array, set: ParitySet, cells: &[usize]) -> u64
+    requires { (number_of set < array.width) × (length cells.now ≤ 62) × ((i : ℕ) → i < length cells.now → get_or cells.now i 0 < array.width * (array.disks + 2)) }
+    ensures { result ≡ word_of cells.now (cells_of array.width array.disks set) }
 {
-    let all = width * (disks + 2);
     let mut marks = parity_sets::no_marks();
-    toggle_set(width, disks, set, &mut marks[..all]);
-    marks_word(&marks[..all], cells)
+    let marks = &mut marks[..array.cells()];
+    toggle_set(array, set, marks);
+    marks_word(marks, cells)
 }
 
 // The word with this bit alone.
@@ -100,34 +61,20 @@ pub fn bit_of(b: usize) -> u64
     requires { b < 64 }
     ensures { result ≡ 2 ^ b }
 {
-    1u64 << b
+    1 << b
 }
 
 // The equations of all sets in the cells of the list: for each set its word, and the bit of its
 // number.
-pub fn fill_rows(width: usize, disks: usize, cells: &[usize], words: &mut [u64], sums: &mut [u64])
-    requires in_array { InArray width disks × (length cells.now ≤ 62) × ((i : ℕ) → i < length cells.now → get_or cells.now i 0 < width * (disks + 2)) }
-    requires words_len { (length words.old ≡ 2 * width) × (length sums.old ≡ 2 * width) }
-    ensures { (words.new ≡ words_from (2 * width) 0 width disks cells.now) × (sums.new ≡ powers_from (2 * width) 0) }
+pub fn fill_rows(array: Array, cells: &[usize], rows: &mut [Row])
+    requires in_array { (length cells.now ≤ 62) × ((i : ℕ) → i < length cells.now → get_or cells.now i 0 < array.width * (array.disks + 2)) }
+    requires rows_len { length rows.old ≡ 2 * array.width }
+    ensures { (words_of rows.new ≡ words_from (2 * array.width) 0 array.width array.disks cells.now) × (sums_of rows.new ≡ powers_from (2 * array.width) 0) }
 {
-    let n = words.len();
-    let mut i = 0;
-    while i < n {
-        words[i] = set_word(width, disks, i, cells);
-        sums[i] = bit_of(i);
-        i += 1;
-    }
-}
-
-// The words of one list become those of another.
-pub fn copy_words(from: &[u64], to: &mut [u64])
-    requires { (length to.old ≡ length from.now) × (length from.now ≤ 62) }
-    ensures { to.new ≡ from.now }
-{
-    let n = from.len();
-    let mut i = 0;
-    while i < n {
-        to[i] = from[i];
-        i += 1;
+    for (number, row) in rows.iter_mut().enumerate() {
+        *row = Row {
+            word: set_word(array, set_numbered(array, number), cells),
+            sum: bit_of(number),
+        };
     }
 }

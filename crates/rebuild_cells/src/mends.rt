@@ -1,90 +1,60 @@
 // The mend of missing cells within a stripe: whole disks by their rebuild, other cells by their
 // reduced equations.
 ghost use Rattle.std.specs.Prelude.{◌≡◌, ◌+◌, ◌*◌, ◌≤◌, length};
-ghost use Rattle.mathematics.specs.Choice.{pick};
-ghost use Rattle.liberation.specs.Limits.{InArray};
-ghost use Rattle.liberation.specs.Stripes.StripeLimits.{Sized};
-ghost use Rattle.rebuild_cells.specs.Theory.Mending.{missing_cells, reduced_cells, mendable, mended_cells};
-ghost use Rattle.rebuild_cells.specs.Listed.{ListedCells};
+ghost use Rattle.refusals.specs.StripeOf.{IsStripeOf};
+ghost use Rattle.rebuild_cells.specs.Theory.Mending.{missing_cells, reduced_cells, mendable};
+ghost use Rattle.rebuild_cells.specs.Listed.{ListedCells, Mended};
+ghost use Rattle.rebuild_cells.specs.RowLists.{sums_of};
 
-use super::{equations, nearest, reduction, whole_disks};
+use super::missing_cells::{self, MAX_SETS};
+use super::reduction::{self, Row};
+use super::{equations, nearest, whole_disks};
+use refusals::{Array, Geometry, Refusal};
 
-// The sets that give each cell of a list; false if they do not give them all. What the words then
-// hold is left free.
-fn reduce_cells(
-    width: usize,
-    disks: usize,
-    cells: &[usize],
-    words: &mut [u64],
-    sums: &mut [u64],
-) -> bool
-    requires { InArray width disks × ListedCells width disks cells.now × (length words.old ≡ 2 * width) × (length sums.old ≡ 2 * width) }
-    ensures { (result ≡ mendable width disks cells.now) × (sums.new ≡ (reduced_cells width disks cells.now).left.sums) }
+// The sets that give each cell of a list; false if they do not give them all. What the rows then
+// hold is unspecified.
+fn reduce_cells(array: Array, cells: &[usize], rows: &mut [Row]) -> bool
+    requires { ListedCells array.width array.disks cells.now × (length rows.old ≡ 2 * array.width) }
+    ensures { (result ≡ mendable array.width array.disks cells.now) × (sums_of rows.new ≡ (reduced_cells array.width array.disks cells.now).left.sums) }
 {
-    let n = cells.len();
-    equations::fill_rows(width, disks, cells, words, sums);
-    reduction::reduce(words, sums, n) == n
+    equations::fill_rows(array, cells, rows);
+    reduction::reduce(rows, cells.len())
 }
 
-// A word for each set.
-fn no_words() -> [u64; 62]
-    ensures { length result ≡ 62 }
+// Mends the cells of a list if the others determine them. Refusal: 23.
+fn mend_list(geometry: Geometry, cells: &[usize], stripe: &mut [u8]) -> Result<(), Refusal>
+    requires { IsStripeOf geometry stripe.old × ListedCells geometry.array.width geometry.array.disks cells.now × (length cells.now ≤ 2 * geometry.array.width) }
+    ensures { Mended geometry cells.now stripe.old stripe.new result }
 {
-    [0; 62]
-}
-
-// Room for as many cells as there are sets.
-fn no_cells() -> [usize; 62]
-    ensures { length result ≡ 62 }
-{
-    [0; 62]
-}
-
-// Mends the cells of a list if the others determine them.
-fn mend_list(width: usize, disks: usize, size: usize, cells: &[usize], stripe: &mut [u8]) -> bool
-    requires { Sized width disks size stripe.old × ListedCells width disks cells.now × (length cells.now ≤ 2 * width) }
-    ensures { (result ≡ mendable width disks cells.now) × (stripe.new ≡ pick (mendable width disks cells.now) (mended_cells width disks size cells.now stripe.old) stripe.old) }
-{
-    let sets = 2 * width;
-    let mut words = no_words();
-    let mut sums = no_words();
-    if reduce_cells(width, disks, cells, &mut words[..sets], &mut sums[..sets]) {
-        nearest::mend_all(
-            width,
-            disks,
-            size,
-            cells,
-            &sums[..sets],
-            &mut words[..sets],
-            stripe,
-        );
-        return true;
+    let mut room = [Row { word: 0, sum: 0 }; MAX_SETS];
+    let rows = &mut room[..2 * geometry.array.width];
+    if !reduce_cells(geometry.array, cells, rows) {
+        return Err(Refusal::Undetermined);
     }
-    false
+    nearest::mend_all(geometry, cells, rows, stripe);
+    Ok(())
 }
 
 // The same, whole disks by their rebuild.
-fn mend_listed(width: usize, disks: usize, size: usize, cells: &[usize], stripe: &mut [u8]) -> bool
-    requires { Sized width disks size stripe.old × ListedCells width disks cells.now × (length cells.now ≤ 2 * width) }
-    ensures { (result ≡ mendable width disks cells.now) × (stripe.new ≡ pick (mendable width disks cells.now) (mended_cells width disks size cells.now stripe.old) stripe.old) }
+fn mend_listed(geometry: Geometry, cells: &[usize], stripe: &mut [u8]) -> Result<(), Refusal>
+    requires { IsStripeOf geometry stripe.old × ListedCells geometry.array.width geometry.array.disks cells.now × (length cells.now ≤ 2 * geometry.array.width) }
+    ensures { Mended geometry cells.now stripe.old stripe.new result }
 {
-    if whole_disks::mend_whole(width, disks, size, cells, stripe) {
-        return true;
+    if whole_disks::mend_whole(geometry, cells, stripe) {
+        return Ok(());
     }
-    mend_list(width, disks, size, cells, stripe)
+    mend_list(geometry, cells, stripe)
 }
 
-// Mends the cells whose marks are not 0, if the others determine them; else the stripe stays as it
-// was.
-pub fn mend(width: usize, disks: usize, size: usize, missing: &[u8], stripe: &mut [u8]) -> bool
-    requires { Sized width disks size stripe.old × (length missing.now ≡ width * (disks + 2)) }
-    ensures { (result ≡ mendable width disks (missing_cells missing.now)) × (stripe.new ≡ pick (mendable width disks (missing_cells missing.now)) (mended_cells width disks size (missing_cells missing.now) stripe.old) stripe.old) }
+// Mends the cells whose marks are not 0, if the others determine them. Refusal: 23, which leaves
+// the stripe unchanged.
+pub fn mend(geometry: Geometry, missing: &[u8], stripe: &mut [u8]) -> Result<(), Refusal>
+    requires { IsStripeOf geometry stripe.old × (length missing.now ≡ geometry.array.width * (geometry.array.disks + 2)) }
+    ensures { Mended geometry (missing_cells missing.now) stripe.old stripe.new result }
 {
-    let n = equations::count_missing(missing);
-    if 2 * width < n {
-        return false; // more unknowns than equations
-    }
-    let mut cells = no_cells();
-    equations::list_missing(missing, &mut cells[..n]);
-    mend_listed(width, disks, size, &cells[..n], stripe)
+    // more unknowns than equations have no solution
+    let cells = missing_cells::of_marks(missing, 2 * geometry.array.width).ok_or(
+        Refusal::Undetermined,
+    )?;
+    mend_listed(geometry, cells.as_slice(), stripe)
 }

@@ -1,91 +1,80 @@
 // Missing cells that are all cells of one disk or of two: they are mended by the rebuild of the
 // disks, which needs no equations.
-ghost use Rattle.std.specs.Prelude.{◌≡◌, true, ◌+◌, ◌*◌, ◌<◌, ◌≤◌, length};
-ghost use Rattle.liberation.specs.Limits.{InArray};
-ghost use Rattle.liberation.specs.Stripes.StripeLimits.{Sized};
+ghost use Rattle.std.specs.Prelude.{◌≡◌, true, ◌+◌, ◌*◌, ◌<◌, ◌≤◌, length, get_or, IfSome};
+ghost use Rattle.refusals.specs.StripeOf.{IsStripeOf};
 ghost use Rattle.rebuild_cells.specs.Listed.{ListedCells, RunFrom, WholeMended};
 
-// Are these numbers of the list, from index `from` on, start, start + 1 and so on? Where they are
-// not, nothing is promised: no result depends on it.
-fn is_run(cells: &[usize], from: usize, count: usize, start: usize) -> bool
-    requires { (from + count ≤ length cells.now) × (length cells.now ≤ 62) × (start ≤ 1023) }
-    ensures { result ≡ true → RunFrom from count start cells.now }
+use refusals::{Array, Geometry};
+
+// Are the cells of the list start, start + 1 and so on? Where they are not, nothing is promised: no
+// result depends on it.
+fn is_run(cells: &[usize], start: usize) -> bool
+    requires { (length cells.now ≤ 62) × (start ≤ 1023) }
+    ensures { result ≡ true → RunFrom 0 (length cells.now) start cells.now }
 {
-    let mut i = 0;
-    while i < count {
-        if cells[from + i] != start + i {
+    for (i, &cell) in cells.iter().enumerate() {
+        if cell != start + i {
             return false;
         }
-        i += 1;
     }
     true
 }
 
-// The disk whose cells are those of the list from index `from` on, disks + 2 if they are not those
-// of one disk.
-fn whole_disk(width: usize, disks: usize, cells: &[usize], from: usize) -> usize
-    requires { InArray width disks × ListedCells width disks cells.now × (from + width ≤ length cells.now) }
-    ensures { result < disks + 2 → RunFrom from width (result * width) cells.now }
+// The disk whose cells are those of the list, if they are those of one disk.
+fn whole_disk(array: Array, cells: &[usize]) -> Option<usize>
+    requires { (length cells.now ≡ array.width) × (get_or cells.now 0 0 < array.width * (array.disks + 2)) }
+    ensures { IfSome result (λ d. (d < array.disks + 2) × RunFrom 0 array.width (d * array.width) cells.now) }
 {
-    let disk = cells[from] / width;
-    if is_run(cells, from, width, disk * width) {
-        return disk;
+    let disk = cells[0] / array.width;
+    if is_run(cells, disk * array.width) {
+        return Some(disk);
     }
-    disks + 2
+    None
 }
 
 // A data disk or P by the row sets, Q by the diagonals.
-fn mend_disk(width: usize, disks: usize, size: usize, cells: &[usize], stripe: &mut [u8]) -> bool
-    requires { Sized width disks size stripe.old × ListedCells width disks cells.now × (length cells.now ≡ width) }
-    ensures { WholeMended width disks size cells.now stripe.old stripe.new result }
+fn mend_disk(geometry: Geometry, cells: &[usize], stripe: &mut [u8]) -> bool
+    requires { IsStripeOf geometry stripe.old × ListedCells geometry.array.width geometry.array.disks cells.now × (length cells.now ≡ geometry.array.width) }
+    ensures { WholeMended geometry.array.width geometry.array.disks geometry.cell_size cells.now stripe.old stripe.new result }
 {
-    let disk = whole_disk(width, disks, cells, 0);
-    if disks + 1 < disk {
+    let Some(disk) = whole_disk(geometry.array, cells) else {
         return false;
+    };
+    if disk <= geometry.array.disks {
+        stripe_cells::solve_rows(geometry, disk, stripe);
+    } else {
+        stripe_cells::solve_diagonals(geometry, stripe);
     }
-    if disks < disk {
-        stripe_cells::solve_diagonals(width, disks, size, stripe);
-        return true;
-    }
-    stripe_cells::solve_rows(width, disks, size, disk, stripe);
     true
 }
 
 // Two disks.
-fn mend_pair(width: usize, disks: usize, size: usize, cells: &[usize], stripe: &mut [u8]) -> bool
-    requires { Sized width disks size stripe.old × ListedCells width disks cells.now × (length cells.now ≡ 2 * width) }
-    ensures { WholeMended width disks size cells.now stripe.old stripe.new result }
+fn mend_pair(geometry: Geometry, cells: &[usize], stripe: &mut [u8]) -> bool
+    requires { IsStripeOf geometry stripe.old × ListedCells geometry.array.width geometry.array.disks cells.now × (length cells.now ≡ 2 * geometry.array.width) }
+    ensures { WholeMended geometry.array.width geometry.array.disks geometry.cell_size cells.now stripe.old stripe.new result }
 {
-    let first = whole_disk(width, disks, cells, 0);
-    if disks + 1 < first {
+    let (former, latter) = cells.split_at(geometry.array.width);
+    let Some(first) = whole_disk(geometry.array, former) else {
         return false;
-    }
-    let second = whole_disk(width, disks, cells, width);
-    if disks + 1 < second {
+    };
+    let Some(second) = whole_disk(geometry.array, latter) else {
         return false;
-    }
-    rebuild_two::solve_pair(width, disks, size, first, second, stripe);
+    };
+    rebuild_two::solve_pair(geometry, first, second, stripe);
     true
 }
 
-// Mends the cells of a list if they are all cells of one disk or of two; else the stripe stays as it
-// was.
-pub fn mend_whole(
-    width: usize,
-    disks: usize,
-    size: usize,
-    cells: &[usize],
-    stripe: &mut [u8],
-) -> bool
-    requires { Sized width disks size stripe.old × ListedCells width disks cells.now }
-    ensures { WholeMended width disks size cells.now stripe.old stripe.new result }
+// Mends the cells of a list if they are all cells of one disk or of two; else the stripe stays
+// unchanged.
+pub fn mend_whole(geometry: Geometry, cells: &[usize], stripe: &mut [u8]) -> bool
+    requires { IsStripeOf geometry stripe.old × ListedCells geometry.array.width geometry.array.disks cells.now }
+    ensures { WholeMended geometry.array.width geometry.array.disks geometry.cell_size cells.now stripe.old stripe.new result }
 {
-    let n = cells.len();
-    if n == width {
-        return mend_disk(width, disks, size, cells, stripe);
+    if cells.len() == geometry.array.width {
+        mend_disk(geometry, cells, stripe)
+    } else if cells.len() == 2 * geometry.array.width {
+        mend_pair(geometry, cells, stripe)
+    } else {
+        false
     }
-    if n == 2 * width {
-        return mend_pair(width, disks, size, cells, stripe);
-    }
-    false
 }

@@ -9,7 +9,7 @@ use native.Mathlib.Nat.{mod-lt}
 use native.Mathlib.Numerals.{add-one}
 use native.Mathlib.Omega.{arith}
 use lib.Dec.{eqb}
-use lib.ListN.{length, drop, drop_of_length-le}
+use lib.ListN.{length, get_or, drop, drop_of_length-le}
 use Rattle.mathematics.specs.Choice.{pick}
 use Rattle.liberation.specs.Sets.{is_width, place, set_of}
 use Rattle.liberation.specs.Plans.{Step, step, diagonal_of, routes, row_steps, diagonal_steps, all_of, plan_of}
@@ -19,8 +19,10 @@ use Rattle.liberation.proofs.RowSteps.{ordinary_row}
 use Rattle.liberation.proofs.OurPlan.{plan_data}
 use Rattle.liberation.proofs.ParityPlans.{plan_parity}
 use Rattle.liberation.proofs.PartLaws.{disk_cases}
-use Rattle.liberation.proofs.RecordLaws.{StepAt, plan_length}
+use Rattle.liberation.proofs.RecordLaws.{StepAt, step_at_lem, plan_length}
 use Rattle.liberation.specs.Stripes.Stripes.{solved, followed}
+use Rattle.planner.specs.declared.records.Steps.{Steps}
+use Rattle.planner.specs.StepRecords.{Holds}
 use Rattle.stripe_cells.specs.Cells.{Ordinary}
 use Rattle.stripe_cells.proofs.OrdinaryLaws.{row_own, diagonal_own, parity_own}
 
@@ -115,3 +117,14 @@ module _ (p k f : ℕ) where
     pub steps_last : (s i : ℕ) (l : List ℕ) → p ≤ i → steps_rest s i l ≡ l
     unfolding followed
     steps_last s i l h = ap (λ (ss : List Step). followed p k s f ss l) (drop_of_length-le (plan_of p k f) {i = i} (omega (arith, plan_length p k f wide most disk)))
+
+-- step i of our plan, and where the arrays have it
+pub plan_step : (p k f i : ℕ) (s : Steps) → is_width p ≡ true → k ≤ p → f ≤ k + 1 → Holds (plan_of p k f) s → i < p
+    → (a : StepAt (plan_of p k f) i) × (get_or s.rows i 0 ≡ a.this.row) × (get_or s.kinds i 0 ≡ a.this.kind) × (get_or s.numbers i 0 ≡ a.this.number)
+plan_step p k f i s wide most disk h l =
+    let a : StepAt (plan_of p k f) i = step_at_lem (plan_of p k f) i (omega (arith, plan_length p k f wide most disk)) in (
+      a,
+      ap (λ (xs : List ℕ). get_or xs i 0) h.rows ∙ a.held (λ q. q.row),
+      ap (λ (xs : List ℕ). get_or xs i 0) h.kinds ∙ a.held (λ q. q.kind),
+      ap (λ (xs : List ℕ). get_or xs i 0) h.numbers ∙ a.held (λ q. q.number),
+    )

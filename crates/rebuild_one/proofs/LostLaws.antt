@@ -5,10 +5,9 @@ use mathlib.Core.Bool.{Bool, true, false, ◌||◌, false≢true}
 use mathlib.Core.Logic.{⊎_elim}
 use mathlib.Core.List.{List, [], ◌∷◌}
 use Prim.Native.Nat.{ℕ, ◌+◌, ◌%◌, ◌≤◌, ◌<◌}
-use native.Mathlib.Nat.{mod-lt}
 use native.Mathlib.Omega.{arith}
 use lib.Dec.{eqb, ltb, leb}
-use borrow.Author.Tests.{eqb-true, eqb-false, eq-eqb, ne_eqb, lt-ltb, ltb-true, le-ltb, le-leb}
+use borrow.Author.Tests.{eqb-true, eqb-false, eq-eqb, ne_eqb, lt-ltb, ltb-true, le-leb}
 use Rattle.mathematics.specs.Choice.{pick}
 use Rattle.mathematics.specs.Lists.{is_in}
 use Rattle.mathematics.proofs.Flags.{and_r, and_i, or_cases}
@@ -34,8 +33,8 @@ only_row row ys f = kept_same (without_keeps row) none ys (λ y h. eq-eqb row y 
 
 module _ (p k f row kind i : ℕ) (numbered : i < p) (rows : row < p) (own : is_in row (lost_in p f (set_of p k kind i)) ≡ true) where
   -- no extra cell on the disk
-  alone : ((r : ℕ) → r < p → is_in (place p r f) (extra_in p k kind i) ≡ false) → without row (lost_in p f (set_of p k kind i)) ≡ pick (ltb p p) (p ∷ []) []
-  alone none = only_row row (lost_in p f (set_of p k kind i)) (λ y h. on row own ∙ sym (on y h)) ∙ sym (ap (λ (b : Bool). pick b (p ∷ []) []) (le-ltb p p (omega arith)))
+  alone : ((r : ℕ) → r < p → is_in (place p r f) (extra_in p k kind i) ≡ false) → without row (lost_in p f (set_of p k kind i)) ≡ []
+  alone none = only_row row (lost_in p f (set_of p k kind i)) (λ y h. on row own ∙ sym (on y h))
     where
       on : (r : ℕ) → is_in r (lost_in p f (set_of p k kind i)) ≡ true → r ≡ pick (eqb kind 0) i (pick (ltb f k) ((i + f) % p) i)
       on r h =
@@ -45,10 +44,10 @@ module _ (p k f row kind i : ℕ) (numbered : i < p) (rows : row < p) (own : is_
           (or_cases (is_in (place p r f) (ordinary_of p k kind i)) (is_in (place p r f) (extra_in p k kind i))
           (sym (ap (is_in (place p r f)) (set_split p k kind i) ∙ is_in_append (place p r f) (ordinary_of p k kind i) (extra_in p k kind i)) ∙ sym (in_lost p f r (set_of p k kind i) b) ∙ h)))
 
-  pub alone_row : kind ≡ 0 → without row (lost_in p f (set_of p k kind i)) ≡ pick (ltb p p) (p ∷ []) []
+  pub alone_row : kind ≡ 0 → without row (lost_in p f (set_of p k kind i)) ≡ []
   alone_row e = alone (λ r h. ap (is_in (place p r f)) (extra_row_lem p k kind i e))
 
-  pub alone_first : i ≡ 0 → without row (lost_in p f (set_of p k kind i)) ≡ pick (ltb p p) (p ∷ []) []
+  pub alone_first : i ≡ 0 → without row (lost_in p f (set_of p k kind i)) ≡ []
   alone_first e = alone (λ r h. ap (is_in (place p r f)) (extra_first p k kind i e))
 
   off : (has_extra p k i ≡ true → extra_disk p i ≡ f → ⊥) → (r : ℕ) → r < p → is_in (place p r f) (extra_in p k kind i) ≡ false
@@ -63,10 +62,10 @@ module _ (p k f row kind i : ℕ) (numbered : i < p) (rows : row < p) (own : is_
       go false true t = ap (λ (x : Bool). x || false) (ne_eqb (place p r f) (extra_of p i) (differ t))
 
   -- the disk is P or Q
-  pub alone_parity : k ≤ f → without row (lost_in p f (set_of p k kind i)) ≡ pick (ltb p p) (p ∷ []) []
+  pub alone_parity : k ≤ f → without row (lost_in p f (set_of p k kind i)) ≡ []
   alone_parity h = alone (off (λ t e. let d : extra_disk p i < k = ltb-true (extra_disk p i) k (and_r (leb 1 i) (ltb (extra_disk p i) k) t) in omega arith))
 
-  pub alone_off : (extra_disk p i ≡ f → ⊥) → without row (lost_in p f (set_of p k kind i)) ≡ pick (ltb p p) (p ∷ []) []
+  pub alone_off : (extra_disk p i ≡ f → ⊥) → without row (lost_in p f (set_of p k kind i)) ≡ []
   alone_off n = alone (off (λ t. n))
 
   -- the extra cell on the disk, which is a data disk: the other one of the two
@@ -90,22 +89,18 @@ module _ (p k f row kind i : ℕ) (numbered : i < p) (rows : row < p) (own : is_
         (without_keeps row).next a (b ∷ [])
         ∙ ap₂ (λ (t : Bool) (l : List ℕ). pick t l (a ∷ l)) e ((without_keeps row).next b [] ∙ ap₂ (λ (t : Bool) (l : List ℕ). pick t l (b ∷ l)) q (without_keeps row).none)
 
-    pub other_extra : (extra_row p i ≡ row → ⊥) → without row (lost_in p f (set_of p k kind i)) ≡ pick (ltb (extra_row p i) p) (extra_row p i ∷ []) []
+    pub other_extra : (extra_row p i ≡ row → ⊥) → without row (lost_in p f (set_of p k kind i)) ≡ extra_row p i ∷ []
     other_extra n =
         ap (without row) both
         ∙ left ((i + f) % p) (extra_row p i) true false here (ne_eqb row (extra_row p i) (λ e. n (sym e)))
-        ∙ sym (ap (λ (b : Bool). pick b (extra_row p i ∷ []) []) (lt-ltb (extra_row p i) p (omega arith)))
       where
         here : eqb row ((i + f) % p) ≡ true
         here =
             ⊎_elim (λ e. e) (λ e. absurd (n (sym (eqb-true row (extra_row p i) (⊎_elim (λ q. q) (λ q. absurd (false≢true q)) (or_cases (eqb row (extra_row p i)) false e))))))
             (or_cases (eqb row ((i + f) % p)) (eqb row (extra_row p i) || false) (sym (ap (is_in row) both) ∙ own))
 
-    pub other_ordinary : (r : ℕ) → extra_row p i ≡ row → r ≡ (i + f) % p → without row (lost_in p f (set_of p k kind i)) ≡ pick (ltb r p) (r ∷ []) []
+    pub other_ordinary : (r : ℕ) → extra_row p i ≡ row → r ≡ (i + f) % p → without row (lost_in p f (set_of p k kind i)) ≡ r ∷ []
     other_ordinary r e q =
         ap (without row) both
         ∙ left ((i + f) % p) (extra_row p i) false true (ne_eqb row ((i + f) % p) (λ w. two_rows (sym w ∙ sym e))) (eq-eqb row (extra_row p i) (sym e))
-        ∙ sym (ap₂ (λ (b : Bool) (x : ℕ). pick b (x ∷ []) []) (lt-ltb r p (omega (arith, q, mod-lt (i + f) some_row))) q)
-      where
-        some_row : 0 < p
-        some_row = omega arith
+        ∙ ap (λ (x : ℕ). x ∷ []) (sym q)

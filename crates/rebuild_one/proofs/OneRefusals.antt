@@ -1,6 +1,7 @@
 -- The promise of a rebuild: the refusals 1, 13, 2, 3 and 5 in this order, which leave the column as
 -- it was, and the accepted call.
-use mathlib.Core.Path.{◌≡◌, sym, ◌∙◌}
+use Rattle.std.specs.Prelude.{Result, Ok, IsErr}
+use mathlib.Core.Path.{◌≡◌, refl, sym, ◌∙◌}
 use mathlib.Core.Bool.{Bool, true, not}
 use mathlib.Core.List.{List}
 use Prim.Native.Nat.{ℕ, ◌+◌, ◌*◌, ◌≤◌}
@@ -10,14 +11,14 @@ use lib.ListN.{length}
 use borrow.Author.Tests.{eqb-true, not-false}
 use Rattle.mathematics.specs.Choice.{first_of, when}
 use Rattle.mathematics.specs.Xor.{all_bytes}
-use Rattle.mathematics.proofs.ChoiceLaws.{first_none, when_none, pick_refused, pick_done}
+use Rattle.mathematics.proofs.ChoiceLaws.{first_none, when_none, pick_done}
 use Rattle.liberation.specs.Sets.{numbers_refusal, long_refusal}
 use Rattle.liberation.proofs.RefusalLaws.{numbers_of_lem, long_of}
 use Rattle.liberation.specs.Stripes.Stripes.{stripe_long}
 use Rattle.liberation.specs.Stripes.StripeLimits.{Sized}
-use Rattle.refusals.specs.declared.Answer.{Answer}
-use Rattle.refusals.specs.Answers.{Answers}
-use Rattle.refusals.proofs.AnswerLaws.{answers_as}
+use Rattle.refusals.specs.declared.refusal.Refusal.{Refusal}
+use Rattle.refusals.specs.Refused.{refused, answer_of}
+use Rattle.refusals.proofs.RefusalNumbers.{refused_pick}
 use Rattle.rebuild_one.specs.RebuildOneSays.{lengths_refusal, Writes}
 
 -- none of the refusals: the stripe is within the limits, the disk is one of the array's, and the
@@ -32,9 +33,9 @@ refusal_none p k s f m t e =
     (record { array = q.0; small = omega (arith, q.2); long = long_of (stripe_long p k s) t v.0 }, q.3, eqb-true m (p * s) (not-false b (when_none (not b) 4 v.1)))
 
 -- a refusal
-pub refused : (n m : ℕ) (new t o : List ℕ) (r : Answer) → n ≡ m → (n ≡ 0 → ⊥) → Answers n r → all_bytes t ≡ true → Writes m new t o o r
-refused n m new t o r e z a b = record { answer = answers_as n m r e a; column = pick_refused n m new o e z; bytes = b }
+pub refused_writes : (m : ℕ) (new t o : List ℕ) (r : Result Unit Refusal) → IsErr r → refused r ≡ m → all_bytes t ≡ true → Writes m new t o o (answer_of r)
+refused_writes m new t o r i e b = record { answer = record { refusal = e; place = refl }; column = refused_pick r m new o i e; bytes = b }
 
 -- the accepted call
-pub accepted : (m : ℕ) (new t o o' : List ℕ) (r : Answer) → m ≡ 0 → o' ≡ new → Answers 0 r → all_bytes t ≡ true → Writes m new t o o' r
-accepted m new t o o' r z e a b = record { answer = answers_as 0 m r (sym z) a; column = e ∙ pick_done m new o z; bytes = b }
+pub accepted_writes : (m : ℕ) (new t o o' : List ℕ) → 0 ≡ m → o' ≡ new → all_bytes t ≡ true → Writes m new t o o' (answer_of (Ok tt))
+accepted_writes m new t o o' z e b = record { answer = record { refusal = z; place = refl }; column = e ∙ pick_done m new o (sym z); bytes = b }

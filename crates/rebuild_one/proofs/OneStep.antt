@@ -9,10 +9,10 @@ use mathlib.Core.List.{List, [], ◌∷◌}
 use Prim.Native.Nat.{ℕ, zero, suc, ◌+◌, ◌-◌, ◌*◌, ◌≤◌, ◌<◌}
 use native.Mathlib.Nat.{mul-le-mul_right}
 use native.Mathlib.Omega.{arith}
-use lib.Dec.{eqb, ltb}
-use lib.ListN.{length, get_or, set, take, length-take, length-drop}
+use lib.Dec.{eqb}
+use lib.ListN.{length, get_or, length-take, length-drop}
 use borrow.Rule.Slice.PartMut.{put_mid, mid_of}
-use borrow.Author.Tests.{eqb-true, eqb-false, eq-eqb, ne_eqb, lt-ltb, le-ltb, not-true}
+use borrow.Author.Tests.{eqb-true, eqb-false, eq-eqb, ne_eqb, not-true}
 use Rattle.mathematics.specs.Choice.{pick}
 use Rattle.mathematics.specs.Lists.{is_in}
 use Rattle.mathematics.specs.Xor.{xor_l}
@@ -21,7 +21,9 @@ use Rattle.mathematics.proofs.MemberLaws.{in_below}
 use Rattle.mathematics.proofs.OrderLaws.{lt_or_le}
 use Rattle.mathematics.proofs.XorLaws.{xor_l_zeros}
 use Rattle.liberation.specs.Sets.{place, row_at, disk_at, set_of, lost_in, surviving_in}
-use Rattle.liberation.proofs.SetLaws.{disk_place, row_place, place_of, lost_below, in_surviving, survivors_below}
+use Rattle.liberation.proofs.SetLaws.{disk_place, row_place, place_of, place_below, set_below, lost_below, in_surviving, survivors_below}
+use Rattle.liberation.proofs.SetSizes.{size_most}
+use Rattle.mathematics.proofs.KeptLaws.{kept_below, kept_short}
 use Rattle.liberation.specs.Stripes.Stripes.{stripe_long, cell_at, with_cell, with_column, xor_over, without, solved}
 use Rattle.liberation.proofs.Stripes.StripeCellLaws.{cell_fits, cell_long, length_with, with_same, cell_with, with_with, cell_other, cell_on, cell_off, column_put}
 use Rattle.liberation.proofs.Stripes.OverLaws.{over_long, over_bytes, over_ext, over_split, in_without}
@@ -30,10 +32,12 @@ use Rattle.xor.specs.Parts.{with_part, xor_offsets}
 use Rattle.xor.specs.Reach.{Reached}
 use Rattle.xor.proofs.PartLaws.{put_part}
 use Rattle.xor_in_place.specs.Beside.{Beside}
-use Rattle.stripe_cells.specs.Offsets.{scaled, Pushed}
+use Rattle.stripe_cells.specs.Offsets.{scaled}
 use Rattle.stripe_cells.proofs.OffsetLaws.{over_offsets}
+use Rattle.stripe_cells.proofs.SolvedLaws.{list_reached}
+use Rattle.stripe_cells.proofs.OrdinaryLists.{survivors_keep}
 use Rattle.stripe_cells.specs.OrdinaryCells.{survivors}
-use Rattle.stripe_cells.proofs.SetLists.{survivors_one, survivors_reached, size_fits}
+use Rattle.stripe_cells.proofs.SetLists.{survivors_one}
 
 -- the cell of the step is on the lost disk, so no survivor is left out
 surviving_without : (p f row : ℕ) (xs : List ℕ) → row < p → surviving_in p f (without (place p row f) xs) ≡ surviving_in p f xs
@@ -115,26 +119,30 @@ module _ (p k s f row kind number : ℕ) (t col : List ℕ) (long : length t ≡
       (cells_long (p * (k + 2)) s (surviving_in p f xs) t (long ∙ omega arith) (survivors_below p k f kind number numbered))
 
   -- the offsets of the survivors: each has the length of the row's part, and lies in the stripe
-  module _ (n : ℕ) (old at : List ℕ) (room : length at ≡ 33) (pushed : Pushed old at 0 n (scaled s (survivors p f f xs))) where
+  module _ (small : k ≤ 31) (list : List ℕ) (e : list ≡ scaled s (survivors p f f xs)) where
     mid_long : length (mid_of (row * s) (row * s + s - row * s) col) ≡ s
     mid_long = simp (length-take, length-drop) (omega (arith, row_fits))
 
-    pub sources_fit : (length (mid_of (row * s) (row * s + s - row * s) col) ≤ length t) × Reached (length (mid_of (row * s) (row * s + s - row * s) col)) (length t) (take n at)
+    size_fits : s ≤ length t
+    size_fits = let l : 0 < k + 2 = omega arith in omega (arith, cell_fits (p * (k + 2)) s (place p number 0) (place_below p (k + 2) number 0 numbered l))
+
+    pub sources_fit : (length (mid_of (row * s) (row * s + s - row * s) col) ≤ length t) × Reached (length (mid_of (row * s) (row * s + s - row * s) col)) (length t) list
     sources_fit = (
-      omega (arith, mid_long, size_fits p k s kind number f f n old at t numbered room long pushed),
-      subst (λ (m : ℕ). Reached m (length t) (take n at)) (sym mid_long) (survivors_reached p k s kind number f f n old at t numbered room long pushed),
+      omega (arith, mid_long, size_fits),
+      subst (λ (m : ℕ). Reached m (length t) list) (sym mid_long)
+          (list_reached s (p * (k + 2)) list (survivors p f f xs) t e (omega (arith, kept_short (survivors_keep p f f) xs, size_most p k kind number)) (kept_below (survivors_keep p f f) (p * (k + 2)) xs (set_below p k kind number numbered)) (long ∙ omega arith)),
     )
 
     -- ys is their XOR: it is put into the row's part of the column
-    module _ (ys : List ℕ) (gathered : ys ≡ xor_offsets (length (mid_of (row * s) (row * s + s - row * s) col)) t (take n at)) where
+    module _ (ys : List ℕ) (gathered : ys ≡ xor_offsets (length (mid_of (row * s) (row * s + s - row * s) col)) t list) where
       abbrev mid : List ℕ
       mid = put_mid (row * s) (row * s + s - row * s) col ys
 
       mid_is : mid ≡ with_cell s row alive col
       mid_is =
-          put_part (λ l. xor_offsets (length l) t (take n at)) (row * s) s col ys gathered
-          ∙ ap (λ (m : ℕ). with_cell s row (xor_offsets m t (take n at)) col) (cell_long s row col row_fits)
-          ∙ ap (λ (l : List ℕ). with_cell s row l col) (ap (xor_offsets s t) (pushed.list ∙ ap (scaled s) (survivors_one p f xs)) ∙ over_offsets s t (surviving_in p f xs))
+          put_part (λ l. xor_offsets (length l) t list) (row * s) s col ys gathered
+          ∙ ap (λ (m : ℕ). with_cell s row (xor_offsets m t list) col) (cell_long s row col row_fits)
+          ∙ ap (λ (l : List ℕ). with_cell s row l col) (ap (xor_offsets s t) (e ∙ ap (scaled s) (survivors_one p f xs)) ∙ over_offsets s t (surviving_in p f xs))
 
       stands : cell_at s mid row ≡ alive
       stands = ap (λ (c : List ℕ). cell_at s c row) mid_is ∙ cell_with s row alive col alive_long row_fits
@@ -154,22 +162,19 @@ module _ (p k s f row kind number : ℕ) (t col : List ℕ) (long : length t ≡
               (λ y h. ap (λ (c : List ℕ). cell_at s c y) mid_is ∙ cell_other s row alive col alive_long row_fits y (eqb-false y row (not-true (eqb y row) (and_r (is_in y (lost_in p f xs)) (not (eqb y row)) (kept_row y h)))))
 
       -- there is no other
-      pub step_alone : (other : ℕ) → p ≤ other → without row (lost_in p f xs) ≡ pick (ltb other p) (other ∷ []) [] → with_column p s f mid t ≡ solved s (place p row f) xs whole
+      pub step_alone : without row (lost_in p f xs) ≡ [] → with_column p s f mid t ≡ solved s (place p row f) xs whole
       unfolding xor_over
-      step_alone other h e =
+      step_alone none =
           step_done mid
           (sym
           (ap (λ (c : List ℕ). with_cell s row c mid)
-          (ap₂ xor_l stands (ap (xor_over s (cell_at s mid)) (e ∙ ap (λ (b : Bool). pick b (other ∷ []) []) (le-ltb other p h)))
+          (ap₂ xor_l stands (ap (xor_over s (cell_at s mid)) none)
           ∙ xor_l_zeros s alive alive_long (over_bytes s (cell_at s t) (surviving_in p f xs))
           ∙ sym stands)
           ∙ with_same s row mid))
 
-      -- there is one, and the list has the row's own cell and that one
-      module _ (other : ℕ) (h : other < p) (e : without row (lost_in p f xs) ≡ pick (ltb other p) (other ∷ []) []) (pair : List ℕ) (two : pair ≡ row * s ∷ (other * s ∷ [])) where
-        one_left : without row (lost_in p f xs) ≡ other ∷ []
-        one_left = e ∙ ap (λ (b : Bool). pick b (other ∷ []) []) (lt-ltb other p h)
-
+      -- there is one, which is added to the row's own cell
+      module _ (other : ℕ) (h : other < p) (one_left : without row (lost_in p f xs) ≡ other ∷ []) (pair : List ℕ) (two : pair ≡ row * s ∷ (other * s ∷ [])) where
         apart : (other * s + s ≤ row * s) ⊎ (row * s ≤ other * s)
         apart = ⊎_elim (λ l. inl (cell_fits row s other l)) (λ l. inr (mul-le-mul_right s l)) (lt_or_le other row)
 
@@ -200,9 +205,3 @@ module _ (p k s f row kind number : ℕ) (t col : List ℕ) (long : length t ≡
         step_added last q =
             step_done last
             (q ∙ ap (λ (l : List ℕ). with_cell s row (xor_offsets s mid l) mid) two ∙ sym (ap (λ (l : List ℕ). with_cell s row (xor_l (cell_at s mid row) (xor_over s (cell_at s mid) l)) mid) one_left))
-
--- the first two numbers of a list, put there one after the other
-pub two_put : (at : List ℕ) (a b : ℕ) → 2 ≤ length at → take 2 (set (set at 0 a) 1 b) ≡ a ∷ (b ∷ [])
-two_put [] a b h = absurd (omega arith)
-two_put (x ∷ []) a b h = absurd (omega arith)
-two_put (x ∷ (y ∷ at)) a b h = refl

@@ -3,7 +3,7 @@
 use Rattle.std.specs.Prelude.{List, ℕ}
 use Rattle.liberation.specs.BalancedPlan.Balanced.{balanced_plan}
 use Rattle.liberation.specs.Stripes.Stripes.{rebuilt_by}
-use Rattle.refusals.specs.declared.Answer.{Answer}
+use Rattle.refusals.specs.declared.answer.Answer.{Answer}
 use Rattle.rebuild_one.specs.RebuildOneSays.{one_refusal, Writes}
 
 abbrev pub BalancedOneSays : ℕ → ℕ → ℕ → ℕ → List ℕ → List ℕ → List ℕ → Answer → Type 0

@@ -5,7 +5,7 @@ use Rattle.mathematics.specs.Choice.{pick, when, first_of}
 use Rattle.mathematics.specs.Xor.{all_bytes}
 use Rattle.liberation.specs.Sets.{numbers_refusal}
 use Rattle.liberation.specs.Stripes.Stripes.{stripe_long, rebuilt}
-use Rattle.refusals.specs.declared.Answer.{Answer}
+use Rattle.refusals.specs.declared.answer.Answer.{Answer}
 use Rattle.refusals.specs.Answers.{Answers}
 
 -- the rebuild refuses by 1, 13, 2, 3 and 5: n and m are the bytes of the stripe and of the column

@@ -1,37 +1,37 @@
-// The steps of an accepted plan, one after another, from a lent stripe into a lent column. Each
-// cell goes to its own stretch of the column.
-ghost use Rattle.std.specs.Prelude.{◌≡◌, true, ◌+◌, ◌*◌, ◌≤◌, length};
+// The steps of an accepted plan, or of ours, one after another, from a lent stripe into a lent column.
+// Each cell goes to its own stretch of the column.
+ghost use Rattle.std.specs.Prelude.{◌≡◌, true, ◌*◌, length};
 ghost use Rattle.liberation.specs.Judging.{accepted};
-ghost use Rattle.liberation.specs.Stripes.Stripes.{rebuilt_by};
-ghost use Rattle.liberation.specs.Stripes.StripeLimits.{Sized};
+ghost use Rattle.liberation.specs.Stripes.Stripes.{rebuilt, rebuilt_by};
 ghost use Rattle.planner.specs.StepRecords.{held};
+ghost use Rattle.refusals.specs.StripeOf.{IsStripeOf};
 
-use super::one_cell;
+use super::lost_disk::LostDisk;
+use parity_sets::ParitySet;
 use planner::Steps;
+use stripe_cells::Offsets;
 
-// The steps of an accepted plan, in order.
-pub fn follow(
-    width: usize,
-    disks: usize,
-    size: usize,
-    disk: usize,
-    steps: Steps,
-    stripe: &[u8],
-    column: &mut [u8],
-)
-    requires sized { Sized width disks size stripe.now }
-    requires disk_bound { (disk ≤ disks + 1) × (length column.old ≡ width * size) × (accepted width disks disk (held width steps) ≡ true) }
-    ensures { column.new ≡ rebuilt_by width disks size disk (held width steps) stripe.now }
-{
-    let mut at = stripe_cells::no_offsets();
-    let mut i = 0;
-    while i < width {
-        let row = steps.rows[i] as usize;
-        let kind = steps.kinds[i] as usize;
-        let number = steps.numbers[i] as usize;
-        one_cell::rebuild_cell(
-            width, disks, size, disk, row, kind, number, stripe, column, &mut at,
-        );
-        i += 1;
+impl LostDisk {
+    // The steps of an accepted plan, in order.
+    pub fn follow(self, steps: Steps, stripe: &[u8], column: &mut [u8])
+        requires long { IsStripeOf self.geometry stripe.now × (length column.old ≡ self.geometry.array.width * self.geometry.cell_size) }
+        requires plan { accepted self.geometry.array.width self.geometry.array.disks self.disk (held self.geometry.array.width steps) ≡ true }
+        ensures { column.new ≡ rebuilt_by self.geometry.array.width self.geometry.array.disks self.geometry.cell_size self.disk (held self.geometry.array.width steps) stripe.now }
+    {
+        let mut list = Offsets::new();
+        for i in 0..self.geometry.array.width {
+            let row = usize::from(steps.rows[i]);
+            let set = ParitySet::of_step(steps.kinds[i], steps.numbers[i]);
+            self.rebuild_cell(row, set, stripe, column, &mut list);
+        }
+    }
+    // Makes our plan and follows it.
+    pub fn rebuild_column(self, stripe: &[u8], column: &mut [u8])
+        requires { IsStripeOf self.geometry stripe.now × (length column.old ≡ self.geometry.array.width * self.geometry.cell_size) }
+        ensures { column.new ≡ rebuilt self.geometry.array.width self.geometry.array.disks self.geometry.cell_size self.disk stripe.now }
+    {
+        let array = self.geometry.array;
+        let plan = planner::plan_steps(array, self.disk);
+        self.follow(plan.steps, stripe, column);
     }
 }

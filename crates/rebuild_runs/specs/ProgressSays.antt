@@ -1,6 +1,6 @@
 -- How far a rebuild run is (document 01, "Run and space", and document 02, ask 8): whether it is
 -- over, the cells read, and the promise of the call, for accepted and refused calls alike.
-use Rattle.std.specs.Prelude.{◌≡◌, Bool, ◌&&◌, ℕ, ◌-◌, ◌*◌, ◌≤◌, eqb}
+use Rattle.std.specs.Prelude.{◌≡◌, Bool, false, ◌&&◌, ℕ, ◌-◌, ◌*◌, ◌≤◌, eqb}
 use Rattle.mathematics.specs.Choice.{pick}
 use Rattle.liberation.specs.Plans.{plan_of, read_count}
 use Rattle.refusals.specs.Answers.{Answers}
@@ -19,6 +19,12 @@ reads_of x = read_count x.shape.width x.shape.disks x.lost (plan_of x.shape.widt
 -- "Cells read become rebuilt stripes × the read count": rebuilt are "next less skipped"
 abbrev pub cells_so_far : Run → ℕ
 cells_so_far x = (x.next - x.skipped) * reads_of x
+
+-- a refusal by number n
+pub record ProgressRefused (n : ℕ) (r : Progress) : Type 0 where
+  pub answer : Answers n r.answer
+  pub over : r.over ≡ false
+  pub cells : r.cells ≡ 0
 
 -- reading a record
 pub record ProgressSays (x : Run) (r : Progress) : Type 0 where

@@ -1,11 +1,13 @@
 -- The record of a rebuild run over many stripes (document 01, "Run and space", and document 02, ask
 -- 8, skipped stripes): its refusals, how it moves on, and the promise of a skip for accepted and
 -- refused calls alike.
-use Rattle.std.specs.Prelude.{◌≡◌, Bool, ◌||◌, not, ℕ, ◌+◌, ◌≤◌, ◌<◌, eqb, leb, ltb}
+use Rattle.std.specs.Prelude.{◌≡◌, Bool, ◌||◌, not, ℕ, ◌+◌, ◌≤◌, ◌<◌, eqb, leb, ltb, Result, Ok, Err}
 use Rattle.mathematics.specs.Choice.{pick, when, first_of}
 use Rattle.liberation.specs.Sets.{numbers_refusal}
-use Rattle.refusals.specs.declared.Answer.{Answer}
+use Rattle.refusals.specs.declared.answer.Answer.{Answer}
+use Rattle.refusals.specs.declared.refusal.Refusal.{Refusal}
 use Rattle.refusals.specs.Answers.{Answers}
+use Rattle.refusals.specs.Refused.{refused}
 use Rattle.rebuild_runs.specs.declared.Run.{Run}
 
 -- the refusals that opening has: 1, 13, 2 and 3
@@ -41,6 +43,15 @@ moved_by x j = record { shape = x.shape; lost = x.lost; stripes = x.stripes; nex
 pub record CanMove (x : Run) (j : ℕ) : Type 0 where
   pub next : x.next < x.stripes
   pub skipped : x.skipped + j ≤ x.next + 1
+
+-- what a call on the record x leaves: the record that it gives, or x where it refuses
+abbrev pub run_after : Run → Result Run Refusal → Run
+run_after x (Ok y) = y
+run_after x (Err _) = x
+
+-- its answer, as C gets it
+abbrev pub run_answer : Result Run Refusal → Answer
+run_answer r = record { refusal = refused r; place = 0 }
 
 -- a skip of stripe i: x before it and x' after it
 pub record SkipSays (x x' : Run) (i : ℕ) (r : Answer) : Type 0 where

@@ -1,9 +1,12 @@
 -- A run as it is opened (document 01, "Run and space"), the promise of opening for accepted and
 -- refused calls alike, and records of earlier versions as ones of today.
-use Rattle.std.specs.Prelude.{◌≡◌, ℕ, eqb}
+use Rattle.std.specs.Prelude.{◌≡◌, ℕ, eqb, Result}
 use Rattle.mathematics.specs.Choice.{pick}
 use Rattle.liberation.specs.Sets.{numbers_refusal}
+use Rattle.refusals.specs.declared.refusal.Refusal.{Refusal}
 use Rattle.refusals.specs.Answers.{Answers}
+use Rattle.refusals.specs.Refused.{refused}
+use Rattle.rebuild_runs.specs.Runs.{run_after}
 use Rattle.rebuild_runs.specs.declared.Run.{Run}
 use Rattle.rebuild_runs.specs.declared.RunAnswer.{RunAnswer}
 use Rattle.rebuild_runs.specs.declared.starts.FullRun.{FullRun}
@@ -16,6 +19,11 @@ opened p k s f n = record { shape = record { width = p; disks = k; cell_size = s
 -- the record that a refused opening gives
 abbrev pub no_run : Run
 no_run = opened 0 0 0 0 0
+
+-- the answer that an opening gives by its run or its refusal
+pub record OpensBy (x : Result Run Refusal) (r : RunAnswer) : Type 0 where
+  pub answer : Answers (refused x) r.answer
+  pub run : r.run ≡ run_after no_run x
 
 -- opening a run
 pub record OpenSays (p k s f n : ℕ) (r : RunAnswer) : Type 0 where

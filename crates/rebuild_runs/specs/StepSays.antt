@@ -4,7 +4,7 @@ use Rattle.std.specs.Prelude.{◌≡◌, Bool, true, List, ℕ, eqb, length}
 use Rattle.mathematics.specs.Choice.{pick, first_of}
 use Rattle.mathematics.specs.Xor.{all_bytes}
 use Rattle.liberation.specs.Stripes.Stripes.{rebuilt}
-use Rattle.refusals.specs.declared.Answer.{Answer}
+use Rattle.refusals.specs.declared.answer.Answer.{Answer}
 use Rattle.refusals.specs.Answers.{Answers}
 use Rattle.rebuild_one.specs.RebuildOneSays.{lengths_refusal}
 use Rattle.rebuild_runs.specs.declared.Run.{Run}

@@ -4,7 +4,7 @@ use Rattle.mathematics.specs.Choice.{pick, when, first_of}
 use Rattle.mathematics.specs.Xor.{all_bytes}
 use Rattle.liberation.specs.Stripes.Stripes.{rebuilt}
 use Rattle.liberation.specs.Scrub.Survivors.{fits}
-use Rattle.refusals.specs.declared.Answer.{Answer}
+use Rattle.refusals.specs.declared.answer.Answer.{Answer}
 use Rattle.refusals.specs.Answers.{Answers}
 use Rattle.rebuild_one.specs.RebuildOneSays.{one_refusal}
 

@@ -4,60 +4,46 @@
 
 mod columns;
 
-ghost use Rattle.std.specs.Prelude.{◌≡◌, not, length};
+ghost use Rattle.std.specs.Prelude.{◌≡◌, not, length, IfOk};
 ghost use Rattle.mathematics.specs.Choice.{first_of, when};
 ghost use Rattle.liberation.specs.Scrub.Survivors.{fits};
+ghost use Rattle.refusals.specs.Refused.{refused, answer_of};
 ghost use Rattle.rebuild_one.specs.RebuildOneSays.{lengths_refusal};
 ghost use Rattle.rebuild_tested.specs.Says.{TestedSays};
 
-use refusals::numbers::SURVIVORS_DISAGREE;
-use refusals::{Answer, Shape};
+use rebuild_one::LostDisk;
+use refusals::{Refusal, Shape};
 
-// The refusal of a call on a stripe and a column of these many bytes, 0 for none. The survivors are
-// tested last, without a byte of the lost disk.
-fn tested_refusal(
-    width: usize,
-    disks: usize,
-    size: usize,
-    disk: usize,
+// The lost disk of a call on a stripe and a column of these many bytes. The survivors are tested
+// last, without a byte of the lost disk.
+fn check_survivors(
+    shape: Shape,
+    lost: usize,
     stripe: &[u8],
     column: usize,
-) -> u8
-    ensures { result ≡ first_of (lengths_refusal width disks size disk (length stripe.now) column) (when (not (fits width disks size disk stripe.now)) 19) }
+) -> Result<LostDisk, Refusal>
+    ensures refusal { refused result ≡ first_of (lengths_refusal shape.width shape.disks shape.cell_size lost (length stripe.now) column) (when (not (fits shape.width shape.disks shape.cell_size lost stripe.now)) 19) }
+    ensures numbers { IfOk result (λ l. (l.geometry.array.width ≡ shape.width) × (l.geometry.array.disks ≡ shape.disks) × (l.geometry.cell_size ≡ shape.cell_size) × (l.disk ≡ lost)) }
 {
-    let refusal = rebuild_one::one_refusal(width, disks, size, disk, stripe.len(), column);
-    if refusal != 0 {
-        return refusal;
+    let disk = LostDisk::of_call(shape, lost, stripe.len(), column)?;
+    if scrub::disk_fits(disk.geometry, lost, stripe) {
+        Ok(disk)
+    } else {
+        Err(Refusal::SurvivorsDisagree)
     }
-    if scrub::disk_fits(width, disks, size, disk, stripe) {
-        return 0;
-    }
-    SURVIVORS_DISAGREE
 }
 
 // Rebuilds one lost disk into the column, if some clean stripe has all surviving cells. Refusals:
-// 1, 13, 2, 3, 5, 19; a refused call leaves the column as it was.
-pub fn rebuild_tested(shape: Shape, lost: usize, stripe: &[u8], column: &mut [u8]) -> Answer
-    ensures { TestedSays shape.width shape.disks shape.cell_size lost stripe.now column.old column.new result }
+// 1, 13, 2, 3, 5, 19; a refused call leaves the column unchanged.
+pub fn rebuild_tested(
+    shape: Shape,
+    lost: usize,
+    stripe: &[u8],
+    column: &mut [u8],
+) -> Result<(), Refusal>
+    ensures { TestedSays shape.width shape.disks shape.cell_size lost stripe.now column.old column.new (answer_of result) }
 {
-    let refusal = tested_refusal(
-        shape.width,
-        shape.disks,
-        shape.cell_size,
-        lost,
-        stripe,
-        column.len(),
-    );
-    if refusal != 0 {
-        return refusals::answered(refusal);
-    }
-    columns::tested_column(
-        shape.width,
-        shape.disks,
-        shape.cell_size,
-        lost,
-        stripe,
-        column,
-    );
-    refusals::answered(0)
+    let disk = check_survivors(shape, lost, stripe, column.len())?;
+    columns::tested_column(disk, stripe, column);
+    Ok(())
 }

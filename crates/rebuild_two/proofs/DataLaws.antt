@@ -12,7 +12,6 @@ use Rattle.mathematics.specs.Xor.{all_bytes}
 use Rattle.mathematics.proofs.Flags.{and_l}
 use Rattle.mathematics.proofs.OrderLaws.{lt_or_le}
 use Rattle.mathematics.proofs.Primes.{Prime}
-use Rattle.liberation.specs.Sets.{is_width}
 use Rattle.liberation.proofs.Widths.{width_prime, width_odd}
 use Rattle.liberation.specs.Stripes.Stripes.{is_stripe}
 use Rattle.liberation.proofs.Stripes.Solving.{stripe_of}
@@ -21,7 +20,7 @@ use Rattle.liberation.proofs.TwoDisks.Roles.{roles_forward, roles_backward}
 use Rattle.liberation.specs.TwoDisksBySums.Sums.{sum_walked}
 use Rattle.liberation.proofs.TwoDisksBySums.Summing.{sums_walk}
 use Rattle.liberation.specs.Stripes.StripeLimits.{Sized}
-use Rattle.two_disk_walk.specs.WalkDisks.{Walked, walked_by}
+use Rattle.two_disk_walk.specs.WalkDisks.{walked_by}
 
 -- a < b: which way the walk goes
 module _ (p k s a b : ℕ) (t u : List ℕ) where
@@ -68,10 +67,6 @@ module _ (p k s a b : ℕ) (t u : List ℕ) where
         (λ l. data_zero f e q l (w ∙ ap (λ (c : Bool). pick c (sum_walked p k s b a t) (walked p k s b 0 t)) (le-ltb 0 a l)))
         (lt_or_le 0 a)
 
--- a < b are walked forward, never from disk 0, or back, from b
-module _ (p k a b : ℕ) (width : is_width p ≡ true) (less : a < b) (below : b < k) where
-  pub walked_forward : (f : Bool) → f ≡ forward p a b → f ≡ true → Walked p k a b
-  walked_forward f e q = record { odd = width_odd p width; low = leb-true 1 a (and_l (leb 1 a) (comes_to_one ((p - 1) / 2) p (b - a) (b - a)) (sym e ∙ q)); high = omega arith; other = below }
-
-  pub walked_back : (y : ℕ) → y < b → Walked p k b y
-  walked_back y h = record { odd = width_odd p width; low = omega arith; high = below; other = omega arith }
+-- the walk never goes from disk 0
+pub forward_above : (p a b : ℕ) (f : Bool) → f ≡ forward p a b → f ≡ true → 1 ≤ a
+forward_above p a b f e q = leb-true 1 a (and_l (leb 1 a) (comes_to_one ((p - 1) / 2) p (b - a) (b - a)) (sym e ∙ q))

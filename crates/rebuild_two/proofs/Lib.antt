@@ -5,4 +5,3 @@ pub mod DiskLaws
 pub mod DataLaws
 pub mod RoleLaws
 pub mod UpLaws
-pub mod ParityLaws

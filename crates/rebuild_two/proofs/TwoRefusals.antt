@@ -1,5 +1,6 @@
 -- Refusals 1, 13 and 2 to 5 of `rebuild_two`, and its promise from what was refused or done.
-use mathlib.Core.Path.{◌≡◌, sym, ◌∙◌}
+use mathlib.Core.Path.{◌≡◌, refl, sym, ◌∙◌}
+use Rattle.std.specs.Prelude.{Result, Ok, IsErr}
 use mathlib.Core.Bool.{true}
 use mathlib.Core.List.{List}
 use Prim.Native.Nat.{ℕ, ◌+◌, ◌≤◌}
@@ -8,12 +9,12 @@ use lib.Dec.{eqb, ltb}
 use borrow.Author.Tests.{ltb-false, eqb-false}
 use Rattle.mathematics.specs.Choice.{when, first_of}
 use Rattle.mathematics.specs.Xor.{all_bytes}
-use Rattle.mathematics.proofs.ChoiceLaws.{first_none, when_none, pick_refused, pick_done}
+use Rattle.mathematics.proofs.ChoiceLaws.{first_none, when_none, pick_done}
 use Rattle.liberation.specs.Sets.{numbers_refusal, disk_refusal, long_refusal}
 use Rattle.liberation.proofs.RefusalLaws.{numbers_of_lem, long_of}
-use Rattle.refusals.specs.declared.Answer.{Answer}
-use Rattle.refusals.specs.Answers.{Answers}
-use Rattle.refusals.proofs.AnswerLaws.{answers_as}
+use Rattle.refusals.specs.declared.refusal.Refusal.{Refusal}
+use Rattle.refusals.specs.Refused.{refused, answer_of}
+use Rattle.refusals.proofs.RefusalNumbers.{refused_pick}
 use Rattle.liberation.specs.Stripes.Stripes.{stripe_long}
 use Rattle.liberation.specs.TwoDisks.Pairs.{pair_solved}
 use Rattle.liberation.specs.Stripes.StripeLimits.{Sized}
@@ -35,18 +36,19 @@ refusal_none p k s a b t e =
       eqb-false a b (when_none (eqb a b) 3 h.0),
     )
 
-pub two_refused : (p k s a b n : ℕ) (t : List ℕ) (r : Answer) → n ≡ two_refusal p k s a b t → (n ≡ 0 → ⊥) → Answers n r → all_bytes t ≡ true → TwoSays p k s a b t t r
-two_refused p k s a b n t r e z q y =
+-- the promise from what was refused, or done
+pub two_refused : (p k s a b : ℕ) (t : List ℕ) (r : Result Unit Refusal) → IsErr r → refused r ≡ two_refusal p k s a b t → all_bytes t ≡ true → TwoSays p k s a b t t (answer_of r)
+two_refused p k s a b t r i e y =
     record {
-      answer = answers_as n (two_refusal p k s a b t) r e q;
-      stripe = pick_refused n (two_refusal p k s a b t) (pair_solved p k s a b t) t e z;
+      answer = record { refusal = e; place = refl };
+      stripe = refused_pick r (two_refusal p k s a b t) (pair_solved p k s a b t) t i e;
       bytes = y;
     }
 
-pub two_done : (p k s a b : ℕ) (t u : List ℕ) (r : Answer) → two_refusal p k s a b t ≡ 0 → u ≡ pair_solved p k s a b t → Answers 0 r → all_bytes t ≡ true → TwoSays p k s a b t u r
-two_done p k s a b t u r z e q y =
+pub two_done : (p k s a b : ℕ) (t u : List ℕ) → 0 ≡ two_refusal p k s a b t → u ≡ pair_solved p k s a b t → all_bytes t ≡ true → TwoSays p k s a b t u (answer_of (Ok tt))
+two_done p k s a b t u z e y =
     record {
-      answer = answers_as 0 (two_refusal p k s a b t) r (sym z) q;
-      stripe = e ∙ pick_done (two_refusal p k s a b t) (pair_solved p k s a b t) t z;
+      answer = record { refusal = z; place = refl };
+      stripe = e ∙ pick_done (two_refusal p k s a b t) (pair_solved p k s a b t) t (sym z);
       bytes = y;
     }

@@ -5,7 +5,7 @@ use Rattle.mathematics.specs.Xor.{all_bytes}
 use Rattle.liberation.specs.Sets.{numbers_refusal, disk_refusal, long_refusal}
 use Rattle.liberation.specs.Stripes.Stripes.{stripe_long}
 use Rattle.liberation.specs.TwoDisks.Pairs.{pair_solved}
-use Rattle.refusals.specs.declared.Answer.{Answer}
+use Rattle.refusals.specs.declared.answer.Answer.{Answer}
 use Rattle.refusals.specs.Answers.{Answers}
 
 -- the rebuild refuses by 1, 13, 2, 3, 4 and 5: a and b are the lost disks, t is the stripe

@@ -1,7 +1,7 @@
 -- Answers by a refusal number that a test gave, under another name for it.
 use mathlib.Core.Path.{◌≡◌, sym, ap₂, ◌∙◌}
 use Prim.Native.Nat.{ℕ}
-use Rattle.refusals.specs.declared.Answer.{Answer}
+use Rattle.refusals.specs.declared.answer.Answer.{Answer}
 use Rattle.refusals.specs.Answers.{Answers}
 
 pub answers_as : (n m : ℕ) (a : Answer) → n ≡ m → Answers n a → Answers m a

@@ -1,64 +1,65 @@
-// The tests of single numbers that calls have in common: width, data disks, size of a cell, disk,
-// length of a lent slice.
+// The tests of single numbers that calls have in common: width, data disks, size of a cell,
+// disk, length of a slice.
 ghost use Rattle.std.specs.Prelude.{◌≡◌, not, eqb};
 ghost use Rattle.mathematics.specs.Choice.{when};
 ghost use Rattle.liberation.specs.Sets.{width_refusal, disks_refusal, size_refusal, disk_refusal};
+ghost use Rattle.refusals.specs.Refused.{refused};
 
-use super::numbers::{BAD_CELL_SIZE, BAD_DISKS, BAD_LENGTH, BAD_WIDTH, NO_SUCH_DISK};
-
-// The bytes of the largest cell.
-const MAX_CELL_SIZE: usize = 4096;
+use super::Refusal;
 
 // The fewest data disks.
 const MIN_DISKS: usize = 2;
 
-// The refusal of a width: 0 for one of the ten, 1 for any other number.
-pub fn width_refusal(width: usize) -> u8
-    ensures { result ≡ width_refusal width }
+// The bytes of the largest cell.
+const MAX_CELL_SIZE: usize = 4096;
+
+// Is the width one of the ten? Refusal: 1.
+pub fn check_width(width: usize) -> Result<(), Refusal>
+    ensures { refused result ≡ width_refusal width }
 {
     match width {
-        3 | 5 | 7 | 11 | 13 | 17 | 19 | 23 | 29 | 31 => 0,
-        _ => BAD_WIDTH,
+        3 | 5 | 7 | 11 | 13 | 17 | 19 | 23 | 29 | 31 => Ok(()),
+        _ => Err(Refusal::BadWidth),
     }
 }
 
-// The refusal of a number of data disks: 13 for fewer than 2, or more than the width.
-pub fn disks_refusal(width: usize, disks: usize) -> u8
-    ensures { result ≡ disks_refusal width disks }
+// Are there from 2 data disks to as many as the width? Refusal: 13.
+pub fn check_disks(width: usize, disks: usize) -> Result<(), Refusal>
+    ensures { refused result ≡ disks_refusal width disks }
 {
-    if disks < MIN_DISKS {
-        return BAD_DISKS;
+    if disks < MIN_DISKS || width < disks {
+        return Err(Refusal::BadDisks);
     }
-    if width < disks { BAD_DISKS } else { 0 }
+    Ok(())
 }
 
-// The refusal of a cell's size: 2 for 0 bytes or more than 4,096.
-pub fn size_refusal(size: usize) -> u8
-    ensures { result ≡ size_refusal size }
+// Has a cell from 1 byte to 4,096? Refusal: 2.
+pub fn check_cell_size(size: usize) -> Result<(), Refusal>
+    ensures { refused result ≡ size_refusal size }
 {
-    if size == 0 {
-        return BAD_CELL_SIZE;
+    match size {
+        1..=MAX_CELL_SIZE => Ok(()),
+        _ => Err(Refusal::BadCellSize),
     }
-    if MAX_CELL_SIZE < size {
-        BAD_CELL_SIZE
+}
+
+// Is this a data disk, P or Q? Refusal: 3.
+pub fn check_disk(disks: usize, disk: usize) -> Result<(), Refusal>
+    ensures { refused result ≡ disk_refusal disks disk }
+{
+    if disk <= disks || disk - disks == 1 {
+        return Ok(());
+    }
+    Err(Refusal::NoSuchDisk)
+}
+
+// Is a slice as long as required? Refusal: 5.
+pub fn check_length(long: usize, required: usize) -> Result<(), Refusal>
+    ensures { refused result ≡ when (not (eqb long required)) 5 }
+{
+    if long == required {
+        Ok(())
     } else {
-        0
+        Err(Refusal::BadLength)
     }
-}
-
-// The refusal of a disk: 3 for a number past Q, which is the second after the data disks.
-pub fn disk_refusal(disks: usize, disk: usize) -> u8
-    ensures { result ≡ disk_refusal disks disk }
-{
-    if disk <= disks {
-        return 0;
-    }
-    if disk - disks == 1 { 0 } else { NO_SUCH_DISK }
-}
-
-// The refusal of a lent slice: 5 for another length than required.
-pub fn length_refusal(long: usize, required: usize) -> u8
-    ensures { result ≡ when (not (eqb long required)) 5 }
-{
-    if long == required { 0 } else { BAD_LENGTH }
 }

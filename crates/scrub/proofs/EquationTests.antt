@@ -1,13 +1,13 @@
 -- The test of a disk: the list of an equation's survivors tested, and what the equations say of the
 -- disk.
-use mathlib.Core.Path.{◌≡◌, sym, ap, subst, ◌∙◌}
+use mathlib.Core.Path.{◌≡◌, sym, ap, ◌∙◌}
 use mathlib.Core.Bool.{Bool, true, not}
 use mathlib.Core.List.{List}
 use Prim.Native.Nat.{ℕ, ◌+◌, ◌-◌, ◌*◌, ◌%◌, ◌≤◌, ◌<◌}
 use native.Mathlib.Nat.{mod-lt, mod-eq_of_lt, add-mod-mod, add-mod_right}
 use native.Mathlib.Omega.{arith}
 use lib.Dec.{eqb}
-use lib.ListN.{length, take, replicate}
+use lib.ListN.{length, replicate}
 use borrow.Author.Tests.{eq-eqb, ne_eqb}
 use Rattle.mathematics.specs.Lists.{same}
 use Rattle.mathematics.specs.Xor.{all_bytes}
@@ -23,22 +23,22 @@ use Rattle.liberation.proofs.Scrub.EquationCells.{equation_below}
 use Rattle.liberation.proofs.Scrub.EquationLaws.{fits_equations}
 use Rattle.xor.specs.Parts.{xor_offsets}
 use Rattle.xor.specs.Reach.{Reached}
-use Rattle.stripe_cells.specs.Offsets.{scaled, Pushed}
-use Rattle.stripe_cells.proofs.OffsetLaws.{length_scaled, over_offsets, cells_reached}
+use Rattle.stripe_cells.specs.Offsets.{scaled}
+use Rattle.stripe_cells.proofs.OffsetLaws.{length_scaled, over_offsets}
+use Rattle.stripe_cells.proofs.SolvedLaws.{list_reached}
 
 -- the list of an equation's survivors in a stripe t, and the test of their XOR
-module _ (p k s d i n : ℕ) (old at t : List ℕ) (numbered : i < p) (disk : d < k + 2) (room : length at ≡ 99) (long : length t ≡ stripe_long p k s) (pushed : Pushed old at 0 n (scaled s (surviving_in p d (equation p k d i)))) where
+module _ (p k s d i : ℕ) (list t : List ℕ) (numbered : i < p) (disk : d < k + 2) (room : length list ≤ 99) (long : length t ≡ stripe_long p k s) (e : list ≡ scaled s (surviving_in p d (equation p k d i))) where
   pub size_fits : s ≤ length t
   size_fits = let l : 0 < k + 2 = omega arith in omega (arith, cell_fits (p * (k + 2)) s (place p i 0) (place_below p (k + 2) i 0 numbered l))
 
-  pub equation_reached : Reached s (length t) (take n at)
+  pub equation_reached : Reached s (length t) list
   equation_reached =
       let xs = surviving_in p d (equation p k d i) in
-      subst (Reached s (length t)) (sym pushed.list)
-      (cells_reached s (p * (k + 2)) (length t) xs (surviving_below (p * (k + 2)) p d (equation p k d i) (equation_below p k d i numbered disk)) (omega arith) (omega (arith, pushed.count, pushed.fits, length_scaled s xs)))
+      list_reached s (p * (k + 2)) list xs t e (omega (arith, ap length e, length_scaled s xs)) (surviving_below (p * (k + 2)) p d (equation p k d i) (equation_below p k d i numbered disk)) (long ∙ omega arith)
 
-  pub equation_tested : (r : Bool) → r ≡ same (xor_offsets s t (take n at)) (replicate s 0) → r ≡ equation_holds p k s d t i
-  equation_tested r e = e ∙ ap (λ (l : List ℕ). same l (replicate s 0)) (ap (xor_offsets s t) pushed.list ∙ over_offsets s t (surviving_in p d (equation p k d i)))
+  pub equation_tested : (r : Bool) → r ≡ same (xor_offsets s t list) (replicate s 0) → r ≡ equation_holds p k s d t i
+  equation_tested r q = q ∙ ap (λ (l : List ℕ). same l (replicate s 0)) (ap (xor_offsets s t) e ∙ over_offsets s t (surviving_in p d (equation p k d i)))
 
 -- what the equations say of the disk, tested from number b on and round
 module _ (p k s d b : ℕ) (t : List ℕ) (width : is_width p ≡ true) (most : k ≤ p) (disk : d < k + 2) (long : length t ≡ stripe_long p k s) (bytes : all_bytes t ≡ true) (below : b < p) where

@@ -1,4 +1,5 @@
--- The promise of `scrub_stripe`: a refusal, a clean stripe, one disk, or more than one.
+-- The promise of `scrub_stripe`: a refusal, or a verdict; and which verdict it is, of a clean stripe,
+-- of one disk, of more than one.
 use mathlib.Core.Path.{◌≡◌, refl, sym, ap, ap₂, ◌∙◌}
 use mathlib.Core.Bool.{Bool, true, false, ◌&&◌}
 use mathlib.Core.List.{List}
@@ -8,55 +9,55 @@ use lib.Dec.{eqb, ltb}
 use borrow.Author.Tests.{lt-ltb, le-ltb}
 use Rattle.mathematics.specs.Choice.{pick}
 use Rattle.mathematics.specs.Xor.{all_bytes}
-use Rattle.mathematics.proofs.ChoiceLaws.{pick_refused, and_refused}
+use Rattle.mathematics.proofs.ChoiceLaws.{pick_done, pick_refused, and_refused}
 use Rattle.liberation.specs.Stripes.Stripes.{clean}
 use Rattle.liberation.specs.Scrub.Survivors.{suspect, verdict}
+use Rattle.refusals.specs.declared.answer.Answer.{Answer}
+use Rattle.refusals.specs.declared.refusal.Refusal.{Refusal}
 use Rattle.refusals.specs.Answers.{Answers}
+use Rattle.refusals.specs.Refused.{number_of}
 use Rattle.refusals.proofs.AnswerLaws.{answers_as}
+use Rattle.refusals.proofs.RefusalNumbers.{number_some}
 use Rattle.refusals.specs.StripeSays.{stripe_refusal}
-use Rattle.scrub.specs.declared.Scrubbed.{Scrubbed}
+use Rattle.scrub.specs.declared.verdict.Verdict.{Verdict}
+use Rattle.scrub.specs.declared.verdict.Verdict.TheVariants.{Clean, OneDisk, MoreThanOne}
+use Rattle.scrub.specs.Verdicts.{verdict_number, verdict_disk, IsVerdict}
 use Rattle.scrub.specs.ScrubSays.{ScrubSays}
 
--- the two results that go with a refusal n, a verdict v and a suspect x
-abbrev verdict_for : ℕ → ℕ → ℕ
-verdict_for n v = pick (eqb n 0) v 0
-
-abbrev disk_for : ℕ → ℕ → ℕ → ℕ
-disk_for n v x = pick (eqb n 0 && eqb v 1) x 0
-
-module _ (p k s : ℕ) (t : List ℕ) (r : Scrubbed) (bytes : all_bytes t ≡ true) where
-  pub scrub_refused : (n : ℕ) → n ≡ stripe_refusal p k s t → (n ≡ 0 → ⊥) → Answers n r.answer × (r.verdict ≡ 0) × (r.disk ≡ 0) → ScrubSays p k s t r
-  scrub_refused n e z u =
-      record {
-        answer = answers_as n (stripe_refusal p k s t) r.answer e u.0;
-        verdict = u.1 ∙ pick_refused n (stripe_refusal p k s t) (verdict p k s t) 0 e z;
-        disk = u.2 ∙ ap (λ (b : Bool). pick b (suspect p k s t) 0) (and_refused n (stripe_refusal p k s t) (eqb (verdict p k s t) 1) e z);
-        bytes = bytes;
-      }
-
-  -- an accepted call with verdict v
-  done : (v d : ℕ) → stripe_refusal p k s t ≡ 0 → verdict p k s t ≡ v → d ≡ pick (eqb v 1) (suspect p k s t) 0 → Answers 0 r.answer × (r.verdict ≡ v) × (r.disk ≡ d) → ScrubSays p k s t r
-  done v d z e q u =
-      record {
-        answer = answers_as 0 (stripe_refusal p k s t) r.answer (sym z) u.0;
-        verdict = u.1 ∙ sym e ∙ sym (ap (λ (n : ℕ). verdict_for n (verdict p k s t)) z);
-        disk = u.2 ∙ q ∙ ap (λ (w : ℕ). disk_for 0 w (suspect p k s t)) (sym e) ∙ sym (ap (λ (n : ℕ). disk_for n (verdict p k s t) (suspect p k s t)) z);
-        bytes = bytes;
-      }
-
+module _ (p k s : ℕ) (t : List ℕ) where
   verdict_by_lem : (c b : Bool) → clean p k s t ≡ c → ltb (suspect p k s t) (k + 2) ≡ b → verdict p k s t ≡ pick c 0 (pick b 1 2)
   unfolding verdict
   verdict_by_lem c b e q = ap₂ (λ (x y : Bool). pick x 0 (pick y 1 2)) e q
 
-  module _ (c : Bool) (z : stripe_refusal p k s t ≡ 0) (e : c ≡ (eqb (stripe_refusal p k s t) 0 && clean p k s t)) where
-    clean_is : c ≡ clean p k s t
-    clean_is = e ∙ ap (λ (n : ℕ). eqb n 0 && clean p k s t) z
+  -- a verdict with this number and this disk
+  named : (v : Verdict) → verdict p k s t ≡ verdict_number v → verdict_disk v ≡ pick (eqb (verdict_number v) 1) (suspect p k s t) 0 → IsVerdict p k s t v
+  named v e q = record { number = sym e; disk = q ∙ ap (λ (n : ℕ). pick (eqb n 1) (suspect p k s t) 0) (sym e) }
 
-    pub scrub_clean : c ≡ true → Answers 0 r.answer × (r.verdict ≡ 0) × (r.disk ≡ 0) → ScrubSays p k s t r
-    scrub_clean h u = done 0 0 z (verdict_by_lem true (ltb (suspect p k s t) (k + 2)) (sym clean_is ∙ h) refl) refl u
+  module _ (b : Bool) (e : b ≡ clean p k s t) where
+    pub verdict_clean : b ≡ true → IsVerdict p k s t Clean
+    verdict_clean h = named Clean (verdict_by_lem true (ltb (suspect p k s t) (k + 2)) (sym e ∙ h) refl) refl
 
-    pub scrub_one : (d : ℕ) → c ≡ false → d ≡ suspect p k s t → d < k + 2 → Answers 0 r.answer × (r.verdict ≡ 1) × (r.disk ≡ d) → ScrubSays p k s t r
-    scrub_one d h q l u = done 1 d z (verdict_by_lem false true (sym clean_is ∙ h) (lt-ltb (suspect p k s t) (k + 2) (omega arith))) q u
+    pub verdict_one : b ≡ false → (d : ℕ) → d ≡ suspect p k s t → d < k + 2 → IsVerdict p k s t (OneDisk d)
+    verdict_one h d q l = named (OneDisk d) (verdict_by_lem false true (sym e ∙ h) (lt-ltb (suspect p k s t) (k + 2) (omega (arith, q)))) q
 
-    pub scrub_more : (d : ℕ) → c ≡ false → d ≡ suspect p k s t → k + 2 ≤ d → Answers 0 r.answer × (r.verdict ≡ 2) × (r.disk ≡ 0) → ScrubSays p k s t r
-    scrub_more d h q l u = done 2 0 z (verdict_by_lem false false (sym clean_is ∙ h) (le-ltb (suspect p k s t) (k + 2) (omega arith))) refl u
+    pub verdict_more : b ≡ false → k + 2 ≤ suspect p k s t → IsVerdict p k s t MoreThanOne
+    verdict_more h l = named MoreThanOne (verdict_by_lem false false (sym e ∙ h) (le-ltb (suspect p k s t) (k + 2) l)) refl
+
+  module _ (bytes : all_bytes t ≡ true) where
+    pub scrub_refused : (e : Refusal) (a : Answer) → number_of e ≡ stripe_refusal p k s t → Answers (number_of e) a → ScrubSays p k s t (record { answer = a; verdict = 0; disk = 0 })
+    scrub_refused e a q h =
+        record {
+          answer = answers_as (number_of e) (stripe_refusal p k s t) a q h;
+          verdict = pick_refused (number_of e) (stripe_refusal p k s t) (verdict p k s t) 0 q (number_some e);
+          disk = ap (λ (b : Bool). pick b (suspect p k s t) 0) (and_refused (number_of e) (stripe_refusal p k s t) (eqb (verdict p k s t) 1) q (number_some e));
+          bytes = bytes;
+        }
+
+    pub scrub_done : (v : Verdict) (a : Answer) (n d : ℕ) → 0 ≡ stripe_refusal p k s t → Answers 0 a → IsVerdict p k s t v → n ≡ verdict_number v → d ≡ verdict_disk v → ScrubSays p k s t (record { answer = a; verdict = n; disk = d })
+    scrub_done v a n d z h is e q =
+        record {
+          answer = answers_as 0 (stripe_refusal p k s t) a z h;
+          verdict = e ∙ is.number ∙ pick_done (stripe_refusal p k s t) (verdict p k s t) 0 (sym z);
+          disk = q ∙ is.disk ∙ ap (λ (m : ℕ). pick (eqb m 0 && eqb (verdict p k s t) 1) (suspect p k s t) 0) z;
+          bytes = bytes;
+        }

@@ -1,3 +1,4 @@
 -- What the check and the scrub of a stripe promise.
 pub mod ScrubSays
 pub mod CheckSays
+pub mod Verdicts

@@ -1,12 +1,15 @@
 // Is a stripe clean? All row sets as one run of bytes, then the diagonal sets one by one.
-ghost use Rattle.std.specs.Prelude.{◌≡◌, ◌<◌, length};
+ghost use Rattle.std.specs.Prelude.{◌≡◌, ◌<◌, IfOk};
 ghost use Rattle.mathematics.specs.Sums.{all_to};
 ghost use Rattle.liberation.specs.Stripes.Stripes.{set_clean, clean};
-ghost use Rattle.liberation.specs.Stripes.StripeLimits.{Sized};
+ghost use Rattle.refusals.specs.Refused.{refused};
+ghost use Rattle.refusals.specs.StripeOf.{IsStripeOf};
+ghost use Rattle.refusals.specs.StripeSays.{stripe_refusal};
 ghost use Rattle.scrub.specs.CheckSays.{CheckSays};
 
-use parity_sets::DIAGONAL_SET;
-use refusals::{Answer, Shape};
+use parity_sets::{MAX_COLUMNS, ParitySet};
+use refusals::{Answer, Geometry, Refusal, Shape};
+use stripe_cells::{LostDisks, Offsets};
 
 // The answer, and whether the stripe is clean.
 #[repr(C)]
@@ -18,74 +21,73 @@ pub struct Checked {
 
 // Do the cells of every row set XOR to zero? One run of bytes over the columns of the data disks
 // and P.
-fn rows_are_clean(width: usize, disks: usize, size: usize, stripe: &[u8]) -> bool
-    requires { Sized width disks size stripe.now }
-    ensures { result ≡ all_to width (λ i. set_clean width disks size stripe.now 0 i) }
+fn rows_are_clean(geometry: Geometry, stripe: &[u8]) -> bool
+    requires { IsStripeOf geometry stripe.now }
+    ensures { result ≡ all_to geometry.array.width (λ i. set_clean geometry.array.width geometry.array.disks geometry.cell_size stripe.now 0 i) }
 {
-    let mut at = stripe_cells::no_offsets();
-    let n = stripe_cells::push_row(width, size, 0, 0, disks + 1, &mut at, 0);
-    xor_is_zero::is_zero(stripe, width * size, &at[..n])
+    let mut list: Offsets<MAX_COLUMNS> = Offsets::new();
+    list.push_on(geometry, ParitySet::Row(0), 0..geometry.array.disks + 1);
+    xor_is_zero::is_zero(stripe, geometry.column_bytes(), list.as_slice())
 }
 
-// Do the cells of a diagonal set XOR to zero? There is no disk past Q, so all are pushed. The lent
-// list is then left free.
+// Do the cells of a diagonal set XOR to zero? What the list then holds is unspecified.
 fn diagonal_is_clean(
-    width: usize,
-    disks: usize,
-    size: usize,
+    geometry: Geometry,
     number: usize,
     stripe: &[u8],
-    at: &mut [usize],
+    list: &mut Offsets<MAX_COLUMNS>,
 ) -> bool
-    requires { Sized width disks size stripe.now × (number < width) × (length at.old ≡ 33) }
-    ensures { result ≡ set_clean width disks size stripe.now 1 number }
+    requires { IsStripeOf geometry stripe.now × (number < geometry.array.width) }
+    ensures { result ≡ set_clean geometry.array.width geometry.array.disks geometry.cell_size stripe.now 1 number }
 {
-    let none = disks + 2;
-    let n = stripe_cells::surviving(width, disks, size, DIAGONAL_SET, number, none, none, at);
-    xor_is_zero::is_zero(stripe, size, &at[..n])
+    list.clear();
+    list.push_surviving(geometry, ParitySet::Diagonal(number), LostDisks::none());
+    xor_is_zero::is_zero(stripe, geometry.cell_size, list.as_slice())
 }
 
 // Do the cells of every diagonal set XOR to zero?
-fn diagonals_are_clean(width: usize, disks: usize, size: usize, stripe: &[u8]) -> bool
-    requires { Sized width disks size stripe.now }
-    ensures { result ≡ all_to width (λ i. set_clean width disks size stripe.now 1 i) }
+fn diagonals_are_clean(geometry: Geometry, stripe: &[u8]) -> bool
+    requires { IsStripeOf geometry stripe.now }
+    ensures { result ≡ all_to geometry.array.width (λ i. set_clean geometry.array.width geometry.array.disks geometry.cell_size stripe.now 1 i) }
 {
-    let mut at = stripe_cells::no_offsets();
-    let mut number = 0;
-    while number < width {
-        if !diagonal_is_clean(width, disks, size, number, stripe, &mut at) {
+    let mut list = Offsets::new();
+    for number in 0..geometry.array.width {
+        if !diagonal_is_clean(geometry, number, stripe, &mut list) {
             return false;
         }
-        number += 1;
     }
     true
 }
 
 // Do all sets XOR to zero? The diagonal sets are looked at where the row sets do.
-fn is_clean(width: usize, disks: usize, size: usize, stripe: &[u8]) -> bool
-    requires { Sized width disks size stripe.now }
-    ensures { result ≡ clean width disks size stripe.now }
+pub fn is_clean(geometry: Geometry, stripe: &[u8]) -> bool
+    requires { IsStripeOf geometry stripe.now }
+    ensures { result ≡ clean geometry.array.width geometry.array.disks geometry.cell_size stripe.now }
 {
-    if !rows_are_clean(width, disks, size, stripe) {
-        return false;
-    }
-    diagonals_are_clean(width, disks, size, stripe)
+    rows_are_clean(geometry, stripe) && diagonals_are_clean(geometry, stripe)
+}
+
+// Is a stripe clean? Refusals: 1, 13, 2, 5.
+fn find_clean(shape: Shape, stripe: &[u8]) -> Result<bool, Refusal>
+    ensures refusal { refused result ≡ stripe_refusal shape.width shape.disks shape.cell_size stripe.now }
+    ensures clean { IfOk result (λ b. b ≡ clean shape.width shape.disks shape.cell_size stripe.now) }
+{
+    let geometry = Geometry::of_stripe(shape, stripe.len())?;
+    Ok(is_clean(geometry, stripe))
 }
 
 // Is a stripe clean? Refusals: 1, 13, 2, 5.
 pub fn check_stripe(shape: Shape, stripe: &[u8]) -> Checked
     ensures { CheckSays shape.width shape.disks shape.cell_size stripe.now result }
 {
-    let refusal = refusals::stripe_refusal(shape.width, shape.disks, shape.cell_size, stripe.len());
-    if refusal != 0 {
-        return Checked {
-            answer: refusals::answered(refusal),
+    match find_clean(shape, stripe) {
+        Ok(clean) => Checked {
+            answer: Answer::accepted(),
+            clean,
+        },
+        Err(refusal) => Checked {
+            answer: Answer::from(refusal),
             clean: false,
-        };
-    }
-    let clean = is_clean(shape.width, shape.disks, shape.cell_size, stripe);
-    Checked {
-        answer: refusals::answered(0),
-        clean,
+        },
     }
 }

@@ -1,95 +1,46 @@
-// The offsets of the survivors of a disk's equation, at most three sets, in one lent list.
-ghost use Rattle.std.specs.Prelude.{◌≡◌, ◌+◌, ◌≤◌, ◌<◌, length};
-ghost use Rattle.liberation.specs.Limits.{InArray, largest_cell};
-ghost use Rattle.liberation.specs.Sets.{set_of, diagonal_set, lost_in, surviving_in};
+// The offsets of the survivors of a disk's equation, at most three sets, in one list.
+ghost use Rattle.std.specs.Prelude.{◌≡◌, ◌++◌, ◌+◌, ◌≤◌, ◌<◌, length};
+ghost use Rattle.liberation.specs.Sets.{diagonal_set, lost_in, surviving_in};
 ghost use Rattle.liberation.specs.Scrub.Survivors.{row_sets, equation};
-ghost use Rattle.stripe_cells.specs.Offsets.{scaled, Pushed};
+ghost use Rattle.stripe_cells.specs.Offsets.{scaled};
 
-use parity_sets::{DIAGONAL_SET, MAX_COLUMNS, ROW_SET};
+use parity_sets::{MAX_COLUMNS, ParitySet};
+use refusals::Geometry;
+use stripe_cells::{LostDisks, Offsets};
 
 // The most cells of three sets.
-const THREE_SETS: usize = 3 * MAX_COLUMNS;
+pub const THREE_SETS: usize = 3 * MAX_COLUMNS;
 
-// A list with room for the cells of any three sets.
-pub fn no_offsets() -> [usize; THREE_SETS]
-    ensures { length result ≡ 99 }
+// Appends those of the row sets of the rows that diagonal `number` has on a data disk, but their
+// cells there: one set, and a second one where the diagonal's extra cell is on that disk.
+fn push_rows(geometry: Geometry, disk: usize, number: usize, list: &mut Offsets<THREE_SETS>)
+    requires numbered { (number < geometry.array.width) × (disk < geometry.array.disks) }
+    requires room { length list.old ≤ 33 }
+    ensures { list.new ≡ list.old ++ scaled geometry.cell_size (surviving_in geometry.array.width disk (row_sets geometry.array.width geometry.array.disks (lost_in geometry.array.width disk (diagonal_set geometry.array.width geometry.array.disks number)))) }
 {
-    [0; THREE_SETS]
-}
-
-// The offsets of a set's cells but those on one disk, after the first `count` numbers; the new
-// count.
-fn push_set(
-    width: usize,
-    disks: usize,
-    size: usize,
-    disk: usize,
-    kind: usize,
-    number: usize,
-    at: &mut [usize],
-    count: usize,
-) -> usize
-    requires { InArray width disks × (size ≤ largest_cell) × (number < width) × (length at.old ≡ 99) × (disk < disks + 2) × (count ≤ 66) }
-    ensures { Pushed at.old at.new count result (scaled size (surviving_in width disk (set_of width disks kind number))) × (result ≤ count + 33) }
-{
-    let end = count + MAX_COLUMNS;
-    let n = stripe_cells::surviving(
-        width,
-        disks,
-        size,
-        kind,
-        number,
-        disk,
-        disk,
-        &mut at[count..end],
-    );
-    count + n
-}
-
-// The same of the row sets of the rows that diagonal `number` has on a data disk: one, and a second
-// one where the diagonal's extra cell is on that disk.
-fn push_rows(
-    width: usize,
-    disks: usize,
-    size: usize,
-    disk: usize,
-    number: usize,
-    at: &mut [usize],
-    count: usize,
-) -> usize
-    requires { InArray width disks × (size ≤ largest_cell) × (number < width) × (length at.old ≡ 99) × (disk < disks) × (count ≤ 33) }
-    ensures { Pushed at.old at.new count result (scaled size (surviving_in width disk (row_sets width disks (lost_in width disk (diagonal_set width disks number))))) }
-{
-    let row = parity_sets::row_on(width, number, disk);
-    let n = push_set(width, disks, size, disk, ROW_SET, row, at, count);
-    if number == 0 {
-        return n;
+    let array = geometry.array;
+    let lost = LostDisks::one(disk);
+    let row = parity_sets::row_on(array, number, disk);
+    list.push_surviving(geometry, ParitySet::Row(row), lost);
+    if number != 0 && parity_sets::extra_disk(array, number) == disk {
+        list.push_surviving(geometry, ParitySet::Row(array.width - 1 - number), lost);
     }
-    if parity_sets::extra_disk(width, number) != disk {
-        return n;
-    }
-    push_set(width, disks, size, disk, ROW_SET, width - 1 - number, at, n)
 }
 
-// The offsets of an equation's survivors in a lent list; their count. A row set for Q; a diagonal
-// set for P; for a data disk a diagonal set and the row sets of its rows there.
-pub fn push_equation(
-    width: usize,
-    disks: usize,
-    size: usize,
-    disk: usize,
-    number: usize,
-    at: &mut [usize],
-) -> usize
-    requires { InArray width disks × (size ≤ largest_cell) × (number < width) × (length at.old ≡ 99) × (disk < disks + 2) }
-    ensures { Pushed at.old at.new 0 result (scaled size (surviving_in width disk (equation width disks disk number))) }
+// Leaves the survivors of an equation alone in the list. A row set for Q; a diagonal set for P; for
+// a data disk a diagonal set and the row sets of its rows there.
+pub fn list_equation(geometry: Geometry, disk: usize, number: usize, list: &mut Offsets<THREE_SETS>)
+    requires { (number < geometry.array.width) × (disk < geometry.array.disks + 2) }
+    ensures { list.new ≡ scaled geometry.cell_size (surviving_in geometry.array.width disk (equation geometry.array.width geometry.array.disks disk number)) }
 {
+    let disks = geometry.array.disks;
+    list.clear();
     if disk == disks + 1 {
-        return push_set(width, disks, size, disk, ROW_SET, number, at, 0);
+        list.push_surviving(geometry, ParitySet::Row(number), LostDisks::one(disk));
+        return;
     }
-    let n = push_set(width, disks, size, disk, DIAGONAL_SET, number, at, 0);
-    if disk == disks {
-        return n;
+    list.push_surviving(geometry, ParitySet::Diagonal(number), LostDisks::one(disk));
+    if disk < disks {
+        push_rows(geometry, disk, number, list);
     }
-    push_rows(width, disks, size, disk, number, at, n)
 }

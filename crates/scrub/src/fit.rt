@@ -6,9 +6,11 @@ ghost use Rattle.mathematics.specs.Lists.{same};
 ghost use Rattle.xor.specs.Parts.{xor_offsets};
 ghost use Rattle.xor.specs.Reach.{Reached};
 ghost use Rattle.liberation.specs.Scrub.Survivors.{equation_holds, fits};
-ghost use Rattle.liberation.specs.Stripes.StripeLimits.{Sized};
+ghost use Rattle.refusals.specs.StripeOf.{IsStripeOf};
 
-use super::equations;
+use super::equations::{self, THREE_SETS};
+use refusals::Geometry;
+use stripe_cells::Offsets;
 use xor_is_zero::STRETCH;
 
 // From so many survivors on, stretches are faster.
@@ -28,54 +30,51 @@ fn is_zero(stripe: &[u8], n: usize, at: &[usize]) -> bool
     xor_is_zero::long_is_zero(stripe, n, at)
 }
 
-// Does an equation hold: do its survivors XOR to zero? The lent list is then left free.
+// Does an equation hold: do its survivors XOR to zero? What the list then holds is unspecified.
 fn equation_holds(
-    width: usize,
-    disks: usize,
-    size: usize,
+    geometry: Geometry,
     disk: usize,
     number: usize,
     stripe: &[u8],
-    at: &mut [usize],
+    list: &mut Offsets<THREE_SETS>,
 ) -> bool
-    requires { Sized width disks size stripe.now × (disk < disks + 2) × (number < width) × (length at.old ≡ 99) }
-    ensures { result ≡ equation_holds width disks size disk stripe.now number }
+    requires stripe_len { IsStripeOf geometry stripe.now }
+    requires numbered { (disk < geometry.array.disks + 2) × (number < geometry.array.width) }
+    ensures { result ≡ equation_holds geometry.array.width geometry.array.disks geometry.cell_size disk stripe.now number }
 {
-    let n = equations::push_equation(width, disks, size, disk, number, at);
-    is_zero(stripe, size, &at[..n])
+    equations::list_equation(geometry, disk, number, list);
+    is_zero(stripe, geometry.cell_size, list.as_slice())
 }
 
 // How many equations of a disk hold, from number `from` on and round, before one does not: the
 // width exactly if some clean stripe is alike this one off the disk. The first of them decides most
-// often, and no other answer depends on `from`. The lent list is then left free.
+// often, and no other answer depends on `from`. What the list then holds is unspecified.
 pub fn equations_passed(
-    width: usize,
-    disks: usize,
-    size: usize,
+    geometry: Geometry,
     disk: usize,
     from: usize,
     stripe: &[u8],
-    at: &mut [usize],
+    list: &mut Offsets<THREE_SETS>,
 ) -> usize
-    requires { Sized width disks size stripe.now × (disk < disks + 2) × (from < width) × (length at.old ≡ 99) }
-    ensures { (result ≤ width) × (eqb result width ≡ fits width disks size disk stripe.now) }
+    requires stripe_len { IsStripeOf geometry stripe.now }
+    requires numbered { (disk < geometry.array.disks + 2) × (from < geometry.array.width) }
+    ensures { (result ≤ geometry.array.width) × (eqb result geometry.array.width ≡ fits geometry.array.width geometry.array.disks geometry.cell_size disk stripe.now) }
 {
-    let mut passed = 0;
-    while passed < width {
-        let number = parity_sets::row_on(width, from, passed);
-        if !equation_holds(width, disks, size, disk, number, stripe, at) {
+    let width = geometry.array.width;
+    for passed in 0..width {
+        let number = parity_sets::row_on(geometry.array, from, passed);
+        if !equation_holds(geometry, disk, number, stripe, list) {
             return passed;
         }
-        passed += 1;
     }
-    passed
+    width
 }
 
 // Is some clean stripe alike this one off the disk?
-pub fn disk_fits(width: usize, disks: usize, size: usize, disk: usize, stripe: &[u8]) -> bool
-    requires { Sized width disks size stripe.now × (disk < disks + 2) }
-    ensures { result ≡ fits width disks size disk stripe.now }
+pub fn disk_fits(geometry: Geometry, disk: usize, stripe: &[u8]) -> bool
+    requires { IsStripeOf geometry stripe.now × (disk < geometry.array.disks + 2) }
+    ensures { result ≡ fits geometry.array.width geometry.array.disks geometry.cell_size disk stripe.now }
 {
-    let mut at = equations::no_offsets();
-    equations_passed(width, disks, size, disk, 0, stripe, &mut at) == width
+    let mut list = Offsets::new();
+    equations_passed(geometry, disk, 0, stripe, &mut list) == geometry.array.width
 }

@@ -6,25 +6,21 @@ mod clean;
 mod equations;
 mod fit;
 mod suspects;
+mod verdict;
 
-ghost use Rattle.std.specs.Prelude.{◌≡◌};
-ghost use Rattle.refusals.specs.Answers.{Answers};
+ghost use Rattle.std.specs.Prelude.{◌≡◌, IfOk};
+ghost use Rattle.refusals.specs.Refused.{refused};
+ghost use Rattle.refusals.specs.StripeSays.{stripe_refusal};
 ghost use Rattle.scrub.specs.ScrubSays.{ScrubSays};
+ghost use Rattle.scrub.specs.Verdicts.{IsVerdict};
 
 pub use clean::{Checked, check_stripe};
 pub use fit::disk_fits;
-use refusals::{Answer, Shape};
+use refusals::{Answer, Geometry, Refusal, Shape};
+pub use verdict::Verdict;
 
-// The verdict on a clean stripe.
-const CLEAN: u8 = 0;
-
-// The verdict where one disk is inconsistent with the others.
-const ONE_DISK: u8 = 1;
-
-// The verdict where more than one disk is.
-const MORE_THAN_ONE: u8 = 2;
-
-// The answer, the verdict, and the disk's number where one disk is inconsistent, else 0.
+// The answer, the number of the verdict, and the disk's number where one disk is inconsistent, else
+// 0.
 #[repr(C)]
 #[derive(Clone, Copy)]
 pub struct Scrubbed {
@@ -33,14 +29,18 @@ pub struct Scrubbed {
     pub disk: usize,
 }
 
-// The same of these three.
-fn found(refusal: u8, verdict: u8, disk: usize) -> Scrubbed
-    ensures { Answers refusal result.answer × (result.verdict ≡ verdict) × (result.disk ≡ disk) }
+// The verdict on a stripe. Refusals: 1, 13, 2, 5.
+fn find_verdict(shape: Shape, stripe: &[u8]) -> Result<Verdict, Refusal>
+    ensures refusal { refused result ≡ stripe_refusal shape.width shape.disks shape.cell_size stripe.now }
+    ensures verdict { IfOk result (IsVerdict shape.width shape.disks shape.cell_size stripe.now) }
 {
-    Scrubbed {
-        answer: refusals::answered(refusal),
-        verdict,
-        disk,
+    let geometry = Geometry::of_stripe(shape, stripe.len())?;
+    if clean::is_clean(geometry, stripe) {
+        return Ok(Verdict::Clean);
+    }
+    match suspects::suspected(geometry, stripe) {
+        Some(disk) => Ok(Verdict::OneDisk(disk)),
+        None => Ok(Verdict::MoreThanOne),
     }
 }
 
@@ -49,19 +49,16 @@ fn found(refusal: u8, verdict: u8, disk: usize) -> Scrubbed
 pub fn scrub_stripe(shape: Shape, stripe: &[u8]) -> Scrubbed
     ensures { ScrubSays shape.width shape.disks shape.cell_size stripe.now result }
 {
-    let width = shape.width;
-    let disks = shape.disks;
-    let size = shape.cell_size;
-    let checked = clean::check_stripe(shape, stripe);
-    if checked.answer.refusal != 0 {
-        return found(checked.answer.refusal, 0, 0);
+    match find_verdict(shape, stripe) {
+        Ok(verdict) => Scrubbed {
+            answer: Answer::accepted(),
+            verdict: verdict.number(),
+            disk: verdict.disk(),
+        },
+        Err(refusal) => Scrubbed {
+            answer: Answer::from(refusal),
+            verdict: 0,
+            disk: 0,
+        },
     }
-    if checked.clean {
-        return found(0, CLEAN, 0);
-    }
-    let disk = suspects::suspected(width, disks, size, stripe);
-    if disk < disks + 2 {
-        return found(0, ONE_DISK, disk);
-    }
-    found(0, MORE_THAN_ONE, 0)
 }

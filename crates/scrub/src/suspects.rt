@@ -1,108 +1,130 @@
 // The search for the disk whose cells alone can make a dirty stripe clean: disk by disk, until one
 // fits. The stripe is only read.
-ghost use Rattle.std.specs.Prelude.{◌≡◌, ◌+◌, ◌*◌, ◌≤◌, ◌<◌, length};
+ghost use Rattle.std.specs.Prelude.{◌≡◌, ◌+◌, ◌≤◌, ◌<◌, IfSome, MatchOption};
 ghost use Rattle.liberation.specs.Scrub.Survivors.{suspect};
-ghost use Rattle.liberation.specs.Stripes.StripeLimits.{Sized};
+ghost use Rattle.parity_sets.specs.ParitySets.{number_of};
+ghost use Rattle.refusals.specs.StripeOf.{IsStripeOf};
 
-use super::{equations, fit};
+use super::equations::THREE_SETS;
+use super::fit;
+use parity_sets::ParitySet;
+use refusals::{Array, Geometry};
+use stripe_cells::Offsets;
 
-// A set of a dirty stripe that is not clean: the number of a row set, or the width and the number
-// of a diagonal set. No answer depends on it, so its bound is all that is promised. The lent list
-// is then left free.
-fn dirty_set(width: usize, disks: usize, size: usize, stripe: &[u8], at: &mut [usize]) -> usize
-    requires { Sized width disks size stripe.now × (length at.old ≡ 99) }
-    ensures { result < 2 * width }
+// Which equation of a disk is tested first. No answer depends on it.
+#[derive(Clone, Copy, Debug, PartialEq, Eq)]
+enum FirstTest {
+    // The one that has a set that is not clean.
+    Dirty,
+    // The one that has a diagonal whose extra cell is on the disk. Where every cell of one disk has
+    // changed by the same bytes, the two sets of most equations cancel, but the three of this one do
+    // not.
+    Extra,
+}
+
+impl FirstTest {
+    // The other one.
+    fn other(self) -> FirstTest {
+        match self {
+            FirstTest::Dirty => FirstTest::Extra,
+            FirstTest::Extra => FirstTest::Dirty,
+        }
+    }
+}
+
+// A set of a dirty stripe that is not clean. No answer depends on it, so its bound is all that is
+// promised. What the list then holds is unspecified.
+fn dirty_set(geometry: Geometry, stripe: &[u8], list: &mut Offsets<THREE_SETS>) -> Option<ParitySet>
+    requires { IsStripeOf geometry stripe.now }
+    ensures { IfSome result (λ set. number_of set < geometry.array.width) }
 {
-    let row = fit::equations_passed(width, disks, size, disks + 1, 0, stripe, at);
+    let width = geometry.array.width;
+    let disks = geometry.array.disks;
+    let row = fit::equations_passed(geometry, disks + 1, 0, stripe, list);
     if row < width {
-        return row;
+        return Some(ParitySet::Row(row));
     }
-    let diagonal = fit::equations_passed(width, disks, size, disks, 0, stripe, at);
+    let diagonal = fit::equations_passed(geometry, disks, 0, stripe, list);
     if diagonal < width {
-        return width + diagonal;
+        return Some(ParitySet::Diagonal(diagonal));
     }
-    0
+    None
 }
 
-// The disk's equation that has this set, or another one. No answer depends on it either.
-fn start(width: usize, disks: usize, disk: usize, dirty: usize) -> usize
-    requires { (width ≤ 31) × (disks ≤ width) × (dirty < 2 * width) }
-    ensures { result < width }
+// The number of the disk's equation that has this set, or of another one.
+fn dirty_number(array: Array, disk: usize, dirty: Option<ParitySet>) -> usize
+    requires { IfSome dirty (λ set. number_of set < array.width) }
+    ensures { result < array.width }
 {
-    if width <= dirty {
-        return dirty - width;
+    match dirty {
+        Some(ParitySet::Diagonal(number)) => number,
+        Some(ParitySet::Row(row)) if disk < array.disks => parity_sets::diagonal_of(
+            array, disk, row,
+        ),
+        Some(ParitySet::Row(row)) => row,
+        None => 0,
     }
-    if disks <= disk {
-        return dirty;
-    }
-    parity_sets::diagonal_of(width, disk, dirty)
 }
 
-// The number of the diagonal whose extra cell is on a data disk. Where every cell of one disk has
-// changed by the same bytes, the two sets of most equations cancel, but the three of this one do
-// not. No answer depends on it either.
-fn extra_diagonal(width: usize, disk: usize) -> usize
-    requires { (0 < width) × (width ≤ 31) × (disk ≤ width + 1) }
-    ensures { result < width }
+// The number of the diagonal whose extra cell is on a data disk; of another disk any number.
+fn extra_number(array: Array, disk: usize) -> usize
+    requires { disk ≤ array.width + 1 }
+    ensures { result < array.width }
 {
     let half = disk >> 1;
     if half + half == disk {
-        return parity_sets::diagonal_of(width, half, 0);
+        return parity_sets::diagonal_of(array, half, 0);
     }
-    if width <= disk {
+    if array.width <= disk {
         return 0;
     }
-    (width - disk) >> 1
+    (array.width - disk) >> 1
 }
 
-// The number of the equation of a disk that is tested first: that of the extra cell, or the one
-// that has a set that is not clean.
-fn first_number(width: usize, disks: usize, disk: usize, dirty: usize, extra: bool) -> usize
-    requires { (0 < width) × (width ≤ 31) × (disks ≤ width) × (disk ≤ width + 1) × (dirty < 2 * width) }
-    ensures { result < width }
+// The number of the equation of a disk that is tested first.
+fn first_number(array: Array, disk: usize, dirty: Option<ParitySet>, first: FirstTest) -> usize
+    requires { (disk ≤ array.width + 1) × IfSome dirty (λ set. number_of set < array.width) }
+    ensures { result < array.width }
 {
-    if extra {
-        return extra_diagonal(width, disk);
+    match first {
+        FirstTest::Dirty => dirty_number(array, disk, dirty),
+        FirstTest::Extra => extra_number(array, disk),
     }
-    start(width, disks, disk, dirty)
 }
 
-// The first disk that fits, two more than the data disks if none does. Where the first equation of
-// a disk did not refuse it, that of the next one is chosen the other way. The lent list is then
-// left free.
+// The first disk that fits. Where the first equation of a disk did not refuse it, that of the next
+// one is chosen the other way. What the list then holds is unspecified.
 fn first_fit(
-    width: usize,
-    disks: usize,
-    size: usize,
-    dirty: usize,
+    geometry: Geometry,
+    dirty: Option<ParitySet>,
     stripe: &[u8],
-    at: &mut [usize],
-) -> usize
-    requires { Sized width disks size stripe.now × (dirty < 2 * width) × (length at.old ≡ 99) }
-    ensures { result ≡ suspect width disks size stripe.now }
+    list: &mut Offsets<THREE_SETS>,
+) -> Option<usize>
+    requires stripe_len { IsStripeOf geometry stripe.now }
+    requires numbered { IfSome dirty (λ set. number_of set < geometry.array.width) }
+    ensures { MatchOption result (geometry.array.disks + 2 ≤ suspect geometry.array.width geometry.array.disks geometry.cell_size stripe.now) (λ d. (d < geometry.array.disks + 2) × (d ≡ suspect geometry.array.width geometry.array.disks geometry.cell_size stripe.now)) }
 {
-    let mut extra = false;
-    let mut disk = 0;
-    while disk < disks + 2 {
-        let from = first_number(width, disks, disk, dirty, extra);
-        let passed = fit::equations_passed(width, disks, size, disk, from, stripe, at);
-        if passed == width {
-            return disk;
+    let array = geometry.array;
+    let mut first = FirstTest::Dirty;
+    for disk in 0..array.disks + 2 {
+        let from = first_number(array, disk, dirty, first);
+        let passed = fit::equations_passed(geometry, disk, from, stripe, list);
+        if passed == array.width {
+            return Some(disk);
         }
-        if 0 < passed {
-            extra = !extra;
+        if passed > 0 {
+            first = first.other();
         }
-        disk += 1;
     }
-    disk
+    None
 }
 
 // The same of a dirty stripe, with one list for all equations.
-pub fn suspected(width: usize, disks: usize, size: usize, stripe: &[u8]) -> usize
-    requires { Sized width disks size stripe.now }
-    ensures { result ≡ suspect width disks size stripe.now }
+pub fn suspected(geometry: Geometry, stripe: &[u8]) -> Option<usize>
+    requires { IsStripeOf geometry stripe.now }
+    ensures { MatchOption result (geometry.array.disks + 2 ≤ suspect geometry.array.width geometry.array.disks geometry.cell_size stripe.now) (λ d. (d < geometry.array.disks + 2) × (d ≡ suspect geometry.array.width geometry.array.disks geometry.cell_size stripe.now)) }
 {
-    let mut at = equations::no_offsets();
-    let dirty = dirty_set(width, disks, size, stripe, &mut at);
-    first_fit(width, disks, size, dirty, stripe, &mut at)
+    let mut list = Offsets::new();
+    let dirty = dirty_set(geometry, stripe, &mut list);
+    first_fit(geometry, dirty, stripe, &mut list)
 }

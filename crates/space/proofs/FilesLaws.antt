@@ -1,16 +1,18 @@
 -- Each file's quotient rounded up is the least number of stripes that holds it, since the remainder
 -- is below the divisor. Added, they are at least the stripes of the whole length and hold at most
--- one stripe less a byte more than it for each file that is not empty. Loops over the lengths go by
--- what is left of the list.
-use mathlib.Core.Path.{◌≡◌, refl, sym, ap, ◌∙◌}
+-- one stripe less a byte more than it for each file that is not empty.
+use mathlib.Core.Path.{◌≡◌, refl, sym, ap, ap₂, ◌∙◌}
 use mathlib.Core.List.{List, [], ◌∷◌}
 use mathlib.Core.Logic.{⊎_elim}
-use Prim.Native.Nat.{ℕ, zero, suc, ◌+◌, ◌-◌, ◌*◌, ◌^◌, ◌≤◌, ◌<◌}
+use Prim.Native.Nat.{ℕ, zero, suc, ◌+◌, ◌-◌, ◌*◌, ◌/◌, ◌%◌, ◌^◌, ◌≤◌, ◌<◌, min}
 use native.Mathlib.Nat.{mul-le-mul, mul-le-mul_left, mul-le-mul_right, mod-lt, div-add-mod', div-mul-le_self, div-eq_of_lt, div-lt_iff_lt-mul, add-mul, le_antisymm}
-use native.Mathlib.Numerals.{add-one}
 use native.Mathlib.Omega.{arith}
-use lib.ListN.{length, get_or, drop}
-use lib.Seq.{drop-cons, drop-length, ext_get_or}
+use Rattle.std.specs.Int.{div_ceil}
+use Rattle.std.specs.List.{sum_by}
+use Rattle.std.proofs.lemmas.Grind.{div_ceil_times}
+use Rattle.std.proofs.lemmas.List.Sums.{sum_by-cons}
+use lib.ListN.{length, get_or}
+use lib.Seq.{ext_get_or}
 use Rattle.mathematics.specs.Sums.{total}
 use Rattle.mathematics.proofs.OrderLaws.{lt_or_le}
 use Rattle.space.specs.Says.{up_by, up_each, nonempty, FewFiles, Placed, Each}
@@ -45,6 +47,13 @@ module _ (d : ℕ) (h : 0 < d) where
     where
       fewer : up_by (suc l) d < n → ⊥
       fewer g = let k : up_by (suc l) d * d ≤ (n - 1) * d = mul-le-mul_right d (omega arith) in omega (arith, a.fewest (omega arith), up_enough (suc l))
+
+-- the quotient as `div_ceil` reckons it
+pub ceil_is : (a d : ℕ) → 0 < d → a / d + min 1 (a % d) ≡ up_by a d
+ceil_is a d h =
+    let t = div_ceil_times a d h in
+    let n = a / d + min 1 (a % d) in
+    sym (placed_is d h a n (record { enough = t.0; fewest = λ k. one_fewer n a d h k (omega (arith, t.1)); none = λ e. rw e (grind arith) }))
 
 -- the stripes of each file
 each_long : (d : ℕ) (ls : List ℕ) → length (up_each d ls) ≡ length ls
@@ -93,21 +102,26 @@ nonempty_few (suc l ∷ ls) = omega (arith, nonempty_few ls)
 pub files_small : (d : ℕ) (ls : List ℕ) → FewFiles d ls → total (up_each d ls) * d < 2 ^ 49
 files_small d ls f =
     let n : nonempty ls ≤ 4096 = omega (arith, nonempty_few ls, f.files) in
-    let e : d - 1 ≤ 3936255 = omega (arith, f.holds) in
-    let m : nonempty ls * (d - 1) ≤ 4096 * 3936255 = mul-le-mul n e in
+    let e : d - 1 ≤ 31490047 = omega (arith, f.holds) in
+    let m : nonempty ls * (d - 1) ≤ 4096 * 31490047 = mul-le-mul n e in
     omega (arith, f.bytes, files_most d f.pos ls)
 
 -- so they are fewer than 2^49 too
-pub stripes_small : (d : ℕ) (ls : List ℕ) → FewFiles d ls → total (up_each d ls) < 2 ^ 49
+stripes_small : (d : ℕ) (ls : List ℕ) → FewFiles d ls → total (up_each d ls) < 2 ^ 49
 stripes_small d ls f = omega (arith, files_small d ls f, mul-le-mul_left (total (up_each d ls)) f.pos)
 
--- a loop over the lengths: at the end none is left that takes a stripe
-pub each_none : (d : ℕ) (ls : List ℕ) (i : ℕ) → i ≡ length ls → total (up_each d (drop i ls)) ≡ 0
+-- the sum as the code takes it
+pub each_sum : (d : ℕ) → 0 < d → (ls : List ℕ) → sum_by (λ l. div_ceil l d) ls ≡ total (up_each d ls)
 unfolding total up_each
-each_none d ls i e = ap (λ (n : ℕ). total (up_each d (drop n ls))) e ∙ ap (λ (xs : List ℕ). total (up_each d xs)) (drop-length ls)
+each_sum d h [] = refl
+each_sum d h (l ∷ ls) = sum_by-cons (λ (x : ℕ). div_ceil x d) l ls ∙ ap₂ ◌+◌ (ceil_is l d h) (each_sum d h ls)
 
--- what is left from i on takes the stripes of the length there and of what is left after it
-module _ (ls : List ℕ) (i : ℕ) (h : i < length ls) where
-  pub left_each : (d : ℕ) → total (up_each d (drop i ls)) ≡ up_by (get_or ls i 0) d + total (up_each d (drop (i + 1) ls))
-  unfolding total up_each
-  left_each d = ap (λ (xs : List ℕ). total (up_each d xs)) (drop-cons ls i 0 h) ∙ ap (λ (n : ℕ). up_by (get_or ls i 0) d + total (up_each d (drop n ls))) (sym (add-one i))
+-- does not wrap
+pub sum_small : (d : ℕ) (ls : List ℕ) → FewFiles d ls → sum_by (λ l. div_ceil l d) ls < 2 ^ 64
+sum_small d ls f = omega (arith, each_sum d f.pos ls, stripes_small d ls f)
+
+-- nor do the bytes of a disk for them, which gives g of the d bytes of a stripe
+pub need_small : (d g : ℕ) (ls : List ℕ) → g ≤ d → FewFiles d ls → sum_by (λ l. div_ceil l d) ls * g < 2 ^ 64
+need_small d g ls h f =
+    let m : total (up_each d ls) * g ≤ total (up_each d ls) * d = mul-le-mul_left (total (up_each d ls)) h in
+    rw (each_sum d f.pos ls) (omega (arith, m, files_small d ls f))

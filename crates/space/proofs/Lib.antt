@@ -1,6 +1,4 @@
--- The stripes of a list of files, what an accepted answer means, the loops over the list, and the
--- refusals.
+-- The stripes of a list of files, what an accepted answer means, and the loop over the list.
 pub mod FilesLaws
 pub mod SpaceLaws
 pub mod LeftLaws
-pub mod SpaceRefusals

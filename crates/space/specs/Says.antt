@@ -54,7 +54,7 @@ pub record SpaceRefused (n : ℕ) (r : Space) : Type 0 where
 -- files few and short enough for the sum of their stripes, which hold d bytes each
 pub record FewFiles (d : ℕ) (ls : List ℕ) : Type 0 where
   pub pos : 0 < d
-  pub holds : d ≤ 3936256
+  pub holds : d ≤ 31490048
   pub files : length ls ≤ 4096
   pub bytes : total ls ≤ 2 ^ 48
 

@@ -4,11 +4,14 @@
 
 mod limits;
 
-ghost use Rattle.std.specs.Prelude.{◌≡◌};
-ghost use Rattle.mathematics.specs.Sums.{total};
-ghost use Rattle.space.specs.Says.{up_each, SpaceSays, SpaceRefused, FewFiles};
+ghost use Rattle.std.specs.Prelude.{◌≡◌, ◌^◌, ◌≤◌, ◌<◌, sum_by, IfOk};
+ghost use Rattle.std.specs.Int.{div_ceil};
+ghost use Rattle.refusals.specs.Refused.{number_of, refused};
+ghost use Rattle.space.specs.Refusals.{space_refusal};
+ghost use Rattle.space.specs.Says.{stripe_holds, SpaceSays, SpaceRefused};
 
-use refusals::{Answer, Shape};
+pub use limits::MAX_PACKAGE;
+use refusals::{Answer, Geometry, Refusal, Shape};
 
 // The answer, the stripes, the bytes of each disk, and whether these are at most the free bytes.
 #[repr(C)]
@@ -21,29 +24,51 @@ pub struct Space {
 }
 
 // A refusal of the space call: every other field is zero or false.
-fn refused_space(refusal: u8) -> Space
-    ensures { SpaceRefused refusal result }
-{
-    Space {
-        answer: refusals::answered(refusal),
-        stripes: 0,
-        bytes: 0,
-        fits: false,
+impl From<Refusal> for Space {
+    ghost from_gives = { λ r s. SpaceRefused (number_of r) s };
+
+    fn from(refusal: Refusal) -> Space {
+        Space {
+            answer: refusal.into(),
+            stripes: 0,
+            bytes: 0,
+            fits: false,
+        }
     }
 }
 
 // The stripes of each file, rounded up, then added; a stripe holds `holds` bytes.
 fn sum_stripes(holds: u64, lengths: &[u64]) -> u64
-    requires { FewFiles holds lengths.now }
-    ensures { result ≡ total (up_each holds lengths.now) }
+    requires some { 0 < holds }
+    requires few { sum_by (λ l. div_ceil l holds) lengths.now < 2 ^ 64 }
+    ensures { result ≡ sum_by (λ l. div_ceil l holds) lengths.now }
 {
-    let mut stripes: u64 = 0;
-    let mut file = 0;
-    while file < lengths.len() {
-        stripes += (lengths[file] + (holds - 1)) / holds;
-        file += 1;
-    }
-    stripes
+    lengths.iter().map(|bytes| bytes.div_ceil(holds)).sum()
+}
+
+// The bytes of film that a stripe holds.
+pub fn film_bytes(geometry: Geometry) -> u64
+    ensures bytes { result ≡ stripe_holds geometry.array.width geometry.array.disks geometry.cell_size }
+    ensures small { (0 < result) × (result ≤ 31490048) }
+{
+    geometry.array.disks as u64 * geometry.column_bytes() as u64
+}
+
+// The space of a package, or why there is none.
+fn try_space(shape: Shape, lengths: &[u64], free: u64) -> Result<Space, Refusal>
+    ensures refusal { refused result ≡ space_refusal shape.width shape.disks shape.cell_size lengths.now }
+    ensures space { IfOk result (λ r. SpaceSays shape.width shape.disks shape.cell_size lengths.now free r) }
+{
+    let geometry = Geometry::new(shape)?;
+    limits::check_package(lengths)?;
+    let stripes = sum_stripes(film_bytes(geometry), lengths);
+    let bytes = stripes * geometry.column_bytes() as u64;
+    Ok(Space {
+        answer: Answer::accepted(),
+        stripes,
+        bytes,
+        fits: bytes <= free,
+    })
 }
 
 // The space that a package of files of these lengths takes, where each disk has `free` bytes left.
@@ -51,21 +76,5 @@ fn sum_stripes(holds: u64, lengths: &[u64]) -> u64
 pub fn package_space(shape: Shape, lengths: &[u64], free: u64) -> Space
     ensures { SpaceSays shape.width shape.disks shape.cell_size lengths.now free result }
 {
-    let width = shape.width;
-    let disks = shape.disks;
-    let size = shape.cell_size;
-    let refusal = limits::space_refusal(width, disks, size, lengths);
-    if refusal != 0 {
-        return refused_space(refusal);
-    }
-    let gives = width as u64 * size as u64;
-    let holds = disks as u64 * gives;
-    let stripes = sum_stripes(holds, lengths);
-    let need = stripes * gives;
-    Space {
-        answer: refusals::answered(0),
-        stripes: stripes,
-        bytes: need,
-        fits: need <= free,
-    }
+    try_space(shape, lengths, free).unwrap_or_else(Space::from)
 }

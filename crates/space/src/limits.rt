@@ -1,50 +1,37 @@
-// The refusals of the space call by 1, 13, 2, 14 and 11: the numbers of the array, the number of
-// files and the sum of their lengths.
-ghost use Rattle.std.specs.Prelude.{◌≡◌, ◌^◌, ltb};
+// The refusals of a package by 14 and 11: the number of files and the sum of their lengths.
+ghost use Rattle.std.specs.Prelude.{◌≡◌};
+ghost use Rattle.mathematics.specs.Choice.{first_of};
 ghost use Rattle.mathematics.specs.Sums.{total};
-ghost use Rattle.space.specs.Refusals.{space_refusal};
+ghost use Rattle.refusals.specs.Refused.{refused};
+ghost use Rattle.space.specs.Refusals.{files_refusal, package_refusal};
 
-use refusals::numbers::{PACKAGE_TOO_LONG, TOO_MANY_FILES};
+use refusals::Refusal;
 
 // The most files of a package.
 const MAX_FILES: usize = 4096;
 
 // The most bytes of a package, all files together.
-const MAX_PACKAGE: u64 = 1 << 48;
+pub const MAX_PACKAGE: u64 = 1 << 48;
 
-// Do the lengths add up to more than 2^48? Each is compared with what is left of that, so no sum
-// wraps.
-fn too_long(lengths: &[u64]) -> bool
-    ensures { result ≡ ltb (2 ^ 48) (total lengths.now) }
+// Do the lengths add up to at most 2^48? Each is taken from what is left of that, so no sum wraps.
+// Refusal: 11.
+#[tactic(auto, using(crate::proofs::LeftLaws::left_next, crate::proofs::LeftLaws::left_none))]
+fn check_bytes(lengths: &[u64]) -> Result<(), Refusal>
+    ensures { refused result ≡ package_refusal (total lengths.now) }
 {
-    let mut seen: u64 = 0;
-    let mut i = 0;
-    while i < lengths.len() {
-        let bytes = lengths[i];
-        if MAX_PACKAGE - seen < bytes {
-            return true;
-        }
-        seen += bytes;
-        i += 1;
+    let mut left = MAX_PACKAGE;
+    for bytes in lengths {
+        left = left.checked_sub(*bytes).ok_or(Refusal::PackageTooLong)?;
     }
-    false
+    Ok(())
 }
 
-// The refusal of a package of files, 0 for none: 1, 13, 2, then 14 for more than 4,096 files, then
-// 11 for more than 2^48 bytes.
-pub fn space_refusal(width: usize, disks: usize, size: usize, lengths: &[u64]) -> u8
-    ensures { result ≡ space_refusal width disks size lengths.now }
+// Has a package at most 4,096 files, and at most 2^48 bytes? Refusals: 14, 11.
+pub fn check_package(lengths: &[u64]) -> Result<(), Refusal>
+    ensures { refused result ≡ first_of (files_refusal lengths.now) (package_refusal (total lengths.now)) }
 {
-    let refusal = refusals::shape_refusal(width, disks, size);
-    if refusal != 0 {
-        return refusal;
-    }
     if MAX_FILES < lengths.len() {
-        return TOO_MANY_FILES;
+        return Err(Refusal::TooManyFiles);
     }
-    if too_long(lengths) {
-        PACKAGE_TOO_LONG
-    } else {
-        0
-    }
+    check_bytes(lengths)
 }

@@ -1,11 +1,11 @@
 -- All rows as one run: the offsets of row 0's cells are those of the columns, and the XOR of the
 -- other columns, put in place of a disk's column, does the steps of all row sets for that disk,
 -- since no step reads what another one writes.
-use mathlib.Core.Path.{◌≡◌, sym, subst, ap, ap₂, ◌∙◌}
+use mathlib.Core.Path.{◌≡◌, sym, subst, ap, ◌∙◌}
 use mathlib.Core.Bool.{true, ◌&&◌, not}
 use mathlib.Core.Logic.{◌⊎◌, ⊎_elim}
-use mathlib.Core.List.{List, ◌++◌, append-nil}
-use Prim.Native.Nat.{ℕ, zero, suc, ◌+◌, ◌-◌, ◌*◌, ◌≤◌, ◌<◌}
+use mathlib.Core.List.{List, append-nil}
+use Prim.Native.Nat.{ℕ, zero, suc, ◌+◌, ◌*◌, ◌≤◌, ◌<◌}
 use native.Mathlib.Nat.{mod-lt}
 use native.Mathlib.Omega.{arith}
 use lib.Dec.{eqb, leb}
@@ -15,7 +15,7 @@ use Rattle.mathematics.specs.Lists.{is_in}
 use Rattle.mathematics.proofs.Flags.{and_l, and_r}
 use Rattle.mathematics.proofs.MemberLaws.{at_in}
 use Rattle.mathematics.proofs.OrderLaws.{lt_or_le}
-use Rattle.liberation.specs.Sets.{place, disk_at, row_at, row_from, row_set, surviving_in}
+use Rattle.liberation.specs.Sets.{place, disk_at, row_at, row_set, surviving_in}
 use Rattle.liberation.specs.Plans.{all_of}
 use Rattle.liberation.proofs.SetLaws.{place_of, in_row, in_surviving}
 use Rattle.liberation.specs.Stripes.Stripes.{cell_at, with_cell, xor_over, without, followed, column_of, with_column, stripe_long}
@@ -26,24 +26,11 @@ use Rattle.xor.specs.Reach.{Reached}
 use Rattle.xor.proofs.BlockLaws.{offsets_long}
 use Rattle.xor.proofs.StoreLaws.{part_long}
 use Rattle.xor_in_place.specs.Beside.{Apart}
-use Rattle.stripe_cells.specs.Offsets.{scaled, Pushed}
+use Rattle.stripe_cells.specs.Offsets.{scaled}
 use Rattle.stripe_cells.proofs.OffsetLaws.{over_offsets, each_offset}
-use Rattle.stripe_cells.proofs.KeptLaws.{cell_walk, surviving_but}
 use Rattle.stripe_cells.proofs.RunLaws.{run_cell}
-use Rattle.stripe_cells.proofs.OrdinaryLists.{both_pushed}
 use Rattle.stripe_cells.proofs.SetLists.{survivors_one}
 use Rattle.stripe_cells.proofs.OrdinaryLaws.{others_are, row_own}
-
--- the cells of row i but that on disk d, as they are pushed
-pub row_pushed : {a b c : List ℕ} {n m : ℕ} (p k s d : ℕ) → 0 < p → d ≤ k → Pushed a b 0 n (scaled s (row_from (d - 0) p 0 0)) → Pushed b c n m (scaled s (row_from (k + 1 - (d + 1)) p 0 (d + 1))) → Pushed a c 0 m (scaled s (surviving_in p d (row_set p k 0)))
-unfolding row_set
-row_pushed p k s d some h u v =
-    let e : suc k - (suc k - d) - 0 ≡ d - 0 = omega arith in
-    let q : suc k - (d + 1) ≡ k + 1 - (d + 1) = omega arith in
-    both_pushed s (row_from (d - 0) p 0 0) (row_from (k + 1 - (d + 1)) p 0 (d + 1))
-    (surviving_but p (λ c. 0) (λ c. some) (cell_walk 0 p 0) d (suc k) 0 (suc k) (omega arith) (omega arith) ∙ ap₂ (λ (x y : ℕ). row_from x p 0 0 ++ row_from y p 0 (d + 1)) e q)
-    u
-    v
 
 -- each of row 0's cells begins the column of its disk
 module _ (p k s f : ℕ) (some : 0 < p) where

@@ -7,8 +7,8 @@ use mathlib.Core.List.{List, [], ◌∷◌, ◌++◌}
 use Prim.Native.Nat.{ℕ, zero, suc, ◌+◌, ◌*◌, ◌≤◌, ◌<◌}
 use native.Mathlib.Nat.{mul-le-mul}
 use native.Mathlib.Omega.{arith}
-use lib.ListN.{length, get_or, set, take, drop, length-append, length-drop, length-set, get_or-append, drop_of_length-le, take-append-drop}
-use lib.Seq.{get_or-set_same, drop-drop, get_or-take, get_or-drop, length-take-le, take-suc-set}
+use lib.ListN.{length, get_or, take, drop, length-append, length-drop, get_or-append, drop_of_length-le, take-append-drop}
+use lib.Seq.{drop-drop, get_or-drop}
 use Rattle.mathematics.specs.Choice.{pick}
 use Rattle.mathematics.specs.Xor.{xor_l, all_bytes}
 use Rattle.mathematics.proofs.ByteLaws.{bytes_take, bytes_drop}
@@ -23,9 +23,9 @@ use Rattle.xor_in_place.specs.Beside.{Beside}
 use Rattle.xor_in_place.proofs.WithinLaws.{part_with, with_with, part_kept, offsets_same}
 use Rattle.stripe_cells.specs.Offsets.{scaled}
 use Rattle.stripe_cells.specs.Toggled.{is_odd, odd_from}
-use Rattle.stripe_cells.specs.Listed.{odd_offsets, OddPushed}
-use Rattle.stripe_cells.specs.declared.odd_marks.Listed.{Listed}
-use Rattle.stripe_cells.specs.Gathered.{MarkedStripe, Start, OddAdded}
+use Rattle.stripe_cells.specs.Listed.{odd_offsets}
+use Rattle.stripe_cells.specs.Gathered.{MarkedStripe}
+use Rattle.stripe_cells.specs.OddCells.{OddPushed, OddAdded}
 
 -- every number of a list has a property
 abbrev All : (ℕ → Type 0) → List ℕ → Type 0
@@ -68,61 +68,57 @@ module _ (s d : ℕ) (ms t : List ℕ) (m : MarkedStripe s d ms t) where
       far : (y : ℕ) → y < length ms → is_odd (get_or ms y 0) ≡ true → (y * s + s ≤ d * s) ⊎ (d * s + s ≤ y * s)
       far y h e = cells_apart s y d (λ q. false≢true (sym m.even ∙ ap (λ (z : ℕ). is_odd (get_or ms z 0)) (sym q) ∙ e))
 
-  -- the list that was pushed
-  module _ (old new : List ℕ) (x n : ℕ) (r : Listed) (st : Start s d (length ms) old x n) (p : OddPushed s ms old new x n r) (long : length new ≡ length old) where
-    abbrev list : List ℕ
-    list = take r.count new
-
-    list_long : length list ≡ r.count
-    list_long = length-take-le r.count new p.fits
-
-    front_long : length (take n old) ≡ n
-    front_long = length-take-le n old (omega arith)
-
+  -- the list that was pushed: it had the destination alone, or nothing
+  module _ (old new : List ℕ) (x most r : ℕ) (room : (1 < most) × (most ≤ 33)) (own : (old ≡ []) ⊎ (old ≡ d * s ∷ [])) (p : OddPushed s ms old new x most r) where
     abbrev Source : ℕ → Type 0
     Source a = (a + s ≤ length t) × ((a + s ≤ d * s) ⊎ (d * s ≤ a))
 
-    sources : All Source list
-    sources = all_front Source list (odd_offsets s ms r.next) (subst (All Source) (sym p.list) (all_append Source (take n old) (odd_offsets s ms x) own odd))
+    first : All Source old
+    first = ⊎_elim (λ e. subst (All Source) (sym e) (λ i h. absurd (omega arith))) (λ e. subst (All Source) (sym e) one) own
       where
-        own : All Source (take n old)
-        own i h =
-            let k : i < n = omega (arith, front_long) in
-            let e : get_or (take n old) i 0 ≡ d * s = get_or-take n old i 0 k ∙ st.own i k in
-            (omega (arith, e, own_within), inr (omega arith))
+        one : All Source (d * s ∷ [])
+        one zero h = (own_within, inr (omega arith))
+        one (suc i) h = absurd (omega arith)
 
+    sources : All Source new
+    sources = all_front Source new (odd_offsets s ms r) (subst (All Source) (sym p.list) (all_append Source old (odd_offsets s ms x) first odd))
+      where
         odd : All Source (odd_offsets s ms x)
         odd i h = (odd_within x i h, ⊎_elim (λ l. inl l) (λ l. inr (omega arith)) (odd_apart x i h))
 
-    pub list_beside : Beside (d * s) s (length t) (take r.count new)
+    pub list_beside : Beside (d * s) s (length t) new
     list_beside =
         record {
-          sources = record { few = omega (arith, list_long, p.fits, st.most); inside = λ i h. (sources i h).0 };
+          sources = record { few = omega (arith, p.fits, room); inside = λ i h. (sources i h).0 };
           fits = own_within;
           apart = λ i h. (sources i h).1;
         }
 
     -- a place was passed, unless none is left
-    on : x < length ms → x < r.next
-    on h = ⊎_elim (λ l. l) (λ l. absurd (stuck (omega arith))) (lt_or_le x r.next)
+    on : x < length ms → x < r
+    on h = ⊎_elim (λ l. l) (λ l. absurd (stuck (omega (arith, p.some)))) (lt_or_le x r)
       where
-        stuck : r.next ≡ x → ⊥
+        short : length old ≤ 1
+        short = ⊎_elim (λ e. omega (arith, ap length e)) (λ e. omega (arith, ap length e)) own
+
+        stuck : r ≡ x → ⊥
         stuck e =
-            let q : length list + length (odd_offsets s ms r.next) ≡ n + length (odd_offsets s ms x) = sym (length-append list (odd_offsets s ms r.next)) ∙ ap length p.list ∙ length-append (take n old) (odd_offsets s ms x) ∙ omega (arith, front_long) in
-            let k : length (odd_offsets s ms r.next) ≡ length (odd_offsets s ms x) = ap (λ (y : ℕ). length (odd_offsets s ms y)) e in
-            ⊎_elim (λ w. omega arith) (λ w. omega (arith, list_long, st.room)) p.full
+            let q : length new + length (odd_offsets s ms r) ≡ length old + length (odd_offsets s ms x) = sym (length-append new (odd_offsets s ms r)) ∙ ap length p.list ∙ length-append old (odd_offsets s ms x) in
+            let k : length (odd_offsets s ms r) ≡ length (odd_offsets s ms x) = ap (λ (y : ℕ). length (odd_offsets s ms y)) e in
+            let m = short in
+            ⊎_elim (λ w. omega arith) (λ w. omega (arith, room)) p.full
 
     -- and gathered
-    pub list_added : (t' : List ℕ) → t' ≡ with_part s (d * s) (xor_offsets s t (take r.count new)) t → OddAdded s d ms t t' old x n r.next
+    pub list_added : (t' : List ℕ) → t' ≡ with_part s (d * s) (xor_offsets s t new) t → OddAdded s d ms t t' old x r
     list_added t' e =
-        let put : part s (d * s) t' ≡ xor_offsets s t list = ap (part s (d * s)) e ∙ part_with s (d * s) (xor_offsets s t list) t (offsets_long s t list (λ i h. (sources i h).0)) own_within in
+        let put : part s (d * s) t' ≡ xor_offsets s t new = ap (part s (d * s)) e ∙ part_with s (d * s) (xor_offsets s t new) t (offsets_long s t new (λ i h. (sources i h).0)) own_within in
         record {
           sum =
-              ap (λ (l : List ℕ). xor_l l (xor_offsets s t (odd_offsets s ms r.next))) put
-              ∙ sym (offsets_append s t list (odd_offsets s ms r.next) (odd_within r.next))
+              ap (λ (l : List ℕ). xor_l l (xor_offsets s t (odd_offsets s ms r))) put
+              ∙ sym (offsets_append s t new (odd_offsets s ms r) (odd_within r))
               ∙ ap (xor_offsets s t) p.list;
-          long = ap length put ∙ offsets_long s t list (λ i h. (sources i h).0);
-          bytes = ap all_bytes put ∙ offsets_bytes s t list;
+          long = ap length put ∙ offsets_long s t new (λ i h. (sources i h).0);
+          bytes = ap all_bytes put ∙ offsets_bytes s t new;
           kept = e ∙ ap (λ (l : List ℕ). with_part s (d * s) l t) (sym put);
           within = p.within;
           on = on;
@@ -136,21 +132,6 @@ pub record Gathering (s d : ℕ) (ms t₀ : List ℕ) (from : ℕ) (t : List ℕ
   pub bytes : all_bytes (part s (d * s) t) ≡ true
   pub kept : t ≡ with_part s (d * s) (part s (d * s) t) t₀
   pub within : x ≤ length ms
-
--- cell d put in front of the list
-pub own_first : (s d : ℕ) (at : List ℕ) → 0 < length at → take 1 (set at 0 (d * s)) ≡ d * s ∷ []
-own_first s d at h = take-suc-set at 0 (d * s) h
-
--- what a list with no number in use, and one with cell d alone, show
-pub start_none : {s d all : ℕ} (at : List ℕ) → 2 ≤ length at → length at ≤ 100 → Start s d all at 0 0
-start_none at h k = record { from = omega arith; room = omega arith; most = k; own = λ i l. absurd (omega arith) }
-
-pub start_own : {s d all x : ℕ} (at : List ℕ) → x ≤ all → 2 ≤ length at → length at ≤ 100 → Start s d all (set at 0 (d * s)) x 1
-start_own {s} {d} at e h k = record { from = e; room = simp length-set (omega arith); most = simp length-set (omega arith); own = own }
-  where
-    own : (i : ℕ) → i < 1 → get_or (set at 0 (d * s)) i 0 ≡ d * s
-    own zero l = get_or-set_same at 0 (d * s) 0 (omega arith)
-    own (suc i) l = absurd (omega arith)
 
 module _ {s d : ℕ} {ms t₀ : List ℕ} (m : MarkedStripe s d ms t₀) where
   -- the odd cells as they were
@@ -175,9 +156,9 @@ module _ {s d : ℕ} {ms t₀ : List ℕ} (m : MarkedStripe s d ms t₀) where
       }
 
   -- the next list, which has cell d in front
-  pub gathering_next : {from x r : ℕ} {t t' : List ℕ} (at : List ℕ) → take 1 at ≡ d * s ∷ [] → Gathering s d ms t₀ from t x → OddAdded s d ms t t' at x 1 r → Gathering s d ms t₀ from t' r
+  pub gathering_next : {from x r : ℕ} {t t' : List ℕ} (list : List ℕ) → list ≡ d * s ∷ [] → Gathering s d ms t₀ from t x → OddAdded s d ms t t' list x r → Gathering s d ms t₀ from t' r
   unfolding xor_offsets
-  gathering_next {from} {x} {r} {t} {t'} at e g a =
+  gathering_next {from} {x} {r} {t} {t'} list e g a =
       record {
         sum =
             ap (xor_l (part s (d * s) t')) (sym (odd_kept g.long g.kept r))
@@ -200,11 +181,11 @@ module _ {s d : ℕ} {ms t₀ : List ℕ} (m : MarkedStripe s d ms t₀) where
       (sym (xor_l_zeros s (part s (d * s) t) g.long g.bytes) ∙ ap (λ (l : List ℕ). xor_l (part s (d * s) t) (xor_offsets s t₀ (scaled s (odd_from x l)))) (sym (drop_of_length-le ms h)) ∙ g.sum)
 
   -- the first list, and the rest added
-  pub all_gathered : {x : ℕ} (t t' at : List ℕ) → OddAdded s d ms t₀ t at 0 0 x → t' ≡ with_part s (d * s) (xor_l (part s (d * s) t) (xor_offsets s t (odd_offsets s ms x))) t → t' ≡ with_part s (d * s) (xor_offsets s t₀ (odd_offsets s ms 0)) t₀
-  all_gathered {x} t t' at a e =
+  pub all_gathered : {x : ℕ} (t t' list : List ℕ) → list ≡ [] → OddAdded s d ms t₀ t list 0 x → t' ≡ with_part s (d * s) (xor_l (part s (d * s) t) (xor_offsets s t (odd_offsets s ms x))) t → t' ≡ with_part s (d * s) (xor_offsets s t₀ (odd_offsets s ms 0)) t₀
+  all_gathered {x} t t' list n a e =
       e
       ∙ again (xor_l (part s (d * s) t) (xor_offsets s t (odd_offsets s ms x))) a.long a.kept
-      ∙ ap (λ (l : List ℕ). with_part s (d * s) l t₀) (ap (xor_l (part s (d * s) t)) (odd_kept a.long a.kept x) ∙ a.sum)
+      ∙ ap (λ (l : List ℕ). with_part s (d * s) l t₀) (ap (xor_l (part s (d * s) t)) (odd_kept a.long a.kept x) ∙ a.sum ∙ ap (λ (l : List ℕ). xor_offsets s t₀ (l ++ odd_offsets s ms 0)) n)
 
 -- a stripe as long
 pub still_marked : {s d : ℕ} {ms t : List ℕ} (u : List ℕ) → length u ≡ length t → MarkedStripe s d ms t → MarkedStripe s d ms u

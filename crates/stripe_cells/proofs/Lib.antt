@@ -3,12 +3,14 @@
 pub mod OrdinaryLaws
 pub mod ColumnLaws
 pub mod LoopLaws
-pub mod ListedLaws
 pub mod OddLaws
 pub mod OrdinaryLists
 pub mod OffsetLaws
-pub mod PushLaws
 pub mod KeptLaws
 pub mod RunLaws
-pub mod GatherLaws
 pub mod SetLists
+pub mod AppendedLaws
+pub mod WritingLaws
+pub mod OddPushLaws
+pub mod GatherLaws
+pub mod SolvedLaws

@@ -1,23 +1,20 @@
 -- The ordinary cells of a set as they are pushed: those on data disks and the parity cell, each but
 -- on the lost disks.
-use mathlib.Core.Path.{◌≡◌, refl, sym, subst, ap, ap₂, ◌∙◌}
+use mathlib.Core.Path.{◌≡◌, refl, ap, ◌∙◌}
 use mathlib.Core.Bool.{Bool, true, false, ◌||◌}
 use mathlib.Core.List.{List, [], ◌∷◌, ◌++◌}
-use Prim.Native.Nat.{ℕ, suc, ◌+◌, ◌-◌, ◌*◌, ◌≤◌, ◌<◌}
+use Prim.Native.Nat.{ℕ, suc, ◌+◌, ◌-◌, ◌≤◌, ◌<◌}
 use native.Mathlib.Nat.{zero-add}
 use native.Mathlib.Omega.{arith}
 use lib.Dec.{eqb}
-use lib.ListN.{length, set}
 use borrow.Author.Tests.{eq-eqb, ne_eqb, eqb-true}
 use Rattle.mathematics.specs.Choice.{pick}
-use Rattle.mathematics.proofs.KeptLaws.{Keeps, both_keep, kept_append, kept_short}
-use Rattle.mathematics.proofs.Walks.{walk_last, walk_long}
+use Rattle.mathematics.proofs.KeptLaws.{Keeps, both_keep, kept_append}
+use Rattle.mathematics.proofs.Walks.{walk_last}
 use Rattle.liberation.specs.Sets.{place, disk_at, row_from, diagonal_from, row_set, ordinary, surviving_in}
 use Rattle.liberation.proofs.SetLaws.{disk_place, surviving_keeps}
-use Rattle.stripe_cells.specs.Offsets.{scaled, cells_from, Pushed}
-use Rattle.stripe_cells.proofs.OffsetLaws.{length_scaled, scaled_append}
-use Rattle.stripe_cells.proofs.PushLaws.{pushed_none, pushed_one, pushed_then}
-use Rattle.stripe_cells.proofs.KeptLaws.{row_in, row_in_below, cell_walk, surviving_two}
+use Rattle.stripe_cells.specs.Offsets.{cells_from}
+use Rattle.stripe_cells.proofs.KeptLaws.{cell_walk}
 use Rattle.stripe_cells.specs.OrdinaryCells.{survivors, ordinary_of, parity_disk}
 
 pub survivors_keep : (p x y : ℕ) → Keeps (λ c. eqb (disk_at p c) y || eqb (disk_at p c) x) (survivors p x y)
@@ -64,19 +61,6 @@ module _ (p k kind i : ℕ) where
       go true = omega arith
       go false = omega arith
 
--- what is pushed when a list of cells is empty, or one cell
-pub none_pushed : {xs : List ℕ} (s n : ℕ) (l : List ℕ) → n ≤ length l → xs ≡ [] → Pushed l l n n (scaled s xs)
-unfolding scaled
-none_pushed s n l h e = subst (λ (ys : List ℕ). Pushed l l n n (scaled s ys)) (sym e) (pushed_none l n h)
-
-pub one_pushed : {xs : List ℕ} (s n x : ℕ) (l : List ℕ) → xs ≡ x ∷ [] → n < length l → Pushed l (set l n (x * s)) n (n + 1) (scaled s xs)
-unfolding scaled
-one_pushed s n x l e h = subst (λ (ys : List ℕ). Pushed l (set l n (x * s)) n (n + 1) (scaled s ys)) (sym e) (pushed_one l n (x * s) h)
-
--- pushes of cells one after another
-pub both_pushed : {a b c : List ℕ} {n m r : ℕ} {zs : List ℕ} (s : ℕ) (xs ys : List ℕ) → zs ≡ xs ++ ys → Pushed a b n m (scaled s xs) → Pushed b c m r (scaled s ys) → Pushed a c n r (scaled s zs)
-both_pushed {a} {b} {c} {n} {m} {r} {zs} s xs ys e u v = subst (Pushed a c n r) (sym (ap (scaled s) e ∙ scaled_append s xs ys)) (pushed_then u v)
-
 -- the list has room for the cells after y; hx and hy are the smaller ones of x and k, and of y and
 -- k
 at_most : (k x h : ℕ) → h ≡ k - (k - x) → (h ≤ x) × (h ≤ k)
@@ -87,29 +71,3 @@ after_fits k x y hx hy n m u v l e w = omega arith
 
 pub room_after : (k x y hx hy n m : ℕ) → hx ≡ k - (k - x) → hy ≡ k - (k - y) → x ≤ y → n ≡ 0 + (hx - 0) → m ≡ n + (hy - (x + 1)) → m + (k - (y + 1)) ≤ k
 room_after k x y hx hy n m e q = after_fits k x y hx hy n m (at_most k x hx e) (at_most k y hy q)
-
-module _ (p k s kind i : ℕ) where
-  pub data_count : {a b : List ℕ} {m r : ℕ} (n c : ℕ) → Pushed a b m r (scaled s (cells_from kind n p i c)) → r ≡ m + n
-  data_count n c u = omega (arith, u.count, length_scaled s (cells_from kind n p i c), walk_long (cell_walk kind p i) n c)
-
-  -- the cells before x, between x and y, and after y
-  pub data_pushed : {a b c d : List ℕ} {n m r : ℕ} (x y hx hy : ℕ) → i < p → x ≤ y → hx ≡ k - (k - x) → hy ≡ k - (k - y) → Pushed a b 0 n (scaled s (cells_from kind (hx - 0) p i 0)) → Pushed b c n m (scaled s (cells_from kind (hy - (x + 1)) p i (x + 1)))
-      → Pushed c d m r (scaled s (cells_from kind (k - (y + 1)) p i (y + 1))) → Pushed a d 0 r (scaled s (survivors p x y (cells_from kind k p i 0)))
-  data_pushed x y hx hy h o e q u v w =
-      both_pushed s (cells_from kind (hx - 0) p i 0 ++ cells_from kind (hy - (x + 1)) p i (x + 1)) (cells_from kind (k - (y + 1)) p i (y + 1))
-      (surviving_two p (row_in kind p i) (λ c. row_in_below kind p i c h) (cell_walk kind p i) x y k o
-      ∙ ap₂ (λ (g j : ℕ). (cells_from kind (g - 0) p i 0 ++ cells_from kind (j - (x + 1)) p i (x + 1)) ++ cells_from kind (k - (y + 1)) p i (y + 1)) (sym e) (sym q))
-      (both_pushed s (cells_from kind (hx - 0) p i 0) (cells_from kind (hy - (x + 1)) p i (x + 1)) refl u v)
-      w
-
-  -- so many at most
-  pub data_most : {a b : List ℕ} {r : ℕ} (x y : ℕ) → Pushed a b 0 r (scaled s (survivors p x y (cells_from kind k p i 0))) → r ≤ k
-  data_most x y u = omega (arith, u.count, length_scaled s (survivors p x y (cells_from kind k p i 0)), kept_short (survivors_keep p x y) (cells_from kind k p i 0), walk_long (cell_walk kind p i) k 0)
-
-  -- the ordinary cells from those on data disks and the parity cell
-  pub ordinary_pushed : {a b c : List ℕ} {n r : ℕ} (x y q : ℕ) → q ≡ parity_disk k kind → Pushed a b 0 n (scaled s (survivors p x y (cells_from kind k p i 0))) → Pushed b c n r (scaled s (survivors p x y (place p i q ∷ []))) → Pushed a c 0 r (scaled s (survivors p x y (ordinary_of p k kind i)))
-  ordinary_pushed x y q e u v =
-      both_pushed s (survivors p x y (cells_from kind k p i 0)) (survivors p x y (place p i q ∷ []))
-      (ap (survivors p x y) (ordinary_split p k kind i ∙ ap (λ (d : ℕ). cells_from kind k p i 0 ++ (place p i d ∷ [])) (sym e)) ∙ survivors_append p x y (cells_from kind k p i 0) (place p i q ∷ []))
-      u
-      v

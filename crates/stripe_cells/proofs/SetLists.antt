@@ -1,31 +1,24 @@
 -- The cells of a set as they are pushed: the ordinary cells and the extra cell, each but on the
 -- lost disks.
-use mathlib.Core.Path.{◌≡◌, refl, sym, subst, ap, ap₂, ◌∙◌}
+use mathlib.Core.Path.{◌≡◌, refl, sym, ap, ap₂, ◌∙◌}
 use mathlib.Core.Bool.{Bool, true, false, ◌&&◌, or_comm}
 use mathlib.Core.Logic.{⊎_elim}
 use mathlib.Core.List.{List, [], ◌∷◌, ◌++◌, append-nil}
 use Prim.Native.Nat.{ℕ, suc, ◌+◌, ◌*◌, ◌%◌, ◌≤◌, ◌<◌}
 use native.Mathlib.Omega.{arith}
 use lib.Dec.{eqb, ltb, leb}
-use lib.ListN.{length, take, length-append}
 use borrow.Author.Tests.{eq-eqb, ne_eqb, eqb-true, eqb-false, ltb-true, lt-ltb, le-ltb, le-leb, lt-leb}
 use Rattle.mathematics.specs.Choice.{pick}
 use Rattle.mathematics.specs.Lists.{is_in, all_below}
 use Rattle.mathematics.proofs.Flags.{and_l, and_r, and_i, or_cases}
 use Rattle.mathematics.proofs.MemberLaws.{in_below}
-use Rattle.mathematics.proofs.KeptLaws.{Keeps, kept_below, kept_short, kept_same, kept_all}
-use Rattle.mathematics.proofs.Walks.{walk_long}
+use Rattle.mathematics.proofs.KeptLaws.{Keeps, kept_same, kept_all}
 use Rattle.liberation.specs.Sets.{place, disk_at, row_set, diagonal_set, ordinary, has_extra, extra_disk, extra_row, extra_of, set_of, surviving_in}
-use Rattle.liberation.proofs.SetLaws.{disk_place, in_row, in_ordinary, place_below, set_below, surviving_keeps}
+use Rattle.liberation.proofs.SetLaws.{disk_place, in_row, in_ordinary, surviving_keeps}
 use Rattle.liberation.proofs.PlaceLaws.{disk_below}
-use Rattle.liberation.specs.Stripes.Stripes.{stripe_long}
-use Rattle.liberation.proofs.Stripes.StripeCellLaws.{cell_fits}
-use Rattle.xor.specs.Reach.{Reached}
-use Rattle.stripe_cells.specs.Offsets.{scaled, cells_from, Pushed}
-use Rattle.stripe_cells.proofs.OffsetLaws.{length_scaled, cells_reached}
-use Rattle.stripe_cells.proofs.KeptLaws.{surviving_twice, cell_walk}
-use Rattle.stripe_cells.specs.OrdinaryCells.{survivors, ordinary_of, parity_disk}
-use Rattle.stripe_cells.proofs.OrdinaryLists.{survivors_keep, survivors_append, ordinary_split, both_pushed}
+use Rattle.stripe_cells.proofs.KeptLaws.{surviving_twice}
+use Rattle.stripe_cells.specs.OrdinaryCells.{survivors, ordinary_of}
+use Rattle.stripe_cells.proofs.OrdinaryLists.{survivors_keep}
 use Rattle.stripe_cells.specs.SetCells.{extra_in}
 
 pub survivors_none : (p x y : ℕ) → survivors p x y [] ≡ []
@@ -111,31 +104,3 @@ module _ (p k kind i : ℕ) where
         go : (b : Bool) → is_in (place p r c) (pick b (row_set p k i) (ordinary p k i)) ≡ true → r ≡ pick b i (pick (ltb c k) ((i + c) % p) i)
         go true e = eqb-true r i (and_l (eqb r i) (leb c k) (sym (in_row p k i r c h numbered) ∙ e))
         go false e = ⊎_elim on_data on_parity (or_cases (ltb c k && eqb r ((i + c) % p)) (eqb c (suc k) && eqb r i) (sym (in_ordinary p k i r c h numbered) ∙ e))
-
-module _ (p k s kind i : ℕ) where
-  -- so many ordinary cells at most
-  pub ordinary_most : {a b : List ℕ} {r : ℕ} (x y : ℕ) → Pushed a b 0 r (scaled s (survivors p x y (ordinary_of p k kind i))) → r ≤ k + 1
-  ordinary_most x y u =
-      let e : length (ordinary_of p k kind i) ≡ k + 1 = ap length (ordinary_split p k kind i) ∙ length-append (cells_from kind k p i 0) (place p i (parity_disk k kind) ∷ []) ∙ ap (λ (n : ℕ). n + 1) (walk_long (cell_walk kind p i) k 0) in
-      omega (arith, u.count, length_scaled s (survivors p x y (ordinary_of p k kind i)), kept_short (survivors_keep p x y) (ordinary_of p k kind i))
-
-  -- the set from its ordinary cells and the extra cell
-  pub set_pushed : {a b c : List ℕ} {n r : ℕ} (x y : ℕ) → Pushed a b 0 n (scaled s (survivors p x y (ordinary_of p k kind i))) → Pushed b c n r (scaled s (survivors p x y (extra_in p k kind i))) → Pushed a c 0 r (scaled s (survivors p x y (set_of p k kind i)))
-  set_pushed x y u v = both_pushed s (survivors p x y (ordinary_of p k kind i)) (survivors p x y (extra_in p k kind i)) (ap (survivors p x y) (set_split p k kind i) ∙ survivors_append p x y (ordinary_of p k kind i) (extra_in p k kind i)) u v
-
--- offsets of the cells xs, in a list of 33 numbers
-module _ (s r n : ℕ) (old at xs t : List ℕ) (room : length at ≡ 33) (pushed : Pushed old at 0 r (scaled s xs)) (below : all_below n xs ≡ true) (long : length t ≡ n * s) where
-  pub reached : Reached s (length t) (take r at)
-  reached = subst (Reached s (length t)) (sym pushed.list) (cells_reached s n (length t) xs below (omega arith) (omega (arith, pushed.count, pushed.fits, length_scaled s xs)))
-
--- the survivors of a set are in the stripe
-module _ (p k s kind i x y n : ℕ) (old at t : List ℕ) (numbered : i < p) (room : length at ≡ 33) (long : length t ≡ stripe_long p k s) (pushed : Pushed old at 0 n (scaled s (survivors p x y (set_of p k kind i)))) where
-  pub survivors_below : all_below (p * (k + 2)) (survivors p x y (set_of p k kind i)) ≡ true
-  survivors_below = kept_below (survivors_keep p x y) (p * (k + 2)) (set_of p k kind i) (set_below p k kind i numbered)
-
-  -- the stripe has a cell
-  pub size_fits : s ≤ length t
-  size_fits = let l : 0 < k + 2 = omega arith in omega (arith, cell_fits (p * (k + 2)) s (place p i 0) (place_below p (k + 2) i 0 numbered l))
-
-  pub survivors_reached : Reached s (length t) (take n at)
-  survivors_reached = reached s n (p * (k + 2)) old at (survivors p x y (set_of p k kind i)) t room pushed survivors_below (long ∙ omega arith)

@@ -6,4 +6,5 @@ pub mod Listed
 pub mod OrdinaryCells
 pub mod Offsets
 pub mod Gathered
+pub mod OddCells
 pub mod SetCells

@@ -1,8 +1,7 @@
 -- The ordinary cells of a set, whose offsets are pushed into a list, and what the functions that
 -- push a set ask.
-use Rattle.std.specs.Prelude.{◌≡◌, List, ℕ, suc, ◌+◌, ◌≤◌, ◌<◌, eqb}
+use Rattle.std.specs.Prelude.{List, ℕ, suc, eqb}
 use Rattle.mathematics.specs.Choice.{pick}
-use Rattle.liberation.specs.Limits.{InArray, largest_cell}
 use Rattle.liberation.specs.Sets.{row_set, ordinary, surviving_in}
 
 -- the cells on neither of the disks x and y
@@ -15,13 +14,3 @@ ordinary_of p k kind i = pick (eqb kind 0) (row_set p k i) (ordinary p k i)
 
 abbrev pub parity_disk : ℕ → ℕ → ℕ
 parity_disk k kind = pick (eqb kind 0) k (suc k)
-
--- set i of p rows and k data disks, with cells of s bytes, is to be pushed into a list of `long`
--- numbers without its cells on disks x and y
-pub record Listing (p k s i x y long : ℕ) : Type 0 where
-  pub array : InArray p k
-  pub numbered : i < p
-  pub small : s ≤ largest_cell
-  pub ordered : x ≤ y
-  pub last : y ≤ p + 2
-  pub room : long ≡ 33

@@ -1,99 +1,75 @@
-// The cells of a lent stripe: the byte offsets of a parity set's cells, and one cell solved by its
-// set.
+// The cells of a stripe: the byte offsets of a parity set's cells, and one cell solved by its set.
 #![tactic(auto)]
 
-mod in_set;
+mod disk_cells;
+mod lost_disks;
 mod odd_cells;
 mod odd_marks;
 mod offsets;
-mod ordinary;
+mod surviving;
 
-ghost use Rattle.std.specs.Prelude.{◌≡◌, ◌+◌, ◌≤◌, ◌<◌, length};
-ghost use Rattle.liberation.specs.Sets.{place, set_of};
+ghost use Rattle.std.specs.Prelude.{◌≡◌, ◌+◌, ◌≤◌};
+ghost use Rattle.liberation.specs.Sets.{place};
 ghost use Rattle.liberation.specs.Plans.{all_of};
 ghost use Rattle.liberation.specs.Stripes.Stripes.{solved, followed};
-ghost use Rattle.liberation.specs.Stripes.StripeLimits.{Sized};
-ghost use Rattle.stripe_cells.specs.Cells.{Ordinary};
+ghost use Rattle.refusals.specs.StripeOf.{IsStripeOf};
+ghost use Rattle.parity_sets.specs.ParitySets.{cells_of};
+ghost use Rattle.stripe_cells.specs.Cells.{IsOrdinary};
 
-pub use in_set::surviving;
+pub use lost_disks::LostDisks;
 pub use odd_cells::gather_odd;
 pub use odd_marks::toggle_all;
-pub use offsets::{no_offsets, push, push_diagonal, push_row};
-pub use ordinary::least;
-use parity_sets::{DIAGONAL_SET, ROW_SET};
+pub use offsets::Offsets;
+use parity_sets::{MAX_COLUMNS, ParitySet};
+use refusals::Geometry;
 
-// A set's ordinary cell, of this disk and row, becomes the XOR of the other cells of the set, by a
-// lent list. The lent list is then left free.
-pub fn solve_by(
-    width: usize,
-    disks: usize,
-    size: usize,
-    kind: usize,
-    number: usize,
-    disk: usize,
-    row: usize,
-    stripe: &mut [u8],
-    at: &mut [usize],
-)
-    requires sized { Sized width disks size stripe.old × Ordinary width disks kind number disk row }
-    requires at_len { length at.old ≡ 33 }
-    ensures { stripe.new ≡ solved size (place width row disk) (set_of width disks kind number) stripe.old }
-{
-    let n = in_set::others(width, disks, size, kind, number, disk, at);
-    let to = (disk * width + row) * size;
-    xor_in_place::gather_lists(stripe, to, size, &mut at[..n]);
-}
-
-// The same by a list of its own.
+// A set's ordinary cell, of this disk and row, becomes the XOR of the other cells of the set. What
+// the list then holds is unspecified.
 pub fn solve(
-    width: usize,
-    disks: usize,
-    size: usize,
-    kind: usize,
-    number: usize,
+    geometry: Geometry,
+    set: ParitySet,
     disk: usize,
     row: usize,
     stripe: &mut [u8],
+    list: &mut Offsets<MAX_COLUMNS>,
 )
-    requires { Sized width disks size stripe.old × Ordinary width disks kind number disk row }
-    ensures { stripe.new ≡ solved size (place width row disk) (set_of width disks kind number) stripe.old }
+    requires stripe_len { IsStripeOf geometry stripe.old }
+    requires ordinary { IsOrdinary geometry.array set disk row }
+    ensures { stripe.new ≡ solved geometry.cell_size (place geometry.array.width row disk) (cells_of geometry.array.width geometry.array.disks set) stripe.old }
 {
-    let mut at = offsets::no_offsets();
-    solve_by(width, disks, size, kind, number, disk, row, stripe, &mut at);
+    list.clear();
+    list.push_others(geometry, set, disk);
+    let to = (disk * geometry.array.width + row) * geometry.cell_size;
+    list.gather(stripe, to, geometry.cell_size);
 }
 
 // All cells of a data disk or of P by the row sets, as one run of bytes: the column becomes the XOR
 // of the other columns.
-pub fn solve_rows(width: usize, disks: usize, size: usize, disk: usize, stripe: &mut [u8])
-    requires { Sized width disks size stripe.old × (disk ≤ disks) }
-    ensures { stripe.new ≡ followed width disks size disk (all_of width 0 0) stripe.old }
+pub fn solve_rows(geometry: Geometry, disk: usize, stripe: &mut [u8])
+    requires stripe_len { IsStripeOf geometry stripe.old }
+    requires disk_bound { disk ≤ geometry.array.disks }
+    ensures { stripe.new ≡ followed geometry.array.width geometry.array.disks geometry.cell_size disk (all_of geometry.array.width 0 0) stripe.old }
 {
-    let mut at = offsets::no_offsets();
-    let n = offsets::push(width, size, ROW_SET, 0, 0, disk, &mut at, 0);
-    let m = offsets::push_row(width, size, 0, disk + 1, disks + 1, &mut at, n);
-    let column = width * size;
-    xor_in_place::gather_lists(stripe, disk * column, column, &mut at[..m]);
+    let mut list: Offsets<MAX_COLUMNS> = Offsets::new();
+    list.push_on(geometry, ParitySet::Row(0), 0..disk);
+    list.push_on(
+        geometry,
+        ParitySet::Row(0),
+        disk + 1..geometry.array.disks + 1,
+    );
+    let column = geometry.column_bytes();
+    list.gather(stripe, disk * column, column);
 }
 
 // All cells of Q, each by its diagonal set.
-pub fn solve_diagonals(width: usize, disks: usize, size: usize, stripe: &mut [u8])
-    requires { Sized width disks size stripe.old }
-    ensures { stripe.new ≡ followed width disks size (disks + 1) (all_of width 1 0) stripe.old }
+pub fn solve_diagonals(geometry: Geometry, stripe: &mut [u8])
+    requires { IsStripeOf geometry stripe.old }
+    ensures { stripe.new ≡ followed geometry.array.width geometry.array.disks geometry.cell_size (geometry.array.disks + 1) (all_of geometry.array.width 1 0) stripe.old }
 {
-    let mut at = offsets::no_offsets();
-    let mut i = 0;
-    while i < width {
-        solve_by(
-            width,
-            disks,
-            size,
-            DIAGONAL_SET,
-            i,
-            disks + 1,
-            i,
-            stripe,
-            &mut at,
-        );
-        i += 1;
+    let q = geometry.array.disks + 1;
+    let mut list = Offsets::new();
+    for number in 0..geometry.array.width {
+        let set = ParitySet::Diagonal(number);
+        solve(geometry, set, q, number, stripe, &mut list);
     }
 }

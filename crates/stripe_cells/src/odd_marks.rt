@@ -3,48 +3,39 @@
 ghost use Rattle.std.specs.Prelude.{◌≡◌, ℕ, ◌<◌, ◌≤◌, length, get_or};
 ghost use Rattle.liberation.specs.Limits.{largest_cell};
 ghost use Rattle.stripe_cells.specs.Toggled.{toggled_all};
-ghost use Rattle.stripe_cells.specs.Listed.{OddPushed};
+ghost use Rattle.stripe_cells.specs.OddCells.{OddPushed};
+
+use super::Offsets;
 
 // Toggles the marks of the places of a list.
 pub fn toggle_all(marks: &mut [u8], places: &[usize])
-    requires { (length places.now ≤ 100) × ((i : ℕ) → i < length places.now → get_or places.now i 0 < length marks.old) }
+    requires { (i : ℕ) → i < length places.now → get_or places.now i 0 < length marks.old }
     ensures { marks.new ≡ toggled_all places.now marks.old }
 {
-    let n = places.len();
-    let mut i = 0;
-    while i < n {
-        let x = places[i];
-        marks[x] = marks[x] ^ 1;
-        i += 1;
+    for &place in places {
+        marks[place] ^= 1;
     }
 }
 
-// How many numbers of the list are in use, and the first place that was not looked at.
-#[derive(Clone, Copy)]
-pub struct Listed {
-    pub count: usize,
-    pub next: usize,
-}
-
-// The offsets of the odd places from `from` on, after the first `count` numbers, as far as the list
-// has room.
-pub fn push_odd(marks: &[u8], size: usize, from: usize, at: &mut [usize], count: usize) -> Listed
-    requires { (size ≤ largest_cell) × (length marks.now ≤ 1023) × (from ≤ length marks.now) × (count ≤ length at.old) × (length at.old ≤ 100) }
-    ensures { OddPushed size marks.now at.old at.new from count result }
+// Appends the offsets of the odd places from `from` on, until the list has `most` offsets; the first
+// place that was not looked at.
+pub fn push_odd<const N: usize>(
+    marks: &[u8],
+    size: usize,
+    from: usize,
+    most: usize,
+    list: &mut Offsets<N>,
+) -> usize
+    requires { (size ≤ largest_cell) × (length marks.now ≤ 1023) × (from ≤ length marks.now) × (length list.old ≤ most) × (most ≤ N) }
+    ensures { OddPushed size marks.now list.old list.new from most result }
 {
-    let all = marks.len();
-    let room = at.len();
-    let mut n = count;
-    let mut x = from;
-    while x < all {
-        if n == room {
-            return Listed { count: n, next: x };
+    for place in from..marks.len() {
+        if list.len() == most {
+            return place;
         }
-        if marks[x] & 1 == 1 {
-            at[n] = x * size;
-            n += 1;
+        if marks[place] & 1 == 1 {
+            list.push(place * size);
         }
-        x += 1;
     }
-    Listed { count: n, next: x }
+    marks.len()
 }

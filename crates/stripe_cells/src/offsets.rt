@@ -1,88 +1,95 @@
-// Lists of offsets: the cells of a set on some data disks, pushed into a lent list.
-ghost use Rattle.std.specs.Prelude.{◌≡◌, ◌-◌, ◌≤◌, length};
-ghost use Rattle.liberation.specs.Sets.{row_from, diagonal_from};
-ghost use Rattle.stripe_cells.specs.Offsets.{scaled, cells_from, Room, Pushed};
+// A list of offsets, each the bytes of a stripe before a cell, in memory of a fixed size.
+ghost use Rattle.std.specs.Prelude.{◌≡◌, ℕ, ◌+◌, ◌-◌, ◌≤◌, ◌<◌, List, [], ◌∷◌, ◌++◌, length, take};
+ghost use Rattle.xor.specs.Parts.{with_part, xor_offsets};
+ghost use Rattle.xor_in_place.specs.Beside.{Apart};
+ghost use Rattle.parity_sets.specs.ParitySets.{kind_of, number_of};
+ghost use Rattle.stripe_cells.specs.Offsets.{scaled, cells_from};
 
-use parity_sets::{MAX_COLUMNS, ROW_SET};
+use super::disk_cells;
+use parity_sets::ParitySet;
+use refusals::Geometry;
+use std::marker::Model;
+use std::ops::Range;
 
-// A list with room for the cells of any set.
-pub fn no_offsets() -> [usize; MAX_COLUMNS]
-    ensures { length result ≡ 33 }
-{
-    [0; MAX_COLUMNS]
+// At most N offsets.
+#[derive(Drop)]
+pub struct Offsets<const N: usize> {
+    items: [usize; N],
+    count: usize,
 }
 
-// The offsets of the cells of row `number` on disks lo to hi - 1, after the first `count` numbers;
-// the new count. From disk to disk the offset goes up by a column.
-pub fn push_row(
-    width: usize,
-    size: usize,
-    number: usize,
-    lo: usize,
-    hi: usize,
-    at: &mut [usize],
-    count: usize,
-) -> usize
-    requires { Room width size number lo hi count (length at.old) }
-    ensures { Pushed at.old at.new count result (scaled size (row_from (hi - lo) width number lo)) }
-{
-    let column = width * size;
-    let mut offset = lo * column + number * size;
-    let mut n = count;
-    let mut disk = lo;
-    while disk < hi {
-        at[n] = offset;
-        n += 1;
-        offset += column;
-        disk += 1;
-    }
-    n
+// Clauses see the offsets.
+impl<const N: usize> Model for Offsets<N> {
+    ghost Value = { List ℕ };
+
+    ghost view = { λ o. take o.count o.items };
+
+    ghost invariant = { λ o. o.count ≤ N };
 }
 
-// The same of diagonal `number`, on data disks. From disk to disk the row goes up by one and round.
-pub fn push_diagonal(
-    width: usize,
-    size: usize,
-    number: usize,
-    lo: usize,
-    hi: usize,
-    at: &mut [usize],
-    count: usize,
-) -> usize
-    requires { Room width size number lo hi count (length at.old) × (hi ≤ width) }
-    ensures { Pushed at.old at.new count result (scaled size (diagonal_from (hi - lo) width number lo)) }
-{
-    let column = width * size;
-    let mut top = lo * column;
-    let mut row = parity_sets::row_on(width, number, lo);
-    let mut n = count;
-    let mut disk = lo;
-    while disk < hi {
-        at[n] = top + row * size;
-        n += 1;
-        top += column;
-        row = parity_sets::next_row(width, row);
-        disk += 1;
+impl<const N: usize> Offsets<N> {
+    // An empty list.
+    pub fn new() -> Offsets<N>
+        ensures { result ≡ [] }
+    {
+        Offsets {
+            items: [0; N],
+            count: 0,
+        }
     }
-    n
-}
 
-// The same of a row or a diagonal.
-pub fn push(
-    width: usize,
-    size: usize,
-    kind: usize,
-    number: usize,
-    lo: usize,
-    hi: usize,
-    at: &mut [usize],
-    count: usize,
-) -> usize
-    requires { Room width size number lo hi count (length at.old) × (hi ≤ width) }
-    ensures { Pushed at.old at.new count result (scaled size (cells_from kind (hi - lo) width number lo)) }
-{
-    if kind == ROW_SET {
-        return push_row(width, size, number, lo, hi, at, count);
+    // Empties the list. Its memory is not written.
+    pub fn clear(&mut self)
+        ensures { self.new ≡ [] }
+    {
+        self.count = 0;
     }
-    push_diagonal(width, size, number, lo, hi, at, count)
+
+    // How many offsets it has.
+    pub fn len(&self) -> usize
+        ensures { (result ≡ length self.now) × (result ≤ N) }
+    {
+        self.count
+    }
+
+    // The offsets.
+    pub fn as_slice(&self) -> &[usize]
+        ensures { (result.now ≡ self.now) × (length self.now ≤ N) }
+    {
+        &self.items[..self.count]
+    }
+
+    // Appends an offset.
+    pub fn push(&mut self, offset: usize)
+        requires { length self.old < N }
+        ensures { self.new ≡ self.old ++ offset ∷ [] }
+    {
+        self.items[self.count] = offset;
+        self.count += 1;
+    }
+
+    // Appends those of a set's cells on these disks: data disks, and P for a row set.
+    pub fn push_on(&mut self, geometry: Geometry, set: ParitySet, disks: Range<usize>)
+        requires numbered { number_of set < geometry.array.width }
+        requires disks { disks.end ≤ geometry.array.width + 1 }
+        requires room { length self.old + (disks.end - disks.start) ≤ N }
+        ensures { self.new ≡ self.old ++ scaled geometry.cell_size (cells_from (kind_of set) (disks.end - disks.start) geometry.array.width (number_of set) disks.start) }
+    {
+        if disks.end <= disks.start {
+            return;
+        }
+        let end = self.count + (disks.end - disks.start);
+        let slots = &mut self.items[..];
+        disk_cells::write_cells(geometry, set, disks.start, &mut slots[self.count..end]);
+        self.count = end;
+    }
+
+    // The `size` bytes from `to` on become the XOR of the parts of as many bytes at the offsets, which
+    // lie apart from them. What the list then holds is unspecified.
+    pub fn gather(&mut self, stripe: &mut [u8], to: usize, size: usize)
+        requires { Apart to size (length stripe.old) self.old }
+        ensures { stripe.new ≡ with_part size to (xor_offsets size stripe.old self.old) stripe.old }
+    {
+        xor_in_place::gather_lists(stripe, to, size, &mut self.items[..self.count]);
+    }
 }

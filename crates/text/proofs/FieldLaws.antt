@@ -7,7 +7,6 @@ use Prim.Native.Nat.{ℕ, ◌+◌, ◌/◌, ◌%◌, ◌≤◌}
 use native.Mathlib.Omega.{arith}
 use lib.Dec.{ltb}
 use lib.ListN.{length, length-append}
-use borrow.Author.Tests.{eq-eqb, ne_eqb}
 use Rattle.mathematics.specs.Choice.{pick}
 use Rattle.text.specs.Digits.{digits_of}
 use Rattle.text.specs.Fields.{letter_of, step_fields}
@@ -23,13 +22,6 @@ digits_most n = go (ltb n 10)
 -- a number and the byte after it
 pub field_most : (n stop : ℕ) → length (digits_of n ++ (stop ∷ [])) ≤ 3
 field_most n stop = omega (arith, length-append (digits_of n) (stop ∷ []), digits_most n)
-
--- R or D
-pub letter_row : (kind : ℕ) → kind ≡ 0 → 82 ∷ (44 ∷ []) ≡ letter_of kind ∷ (44 ∷ [])
-letter_row kind e = sym (ap (λ (b : Bool). pick b 82 68 ∷ (44 ∷ [])) (eq-eqb kind 0 e))
-
-pub letter_diagonal : (kind : ℕ) → (kind ≡ 0 → ⊥) → 68 ∷ (44 ∷ []) ≡ letter_of kind ∷ (44 ∷ [])
-letter_diagonal kind n = sym (ap (λ (b : Bool). pick b 82 68 ∷ (44 ∷ [])) (ne_eqb kind 0 n))
 
 -- the three fields of a step
 pub step_fields_lem : (row kind number stop : ℕ) → ((digits_of row ++ (44 ∷ [])) ++ (letter_of kind ∷ (44 ∷ []))) ++ (digits_of number ++ (stop ∷ [])) ≡ step_fields row kind number stop

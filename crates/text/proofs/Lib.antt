@@ -1,5 +1,5 @@
--- Laws of written text.
-pub mod WriteLaws
+-- Laws of digits, of fields, of the buffer and of comparing.
 pub mod DigitLaws
 pub mod FieldLaws
-pub mod SameLaws
+pub mod CompareLaws
+mod BufferLaws

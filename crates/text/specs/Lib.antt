@@ -1,4 +1,3 @@
--- Text in a lent slice.
-pub mod Writing
+-- Numbers and the fields of a step as text.
 pub mod Digits
 pub mod Fields

@@ -2,7 +2,7 @@
 -- give what all rows give to the stripe as it was.
 use mathlib.Core.Path.{◌≡◌, refl, ap, ap₂, ◌∙◌}
 use mathlib.Core.List.{List, ◌∷◌}
-use Prim.Native.Nat.{ℕ, zero, suc, ◌+◌, ◌-◌, ◌%◌, ◌≤◌, ◌<◌}
+use Prim.Native.Nat.{ℕ, zero, suc, ◌+◌, ◌≤◌}
 use native.Mathlib.Omega.{arith}
 use Rattle.liberation.specs.Sets.{place}
 use Rattle.liberation.specs.Plans.{diagonal_of}
@@ -10,22 +10,20 @@ use Rattle.liberation.specs.Stripes.Steps.{cell_step}
 use Rattle.liberation.specs.TwoDisks.Pairs.{next_row}
 use Rattle.liberation.specs.TwoDisks.PairSteps.{walk_steps}
 use Rattle.liberation.specs.TwoDisksBySums.Sums.{sum_added, added_all}
-use Rattle.parity_sets.proofs.NumberLaws.{next_is}
 
 module _ (p k s x y : ℕ) where
   -- the diagonal set of row r and the row set of the next row were added
   pub adds_turn :
-      (n r i j : ℕ) (t u v : List ℕ) → i ≡ diagonal_of p x r → j ≡ (i + y) % p → 0 < n
+      (n m r i j : ℕ) (t u v : List ℕ) → n ≡ m + 1 → i ≡ diagonal_of p x r → j ≡ next_row p x y r
       → u ≡ sum_added p k s x y (cell_step (place p j y) 1 i) t
       → v ≡ sum_added p k s x y (cell_step (place p j x) 0 j) u
-      → added_all p k s x y (walk_steps (n - 1) p x y j) v ≡ added_all p k s x y (walk_steps n p x y r) t
+      → added_all p k s x y (walk_steps m p x y j) v ≡ added_all p k s x y (walk_steps n p x y r) t
   unfolding walk_steps added_all
-  adds_turn zero r i j t u v ei ej h e q = absurd (omega arith)
-  adds_turn (suc n) r i j t u v ei ej h e q =
-      let m : suc n - 1 ≡ n = omega arith in
-      let f : j ≡ next_row p x y r = next_is p x y r i j ei ej in
-      ap₂ (λ (c : ℕ) (l : List ℕ). added_all p k s x y (walk_steps c p x y j) l) m (q ∙ ap (sum_added p k s x y (cell_step (place p j x) 0 j)) e)
-      ∙ ap₂ (λ (b d : ℕ). added_all p k s x y (walk_steps n p x y b) (sum_added p k s x y (cell_step (place p b x) 0 b) (sum_added p k s x y (cell_step (place p b y) 1 d) t))) f ei
+  adds_turn zero m r i j t u v h ei ej e q = absurd (omega arith)
+  adds_turn (suc n) m r i j t u v h ei ej e q =
+      let l : m ≡ n = omega arith in
+      ap₂ (λ (c : ℕ) (l : List ℕ). added_all p k s x y (walk_steps c p x y j) l) l (q ∙ ap (sum_added p k s x y (cell_step (place p j x) 0 j)) e)
+      ∙ ap₂ (λ (b d : ℕ). added_all p k s x y (walk_steps n p x y b) (sum_added p k s x y (cell_step (place p b x) 0 b) (sum_added p k s x y (cell_step (place p b y) 1 d) t))) ej ei
 
   pub adds_last : (n r : ℕ) (t : List ℕ) → n ≤ 0 → added_all p k s x y (walk_steps n p x y r) t ≡ t
   unfolding walk_steps added_all

@@ -2,14 +2,16 @@
 use mathlib.Core.Path.{◌≡◌, sym, ap, subst, ◌∙◌}
 use mathlib.Core.Bool.{false}
 use mathlib.Core.Logic.{⊎_elim}
-use mathlib.Core.List.{List}
+use mathlib.Core.List.{List, []}
 use Prim.Native.Nat.{ℕ, ◌+◌, ◌*◌, ◌≤◌, ◌<◌}
 use native.Mathlib.Omega.{arith}
-use lib.ListN.{length, get_or, replicate, length-replicate, get_or-replicate}
+use lib.ListN.{length, get_or, take, replicate, length-replicate, get_or-replicate}
 use Rattle.mathematics.specs.Lists.{is_in}
 use Rattle.mathematics.proofs.Flags.{clash, flag}
 use Rattle.mathematics.proofs.MemberLaws.{at_in}
-use Rattle.liberation.specs.Plans.{extra_row_on}
+use Rattle.liberation.specs.Sets.{place}
+use Rattle.liberation.specs.Plans.{extra_row_on, marks_from}
+use Rattle.liberation.proofs.MarkLists.{take_marks, no_cells}
 use Rattle.liberation.proofs.SetLaws.{place_below}
 use Rattle.liberation.specs.Stripes.Stripes.{cell_at, with_cell}
 use Rattle.liberation.proofs.Stripes.StripeCellLaws.{cell_fits, cell_long}
@@ -26,8 +28,12 @@ use Rattle.stripe_cells.proofs.OddLaws.{toggled_long, odd_offsets_lem}
 use Rattle.stripe_cells.specs.OrdinaryCells.{survivors}
 use Rattle.liberation.specs.Stripes.StripeLimits.{Sized}
 use Rattle.two_disk_walk.proofs.NumberLaws.{extra_below}
-use Rattle.two_disk_walk.specs.WalkDisks.{Walked}
+use Rattle.two_disk_walk.proofs.LostDisks.{Walked}
 use Rattle.two_disk_walk.proofs.ToggleLaws.{toggled_other}
+
+-- no mark is set before the start's sets are toggled
+pub start_made : (p k x r m : ℕ) (all ms : List ℕ) → m ≡ p * (k + 2) → m ≤ 1023 → all ≡ marks_from 1023 0 [] → ms ≡ toggled_all (survivors p x 0 (start_sets p p k x 0 r)) (take m all) → ms ≡ toggled_all (survivors p x 0 (start_sets p p k x 0 r)) (replicate (p * (k + 2)) 0)
+start_made p k x r m all ms e few z made = made ∙ ap (toggled_all (survivors p x 0 (start_sets p p k x 0 r))) (ap (take m) z ∙ take_marks m 1023 0 [] few ∙ sym (no_cells m 0) ∙ ap (λ (n : ℕ). replicate n 0) e)
 
 -- x and disk 0 are walked
 module _ (p k x : ℕ) (g : Walked p k x 0) (disks : k ≤ p) where
@@ -42,10 +48,10 @@ module _ (p k x : ℕ) (g : Walked p k x 0) (disks : k ≤ p) where
   first_apart = ⊎_elim (λ m. clash (is_lost p x 0 (first_cell p x 0)) (lost_first p x 0 (extra_row_on p x) row_below) (start_survives p k x 0 (first_cell p x 0) row_below m).0) (λ m. m) (flag (is_in (first_cell p x 0) (start_cells p k x 0)))
 
   -- the marks of the start's sets were toggled, from no mark at all
-  module _ (s r : ℕ) (ms t : List ℕ) (z : Sized p k s t) (er : r ≡ extra_row_on p x) (made : ms ≡ toggled_all (survivors p x 0 (start_sets p p k x 0 r)) (replicate (p * (k + 2)) 0)) where
+  module _ (s r d : ℕ) (ms t : List ℕ) (z : Sized p k s t) (er : r ≡ extra_row_on p x) (ed : d ≡ place p r x) (made : ms ≡ toggled_all (survivors p x 0 (start_sets p p k x 0 r)) (replicate (p * (k + 2)) 0)) where
     -- the first cell's place, as the code counts it
-    first_place : x * p + r ≡ first_cell p x 0
-    first_place = ap (λ (i : ℕ). x * p + i) er
+    first_place : d ≡ first_cell p x 0
+    first_place = ed ∙ ap (λ (i : ℕ). x * p + i) er
 
     marked : ms ≡ toggled_all (start_cells p k x 0) (replicate (p * (k + 2)) 0)
     unfolding start_cells
@@ -54,7 +60,7 @@ module _ (p k x : ℕ) (g : Walked p k x 0) (disks : k ≤ p) where
     pub marks_long : length ms ≡ p * (k + 2)
     marks_long = ap length marked ∙ toggled_long (start_cells p k x 0) (replicate (p * (k + 2)) 0) ∙ length-replicate (p * (k + 2)) 0
 
-    pub start_marked : p * (k + 2) ≤ 1023 → MarkedStripe s (x * p + r) ms t
+    pub start_marked : p * (k + 2) ≤ 1023 → MarkedStripe s d ms t
     start_marked few =
         subst (λ (d : ℕ). MarkedStripe s d ms t) (sym first_place)
         (record {
@@ -69,7 +75,7 @@ module _ (p k x : ℕ) (g : Walked p k x 0) (disks : k ≤ p) where
         ap_le e = omega (arith, e, z.long)
 
     -- the odd cells gathered
-    pub start_done : (v : List ℕ) → v ≡ with_part s ((x * p + r) * s) (xor_offsets s t (scaled s (odd_from 0 ms))) t → v ≡ started p k s x 0 t
+    pub start_done : (v : List ℕ) → v ≡ with_part s (d * s) (xor_offsets s t (scaled s (odd_from 0 ms))) t → v ≡ started p k s x 0 t
     start_done v ev =
         ev
         ∙ ap (λ (d : ℕ). with_part s (d * s) (xor_offsets s t (scaled s (odd_from 0 ms))) t) first_place

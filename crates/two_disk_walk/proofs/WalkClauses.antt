@@ -7,7 +7,6 @@ use Rattle.liberation.specs.Sets.{place, row_set, diagonal_set}
 use Rattle.liberation.specs.Plans.{diagonal_of}
 use Rattle.liberation.specs.Stripes.Stripes.{solved}
 use Rattle.liberation.specs.TwoDisks.Pairs.{next_row, diagonal_walk, row_walk}
-use Rattle.parity_sets.proofs.NumberLaws.{next_is}
 use Rattle.liberation.proofs.TwoDisks.WalkRows.{row_after, after_by}
 
 module _ (p k s x y : ℕ) where
@@ -22,15 +21,14 @@ module _ (p k s x y : ℕ) where
   row_none (suc n) r t e = absurd (omega arith)
 
   -- a diagonal step made u of t, and the walk from there on v of u
-  pub diagonal_more : (n r i j : ℕ) (t u v : List ℕ) → i ≡ diagonal_of p x r → j ≡ (i + y) % p → (n ≡ 0 → ⊥) → u ≡ solved s (place p j y) (diagonal_set p k i) t → v ≡ row_walk (n - 1) p k s x y j u → v ≡ diagonal_walk n p k s x y r t
+  pub diagonal_more : (n r i j : ℕ) (t u v : List ℕ) → i ≡ diagonal_of p x r → j ≡ next_row p x y r → (n ≡ 0 → ⊥) → u ≡ solved s (place p j y) (diagonal_set p k i) t → v ≡ row_walk (n - 1) p k s x y j u → v ≡ diagonal_walk n p k s x y r t
   unfolding diagonal_walk
   diagonal_more zero r i j t u v ei ej h e q = absurd (h refl)
   diagonal_more (suc n) r i j t u v ei ej h e q =
       let m : suc n - 1 ≡ n = omega arith in
-      let f : j ≡ next_row p x y r = next_is p x y r i j ei ej in
       q
       ∙ ap₂ (λ (i : ℕ) (l : List ℕ). row_walk i p k s x y j l) m e
-      ∙ ap₂ (λ (b d : ℕ). row_walk n p k s x y b (solved s (place p b y) (diagonal_set p k d) t)) f ei
+      ∙ ap₂ (λ (b d : ℕ). row_walk n p k s x y b (solved s (place p b y) (diagonal_set p k d) t)) ej ei
 
   -- a row step
   pub row_more : (n r : ℕ) (t u v : List ℕ) → (n ≡ 0 → ⊥) → u ≡ solved s (place p r x) (row_set p k r) t → v ≡ diagonal_walk (n - 1) p k s x y r u → v ≡ row_walk n p k s x y r t

@@ -1,3 +1,2 @@
--- What the walk and its sums ask of two lost data disks.
-pub mod SumDisks
+-- How two lost data disks are walked.
 pub mod WalkDisks

@@ -1,16 +1,9 @@
 -- Two lost data disks x and y of an array with p rows and k data disks.
-use Rattle.std.specs.Prelude.{◌≡◌, List, ℕ, ◌%◌, ◌≤◌, ◌<◌, ltb}
+use Rattle.std.specs.Prelude.{List, ℕ, ltb}
 use Rattle.mathematics.specs.Choice.{pick}
 use Rattle.liberation.specs.TwoDisks.Pairs.{walked}
 use Rattle.liberation.specs.TwoDisksBySums.Sums.{sum_walked}
 
--- they are to be walked
-pub record Walked (p k x y : ℕ) : Type 0 where
-  pub odd : p % 2 ≡ 1
-  pub low : 1 ≤ x
-  pub high : x < k
-  pub other : y < k
-
--- and walked, from sums or to disk 0
+-- they are walked, from sums or to disk 0
 abbrev pub walked_by : ℕ → ℕ → ℕ → ℕ → ℕ → List ℕ → List ℕ
 walked_by p k s x y t = pick (ltb 0 y) (sum_walked p k s x y t) (walked p k s x 0 t)

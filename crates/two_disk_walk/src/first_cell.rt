@@ -2,65 +2,80 @@
 // Marks are toggled along all sets together, and the cells that occur an odd number of times are
 // gathered.
 ghost use Rattle.std.specs.Prelude.{◌≡◌, ◌+◌, ◌*◌, ◌<◌, length};
-ghost use Rattle.liberation.specs.Limits.{InArray};
-ghost use Rattle.liberation.specs.Sets.{set_of};
 ghost use Rattle.liberation.specs.TwoDisks.Pairs.{start_sets, started};
+ghost use Rattle.parity_sets.specs.ParitySets.{number_of, cells_of};
+ghost use Rattle.refusals.specs.StripeOf.{IsStripeOf};
 ghost use Rattle.stripe_cells.specs.Toggled.{toggled_all};
 ghost use Rattle.stripe_cells.specs.OrdinaryCells.{survivors};
-ghost use Rattle.liberation.specs.Stripes.StripeLimits.{Sized};
-ghost use Rattle.two_disk_walk.specs.WalkDisks.{Walked};
 
+use super::cell::Cell;
+use super::lost_pair::LostPair;
 use super::steps;
-use parity_sets::{DIAGONAL_SET, ROW_SET};
+use parity_sets::{MAX_COLUMNS, ParitySet};
+use refusals::{Array, Geometry};
+use stripe_cells::{LostDisks, Offsets};
 
 // The marks of a set's cells on neither disk x nor disk 0 are toggled. Cells of one byte have their
-// places as offsets. The lent list is then left free.
+// places as offsets. What the list then holds is unspecified.
 fn toggle_set(
-    width: usize,
-    disks: usize,
+    array: Array,
     x: usize,
-    kind: usize,
-    number: usize,
+    set: ParitySet,
     marks: &mut [u8],
-    at: &mut [usize],
+    list: &mut Offsets<MAX_COLUMNS>,
 )
-    requires { InArray width disks × (number < width) × (x < disks) × (length marks.old ≡ width * (disks + 2)) × (length at.old ≡ 33) }
-    ensures { marks.new ≡ toggled_all (survivors width x 0 (set_of width disks kind number)) marks.old }
+    requires { (number_of set < array.width) × (x < array.disks) × (length marks.old ≡ array.width * (array.disks + 2)) }
+    ensures { marks.new ≡ toggled_all (survivors array.width x 0 (cells_of array.width array.disks set)) marks.old }
 {
-    let n = stripe_cells::surviving(width, disks, 1, kind, number, 0, x, at);
-    stripe_cells::toggle_all(marks, &at[..n]);
+    let places = Geometry {
+        array,
+        cell_size: 1,
+    };
+    list.clear();
+    list.push_surviving(places, set, LostDisks::two(x, 0));
+    stripe_cells::toggle_all(marks, list.as_slice());
 }
 
-// The marks of the surviving cells of the row set and the diagonal set of each row, from this row
-// on, are toggled. The diagonal through disk x's cell of a row has the number of the next row,
-// since that is the row of its cell on disk 0. The lent list is then left free.
-fn toggle_sets(width: usize, disks: usize, x: usize, row: usize, marks: &mut [u8], at: &mut [usize])
-    requires { InArray width disks × (row < width) × (x < disks) × (length marks.old ≡ width * (disks + 2)) × (length at.old ≡ 33) }
-    ensures { marks.new ≡ toggled_all (survivors width x 0 (start_sets width width disks x 0 row)) marks.old }
+// The marks of the surviving cells of the row set and the diagonal set of each row, from `first` on,
+// are toggled. The diagonal through disk x's cell of a row has the number of the next row, since
+// that is the row of its cell on disk 0. What the list then holds is unspecified.
+fn toggle_sets(
+    array: Array,
+    x: usize,
+    first: usize,
+    marks: &mut [u8],
+    list: &mut Offsets<MAX_COLUMNS>,
+)
+    requires { (first < array.width) × (x < array.disks) × (length marks.old ≡ array.width * (array.disks + 2)) }
+    ensures { marks.new ≡ toggled_all (survivors array.width x 0 (start_sets array.width array.width array.disks x 0 first)) marks.old }
 {
-    let mut left = width;
-    let mut on = row;
-    while 0 < left {
-        toggle_set(width, disks, x, ROW_SET, on, marks, at);
-        on = parity_sets::diagonal_of(width, x, on);
-        toggle_set(width, disks, x, DIAGONAL_SET, on, marks, at);
-        left -= 1;
+    let mut row = first;
+    for _ in 0..array.width {
+        toggle_set(array, x, ParitySet::Row(row), marks, list);
+        row = parity_sets::diagonal_of(array, x, row);
+        toggle_set(array, x, ParitySet::Diagonal(row), marks, list);
     }
 }
 
-// The first cell of the walk to disk 0: the XOR of the surviving cells of all sets together. A cell
-// that occurs an even number of times in them is left out.
-pub fn start(width: usize, disks: usize, size: usize, x: usize, stripe: &mut [u8])
-    requires sized { Sized width disks size stripe.old }
-    requires walked { Walked width disks x 0 }
-    ensures { stripe.new ≡ started width disks size x 0 stripe.old }
-{
-    let row = steps::extra_row(width, x);
-    let cells = width * (disks + 2);
-    let mut marks = parity_sets::no_marks();
-    let mut at = stripe_cells::no_offsets();
-    toggle_sets(width, disks, x, row, &mut marks[..cells], &mut at);
-    let to = x * width + row;
-    let most = xor::list_most(size);
-    stripe_cells::gather_odd(stripe, size, to, &marks[..cells], &mut at[..most]);
+impl LostPair {
+    // The first cell of the walk to disk 0: the XOR of the surviving cells of all sets together. A
+    // cell that occurs an even number of times in them is left out.
+    pub fn start(self, stripe: &mut [u8])
+        requires { IsStripeOf self.geometry stripe.old × (self.y ≡ 0) }
+        ensures { stripe.new ≡ started self.geometry.array.width self.geometry.array.disks self.geometry.cell_size self.x 0 stripe.old }
+    {
+        let Geometry {
+            array,
+            cell_size,
+            ..
+        } = self.geometry;
+        let row = steps::extra_row(array, self.x);
+        let disk = self.x;
+        let mut all = parity_sets::no_marks();
+        let marks = &mut all[..array.cells()];
+        let mut list = Offsets::new();
+        toggle_sets(array, self.x, row, marks, &mut list);
+        let to = Cell { row, disk }.place(array);
+        stripe_cells::gather_odd(stripe, cell_size, to, marks);
+    }
 }

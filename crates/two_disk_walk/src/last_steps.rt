@@ -5,66 +5,55 @@ ghost use Rattle.liberation.specs.Sets.{place};
 ghost use Rattle.liberation.specs.Stripes.Steps.{cell_step};
 ghost use Rattle.liberation.specs.TwoDisks.PairSteps.{walk_steps};
 ghost use Rattle.liberation.specs.TwoDisksBySums.Sums.{added_all};
-ghost use Rattle.two_disk_walk.specs.SumDisks.{Lost};
+ghost use Rattle.refusals.specs.StripeOf.{IsStripeOf};
 
-use super::lost_cells;
-use parity_sets::{DIAGONAL_SET, ROW_SET};
+use super::cell::Cell;
+use super::lost_pair::LostPair;
+use parity_sets::{MAX_COLUMNS, ParitySet};
+use stripe_cells::Offsets;
 
-// The diagonal set and the row set of each of `count` rows after this row, added into the cells
-// that they give. The lent list is then left free.
-fn add_sets(
-    count: usize,
-    width: usize,
-    disks: usize,
-    size: usize,
-    x: usize,
-    y: usize,
-    row: usize,
-    stripe: &mut [u8],
-    at: &mut [usize],
-)
-    requires { Lost width disks size x y stripe.old at.old × (row < width) }
-    ensures { stripe.new ≡ added_all width disks size x y (walk_steps count width x y row) stripe.old }
-{
-    let mut left = count;
-    let mut on = row;
-    while 0 < left {
-        let number = parity_sets::diagonal_of(width, x, on);
-        on = parity_sets::row_on(width, number, y);
-        lost_cells::add_set(
-            width,
-            disks,
-            size,
-            x,
-            y,
-            DIAGONAL_SET,
-            number,
-            y,
-            on,
-            stripe,
-            at,
-        );
-        lost_cells::add_set(width, disks, size, x, y, ROW_SET, on, x, on, stripe, at);
-        left -= 1;
+impl LostPair {
+    // The diagonal set and the row set of each of `count` rows after `first`, added into the cells
+    // that they give. What the list then holds is unspecified.
+    fn add_sets(
+        self,
+        count: usize,
+        first: usize,
+        stripe: &mut [u8],
+        list: &mut Offsets<MAX_COLUMNS>,
+    )
+        requires { IsStripeOf self.geometry stripe.old × (first < self.geometry.array.width) }
+        ensures { stripe.new ≡ added_all self.geometry.array.width self.geometry.array.disks self.geometry.cell_size self.x self.y (walk_steps count self.geometry.array.width self.x self.y first) stripe.old }
+    {
+        let Self { x, y, .. } = self;
+        let mut row = first;
+        for _ in 0..count {
+            let next = self.crossing(row);
+            row = next.row;
+            self.add_set(
+                ParitySet::Diagonal(next.number),
+                Cell { row, disk: y },
+                stripe,
+                list,
+            );
+            self.add_set(ParitySet::Row(row), Cell { row, disk: x }, stripe, list);
+        }
     }
-}
 
-// The walk's last steps: the row set of this row, then the sets of `count` rows after it. The lent
-// list is then left free.
-pub fn add_last(
-    count: usize,
-    width: usize,
-    disks: usize,
-    size: usize,
-    x: usize,
-    y: usize,
-    row: usize,
-    stripe: &mut [u8],
-    at: &mut [usize],
-)
-    requires { Lost width disks size x y stripe.old at.old × (row < width) }
-    ensures { stripe.new ≡ added_all width disks size x y (cell_step (place width row x) 0 row ∷ walk_steps count width x y row) stripe.old }
-{
-    lost_cells::add_set(width, disks, size, x, y, ROW_SET, row, x, row, stripe, at);
-    add_sets(count, width, disks, size, x, y, row, stripe, at);
+    // The walk's last steps: the row set of this row, then the sets of `count` rows after it. What
+    // the list then holds is unspecified.
+    pub fn add_last(
+        self,
+        count: usize,
+        row: usize,
+        stripe: &mut [u8],
+        list: &mut Offsets<MAX_COLUMNS>,
+    )
+        requires { IsStripeOf self.geometry stripe.old × (row < self.geometry.array.width) }
+        ensures { stripe.new ≡ added_all self.geometry.array.width self.geometry.array.disks self.geometry.cell_size self.x self.y (cell_step (place self.geometry.array.width row self.x) 0 row ∷ walk_steps count self.geometry.array.width self.x self.y row) stripe.old }
+    {
+        let disk = self.x;
+        self.add_set(ParitySet::Row(row), Cell { row, disk }, stripe, list);
+        self.add_sets(count, row, stripe, list);
+    }
 }

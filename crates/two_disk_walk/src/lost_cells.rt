@@ -1,62 +1,50 @@
 // Two lost data disks: a lost cell becomes the XOR of the lost cells of a set, of which it is one.
-ghost use Rattle.std.specs.Prelude.{◌≡◌, ◌≤◌, ◌<◌, length};
-ghost use Rattle.liberation.specs.Limits.{largest_cell};
-ghost use Rattle.liberation.specs.Sets.{place, set_of, lost_in};
+ghost use Rattle.std.specs.Prelude.{◌≡◌, ◌++◌, ◌≤◌, ◌<◌, length};
+ghost use Rattle.liberation.specs.Sets.{place, lost_in};
 ghost use Rattle.liberation.specs.Stripes.Steps.{cell_step};
 ghost use Rattle.liberation.specs.TwoDisksBySums.Sums.{placed, sum_added};
-ghost use Rattle.stripe_cells.specs.Offsets.{scaled, Pushed};
-ghost use Rattle.two_disk_walk.specs.SumDisks.{Lost};
+ghost use Rattle.parity_sets.specs.ParitySets.{kind_of, number_of, cells_of};
+ghost use Rattle.refusals.specs.StripeOf.{IsStripeOf};
+ghost use Rattle.stripe_cells.specs.Offsets.{scaled};
 
-use parity_sets::ROW_SET;
+use super::cell::Cell;
+use super::lost_pair::LostPair;
+use parity_sets::{MAX_COLUMNS, ParitySet};
+use refusals::Geometry;
+use stripe_cells::Offsets;
 
-// The offsets of a set's cells on a lost disk, after the first `count` numbers; the new count.
-fn push_lost(
-    width: usize,
-    disks: usize,
-    size: usize,
-    kind: usize,
-    number: usize,
-    disk: usize,
-    at: &mut [usize],
-    count: usize,
-) -> usize
-    requires { (width ≤ 31) × (disks ≤ width) × (size ≤ largest_cell) × (number < width) × (disk < disks) × (count ≤ 2) × (length at.old ≡ 33) }
-    ensures { Pushed at.old at.new count result (scaled size (placed width disk (lost_in width disk (set_of width disks kind number)))) }
+// Appends the offsets of a set's cells on a lost disk.
+fn push_lost(geometry: Geometry, set: ParitySet, disk: usize, list: &mut Offsets<MAX_COLUMNS>)
+    requires { (number_of set < geometry.array.width) × (disk < geometry.array.disks) × (length list.old ≤ 2) }
+    ensures { list.new ≡ list.old ++ scaled geometry.cell_size (placed geometry.array.width disk (lost_in geometry.array.width disk (cells_of geometry.array.width geometry.array.disks set))) }
 {
-    let n = stripe_cells::push(width, size, kind, number, disk, disk + 1, at, count);
-    if kind == ROW_SET {
-        return n;
+    list.push_on(geometry, set, disk..disk + 1);
+    let ParitySet::Diagonal(number) = set else {
+        return;
+    };
+    if number != 0 && parity_sets::extra_disk(geometry.array, number) == disk {
+        let row = geometry.array.width - 1 - number;
+        list.push(Cell { row, disk }.offset(geometry));
     }
-    if number == 0 {
-        return n;
-    }
-    if parity_sets::extra_disk(width, number) == disk {
-        at[n] = (disk * width + (width - 1 - number)) * size;
-        return n + 1;
-    }
-    n
 }
 
-// A lost cell becomes the XOR of the lost cells of a set, of which it is one. The lent list is then
-// left free.
-pub fn add_set(
-    width: usize,
-    disks: usize,
-    size: usize,
-    x: usize,
-    y: usize,
-    kind: usize,
-    number: usize,
-    disk: usize,
-    row: usize,
-    stripe: &mut [u8],
-    at: &mut [usize],
-)
-    requires { Lost width disks size x y stripe.old at.old × (number < width) × (row < width) × (disk < disks) }
-    ensures { stripe.new ≡ sum_added width disks size x y (cell_step (place width row disk) kind number) stripe.old }
-{
-    let n = push_lost(width, disks, size, kind, number, x, at, 0);
-    let m = push_lost(width, disks, size, kind, number, y, at, n);
-    let to = (disk * width + row) * size;
-    xor_in_place::gather_within(stripe, to, size, &at[..m]);
+impl LostPair {
+    // A lost cell becomes the XOR of the lost cells of a set, of which it is one. What the list
+    // then holds is unspecified.
+    pub fn add_set(
+        self,
+        set: ParitySet,
+        cell: Cell,
+        stripe: &mut [u8],
+        list: &mut Offsets<MAX_COLUMNS>,
+    )
+        requires { IsStripeOf self.geometry stripe.old × (number_of set < self.geometry.array.width) × (cell.row < self.geometry.array.width) × (cell.disk < self.geometry.array.disks) }
+        ensures { stripe.new ≡ sum_added self.geometry.array.width self.geometry.array.disks self.geometry.cell_size self.x self.y (cell_step (place self.geometry.array.width cell.row cell.disk) (kind_of set) (number_of set)) stripe.old }
+    {
+        list.clear();
+        push_lost(self.geometry, set, self.x, list);
+        push_lost(self.geometry, set, self.y, list);
+        let to = cell.offset(self.geometry);
+        xor_in_place::gather_within(stripe, to, self.geometry.cell_size, list.as_slice());
+    }
 }

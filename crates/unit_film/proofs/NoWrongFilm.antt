@@ -16,7 +16,7 @@ use Rattle.mathematics.specs.Choice.{pick}
 use Rattle.mathematics.proofs.AllLaws.{all_at}
 use Rattle.mathematics.proofs.Flags.{and_r}
 use Rattle.liberation.specs.Stripes.Stripes.{cell_at, stripe_long}
-use Rattle.refusals.specs.declared.Answer.{Answer}
+use Rattle.refusals.specs.declared.answer.Answer.{Answer}
 use Rattle.unit_sums.specs.Sums.{block_of, is_sealed, fits}
 use Rattle.unit_sums.specs.Collisions.{Collision}
 use Rattle.unit_film.specs.FilmOrder.{film_of}

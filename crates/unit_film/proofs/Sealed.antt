@@ -10,7 +10,7 @@ use lib.ListN.{length, take, drop}
 use Rattle.mathematics.specs.Choice.{pick}
 use Rattle.mathematics.proofs.AllLaws.{all_of_lem}
 use Rattle.mathematics.proofs.Flags.{and_i}
-use Rattle.refusals.specs.declared.Answer.{Answer}
+use Rattle.refusals.specs.declared.answer.Answer.{Answer}
 use Rattle.unit_sums.specs.Sums.{block_of, is_sealed, fits}
 use Rattle.unit_sums.proofs.BlockLaws.{block_sealed, own_fits}
 use Rattle.unit_film.specs.FilmOrder.{film_of}

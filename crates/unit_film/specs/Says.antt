@@ -3,7 +3,7 @@
 use Rattle.std.specs.Prelude.{◌≡◌, Bool, ◌&&◌, not, List, ℕ, ◌+◌, ◌-◌, ◌*◌, ◌/◌, ◌%◌, min, eqb, ltb, length, take, drop}
 use Rattle.mathematics.specs.Choice.{pick, when, first_of}
 use Rattle.mathematics.specs.Sums.{all_to}
-use Rattle.refusals.specs.declared.Answer.{Answer}
+use Rattle.refusals.specs.declared.answer.Answer.{Answer}
 use Rattle.refusals.specs.Answers.{Answers}
 use Rattle.unit_sums.specs.Sums.{is_sealed, fits}
 use Rattle.unit_sums.specs.Refusals.{unit_refusal}

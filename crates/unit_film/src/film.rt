@@ -1,84 +1,34 @@
 // The film of a unit, stripe by stripe: the pieces that a range of it lies in are compared, then
 // its bytes are copied, a cell after the other.
-ghost use Rattle.std.specs.Prelude.{◌≡◌, ◌+◌, ◌-◌, ◌*◌, ◌≤◌, ◌<◌, min, length, take, drop};
+ghost use Rattle.std.specs.Prelude.{◌≡◌, ◌+◌, ◌*◌, ◌≤◌, ◌<◌, length, take, drop};
 ghost use Rattle.xor.specs.Parts.{part, with_part};
-ghost use Rattle.unit_sums.specs.UnitLimits.{InUnit};
+ghost use Rattle.refusals.specs.Refused.{refused, answer_of};
 ghost use Rattle.unit_film.specs.FilmOrder.{in_order};
-ghost use Rattle.unit_film.specs.Says.{fit_around, is_film_proved, FilmBytesSays};
+ghost use Rattle.unit_film.specs.Says.{range_refusal, FilmBytesSays};
 
-use super::limits;
-use refusals::numbers::DOES_NOT_FIT;
-use refusals::{Answer, Shape};
+use super::pieces::check_pieces;
+use refusals::{Refusal, Shape};
+use unit_sums::Unit;
 
-// The lesser of two numbers.
-fn least(a: usize, b: usize) -> usize
-    ensures { result ≡ min a b }
+// Do `count` bytes from byte `from` on end at byte `most` or before? Refusal: 5.
+fn check_range(most: usize, from: usize, count: usize) -> Result<(), Refusal>
+    ensures { refused result ≡ range_refusal most from count }
 {
-    if a < b { a } else { b }
+    if from <= most && count <= most - from {
+        return Ok(());
+    }
+    Err(Refusal::BadLength)
 }
 
-// Have `count` data pieces of `size` bytes from place `first` on their checksums? After the last
-// data place comes the first.
-fn are_fit_around(
-    width: usize,
-    disks: usize,
-    size: usize,
-    name: &[u8],
-    unit: u64,
-    block: &[u8],
-    cells: &[u8],
-    first: usize,
-    count: usize,
-) -> bool
-    requires { InUnit width disks size name.now block.now cells.now }
-    ensures { result ≡ fit_around width disks size name.now unit block.now cells.now
-        count first }
+// dst = src, byte by byte: the library's `copy_from_slice` calls memmove here, and the archive asks no
+// more of C than memcpy and memset.
+fn copy(dst: &mut [u8], src: &[u8])
+    requires { length src.now ≡ length dst.old }
+    ensures { dst.new ≡ src.now }
 {
-    let places = disks * width;
-    let mut x = first % places;
-    let mut i = 0;
-    while i < count {
-        if !unit_sums::is_fit(width, disks, size, name, unit, block, cells, x) {
-            return false;
-        }
-        x += 1;
-        if x == places {
-            x = 0;
-        }
-        i += 1;
+    for (i, byte) in dst.iter_mut().enumerate() {
+        *byte = src[i];
     }
-    true
-}
-
-// Is the block sealed, and have the pieces that bytes `from` to `end` of the film lie in their
-// checksums?
-fn is_proved(
-    shape: Shape,
-    stripes: usize,
-    name: &[u8],
-    unit: u64,
-    block: &[u8],
-    cells: &[u8],
-    from: usize,
-    end: usize,
-) -> bool
-    requires { (0 < shape.cell_size)
-        × InUnit shape.width shape.disks (stripes * shape.cell_size) name.now block.now cells.now
-        × (from ≤ end) × (end ≤ shape.disks * (shape.width * (stripes * shape.cell_size))) }
-    ensures { result ≡ is_film_proved shape.width shape.disks shape.cell_size stripes name.now
-        unit block.now cells.now from (end - from) }
-{
-    let width = shape.width;
-    let disks = shape.disks;
-    let size = shape.cell_size;
-    if !unit_sums::is_sealed(width, disks, name, unit, block) {
-        return false;
-    }
-    let first = from / size;
-    let past = (end + (size - 1)) / size;
-    let count = least(past - first, disks * width);
-    let piece = stripes * size;
-    are_fit_around(width, disks, piece, name, unit, block, cells, first, count)
 }
 
 // The `count` bytes of cells from byte `from` on, into out from byte `to` on.
@@ -88,7 +38,7 @@ fn copy_part(cells: &[u8], from: usize, count: usize, to: usize, out: &mut [u8])
 {
     let end = from + count;
     let past = to + count;
-    xor::copy(&mut out[to..past], &cells[from..end]);
+    copy(&mut out[to..past], &cells[from..end]);
 }
 
 // out = the film's bytes from byte `from` on: cells of `size` bytes at `places` data places in each
@@ -104,8 +54,10 @@ fn copy_film(places: usize, size: usize, stripes: usize, cells: &[u8], from: usi
     let mut x = from / size % places;
     let mut byte = from % size;
     let mut done = 0;
+    // A turn goes on by as many bytes as are left of a cell, so no range counts the turns; places are
+    // stepped, since a division for each cell takes long where cells are small.
     while done < all {
-        let count = least(size - byte, all - done);
+        let count = (size - byte).min(all - done);
         let at = x * (stripes * size) + stripe * size + byte;
         copy_part(cells, at, count, done, out);
         done += count;
@@ -130,20 +82,26 @@ pub fn film_bytes(
     cells: &[u8],
     from: usize,
     out: &mut [u8],
-) -> Answer
+) -> Result<(), Refusal>
     ensures { FilmBytesSays shape.width shape.disks shape.cell_size stripes name.now unit
-        block.now cells.now from out.old out.new result }
+        block.now cells.now from out.old out.new (answer_of result) }
 {
-    let count = out.len();
-    let long = cells.len();
-    let refusal = limits::film_refusal(shape, stripes, name.len(), block.len(), long, from, count);
-    if refusal != 0 {
-        return refusals::answered(refusal);
-    }
-    let places = shape.disks * shape.width;
-    if is_proved(shape, stripes, name, unit, block, cells, from, from + count) {
-        copy_film(places, shape.cell_size, stripes, cells, from, out);
-        return refusals::answered(0);
-    }
-    refusals::answered(DOES_NOT_FIT)
+    let unit = Unit::new(shape, stripes, name, unit, block, cells.len())?;
+    let array = unit.block.array;
+    check_range(
+        array.disks * unit.geometry().column_bytes(),
+        from,
+        out.len(),
+    )?;
+    unit.block.check_guard()?;
+    check_pieces(unit, shape.cell_size, cells, from, out.len())?;
+    copy_film(
+        array.disks * array.width,
+        shape.cell_size,
+        stripes,
+        cells,
+        from,
+        out,
+    );
+    Ok(())
 }

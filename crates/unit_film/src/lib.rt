@@ -3,6 +3,6 @@
 #![tactic(auto)]
 
 mod film;
-mod limits;
+mod pieces;
 
 pub use film::film_bytes;

@@ -20,7 +20,7 @@ use Rattle.rebuild_cells.specs.Theory.Mending.{mendable, mended_cells, AlikeOff,
 use Rattle.rebuild_cells.proofs.Theory.Marked.{missing_distinct}
 use Rattle.rebuild_cells.proofs.Theory.MendLaws.{mended_back}
 use Rattle.rebuild_cells.proofs.Theory.Exact.{determined_mendable}
-use Rattle.refusals.specs.declared.Answer.{Answer}
+use Rattle.refusals.specs.declared.answer.Answer.{Answer}
 use Rattle.unit_sums.specs.Sums.{block_of, is_sealed, fits}
 use Rattle.unit_opening.specs.Opening.{is_present, missing_marks, missing_pieces, fit_marks}
 use Rattle.unit_opening.specs.Refusals.{open_limits, open_refusal}
@@ -86,7 +86,7 @@ module _ (p k s n : ℕ) (name : List ℕ) (unit : ℕ) (block ms ms' t t' u : L
         whole =
             let w = open_within p k s n name block ms t (accepted z).0 in
             written z
-            ∙ mended_back p k (n * s) w.0.sized.array.some pieces (pieces_below p k (n * s) name unit block ms t) (accepted z).1 t u (stripe p k (n * s) name unit block ms t w.0 says.bytes) hu cu same
+            ∙ mended_back p k (n * s) w.0.sized.array.some pieces (pieces_below p k (n * s) name unit block ms t) (accepted z).1 t u (stripe p k (n * s) name unit block ms t w.0.sized.array.some w.0.sized.long says.bytes) hu cu same
 
         fit : (x : ℕ) → x < p * (k + 2) → fits p (n * s) name unit block u x ≡ true
         fit x l = subst (λ (b : List ℕ). fits p (n * s) name unit b u x ≡ true) (sym seal) (own_fits p k (n * s) name unit u x l)

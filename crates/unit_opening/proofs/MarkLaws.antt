@@ -1,17 +1,20 @@
 -- Marks, one a piece: the loop that writes them, and what each says.
 use mathlib.Core.Path.{◌≡◌, refl, sym, ap, ap₂, ◌∙◌}
-use mathlib.Core.Bool.{Bool, true, false}
+use mathlib.Core.Bool.{Bool, true, false, not}
 use mathlib.Core.List.{List, ◌∷◌, ◌++◌, append-nil}
 use Prim.Native.Nat.{ℕ, zero, suc, ◌+◌, ◌-◌, ◌≤◌, ◌<◌}
 use native.Mathlib.Numerals.{add-one}
 use native.Mathlib.Omega.{arith}
 use lib.ListN.{length, get_or, take, set, replicate}
 use lib.Seq.{take-suc-set, take_all, append_snoc}
+use Rattle.std.specs.Int.{from_bool}
 use Rattle.mathematics.specs.Choice.{pick}
 use Rattle.unit_opening.specs.Opening.{marks_from}
 
-pub marks_start : (n : ℕ) (f : ℕ → Bool) (d : List ℕ) → take 0 d ++ marks_from (n - 0) 0 f ≡ marks_from n 0 f
-marks_start n f d = let z : n - 0 ≡ n = omega arith in ap (λ (j : ℕ). marks_from j 0 f) z
+-- the mark that is written for a test
+pub mark_is : (b f : Bool) (v : ℕ) → v ≡ from_bool (not b) → b ≡ f → v ≡ pick f 0 1
+mark_is true f v h e = h ∙ ap (λ (x : Bool). pick x 0 1) e
+mark_is false f v h e = h ∙ ap (λ (x : Bool). pick x 0 1) e
 
 -- a turn: what is written, then the marks of the rest, are all of them
 pub marks_more :

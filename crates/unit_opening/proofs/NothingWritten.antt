@@ -12,7 +12,7 @@ use Rattle.mathematics.specs.Choice.{pick, when, first_of}
 use Rattle.mathematics.specs.BitRows.Rows.{reduced_from}
 use Rattle.mathematics.proofs.Flags.{and_l, and_r}
 use Rattle.rebuild_cells.specs.Theory.Mending.{marked_from, missing_cells, reduced_cells, mendable, mended_from, mended_cells}
-use Rattle.refusals.specs.declared.Answer.{Answer}
+use Rattle.refusals.specs.declared.answer.Answer.{Answer}
 use Rattle.unit_sums.specs.Sums.{is_sealed, fits}
 use Rattle.unit_opening.specs.Opening.{is_present, missing_pieces, fit_marks}
 use Rattle.unit_opening.specs.Refusals.{open_limits, open_refusal}

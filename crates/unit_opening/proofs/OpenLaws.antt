@@ -1,6 +1,6 @@
 -- A unit that is opened: pieces that are present are not written by the mend, so they still fit; and the
 -- promise of opening from what was refused, mended or not determined.
-use mathlib.Core.Path.{◌≡◌, refl, sym, ap, ◌∙◌}
+use mathlib.Core.Path.{◌≡◌, refl, sym, ap, ap₂, ◌∙◌}
 use mathlib.Core.Bool.{Bool, true, false, not}
 use mathlib.Core.List.{List}
 use Prim.Native.Nat.{ℕ, ◌+◌, ◌*◌, ◌<◌}
@@ -11,23 +11,26 @@ use borrow.Author.Tests.{eq-eqb, eqb-true, not-false}
 use Rattle.mathematics.specs.Choice.{pick, when, first_of}
 use Rattle.mathematics.specs.Lists.{is_in, all_below, same}
 use Rattle.mathematics.specs.Xor.{all_bytes}
-use Rattle.mathematics.proofs.ChoiceLaws.{first_none, first_kept, first_next, when_none, pick_refused, pick_done}
+use Rattle.mathematics.proofs.ChoiceLaws.{first_none, when_none}
 use Rattle.mathematics.proofs.Flags.{and_r}
-use Rattle.liberation.specs.Stripes.Stripes.{cell_at, is_stripe}
+use Rattle.liberation.specs.Stripes.Stripes.{cell_at, stripe_long, is_stripe}
 use Rattle.liberation.proofs.Stripes.Solving.{stripe_of}
-use Rattle.liberation.proofs.Stripes.SizedLaws.{sized_long, sized_kept}
 use Rattle.rebuild_cells.specs.Theory.Mending.{missing_cells, mendable, mended_cells}
+use Rattle.std.proofs.Common.{Result}
+use Rattle.std.specs.Result.{is_ok}
+use Rattle.refusals.specs.declared.array.Array.{Array}
+use Rattle.refusals.specs.declared.array.Geometry.{Geometry}
+use Rattle.refusals.specs.declared.refusal.Refusal.{Refusal}
+use Rattle.rebuild_cells.specs.Listed.{Mended}
+use Rattle.rebuild_cells.proofs.NamedLaws.{mended_if}
 use Rattle.rebuild_cells.proofs.Theory.Marked.{missing_in, missing_below}
 use Rattle.rebuild_cells.proofs.Theory.MendLaws.{mended_off}
-use Rattle.refusals.specs.declared.Answer.{Answer}
-use Rattle.refusals.specs.Answers.{Answers}
-use Rattle.refusals.proofs.AnswerLaws.{answers_as}
 use Rattle.unit_sums.specs.Sums.{little_endian, sum_of, is_sealed, fits}
 use Rattle.unit_sums.specs.UnitLimits.{InUnit}
 use Rattle.unit_opening.specs.Opening.{is_present, missing_marks, missing_pieces, fit_marks}
 use Rattle.unit_opening.specs.Refusals.{open_limits, open_refusal}
 use Rattle.unit_sums.specs.Refusals.{length_refusal, unit_refusal}
-use Rattle.unit_opening.specs.Says.{OpenedTo, OpenSays}
+use Rattle.unit_opening.specs.Says.{OpenedTo}
 use Rattle.unit_opening.proofs.MarkLaws.{marks_long, zero_holds}
 use Rattle.unit_sums.proofs.UnitRefusals.{unit_of_lem, length_of}
 
@@ -35,10 +38,6 @@ use Rattle.unit_sums.proofs.UnitRefusals.{unit_of_lem, length_of}
 pub fits_same : (p s : ℕ) (name : List ℕ) (unit : ℕ) (block t u : List ℕ) (x : ℕ) → cell_at s t x ≡ cell_at s u x → fits p s name unit block t x ≡ fits p s name unit block u x
 unfolding fits
 fits_same p s name unit block t u x e = ap (λ (c : List ℕ). same (cell_at 8 block x) (little_endian 8 (sum_of p name unit x c))) e
-
--- another unit of the same length is within the limits too
-pub unit_kept : (p k s : ℕ) (name block t u : List ℕ) → InUnit p k s name block t → length u ≡ length t → InUnit p k s name block u
-unit_kept p k s name block t u q e = record { sized = sized_kept p k s t u q.sized e; some = q.some; named = q.named; summed = q.summed }
 
 module _ (p k s : ℕ) (name : List ℕ) (unit : ℕ) (block ms t : List ℕ) where
   abbrev missing : List ℕ
@@ -54,14 +53,14 @@ module _ (p k s : ℕ) (name : List ℕ) (unit : ℕ) (block ms t : List ℕ) wh
       zero_holds (p * (k + 2)) x (is_present p s name unit block ms t) l
       (eqb-true (get_or missing x 0) 0 (not-false (eqb (get_or missing x 0) 0) (sym (missing_in missing x) ∙ h)))
 
-  module _ (q : InUnit p k s name block t) (bytes : all_bytes t ≡ true) where
+  module _ (some : 0 < p) (long : length t ≡ stripe_long p k s) (bytes : all_bytes t ≡ true) where
     pub stripe : is_stripe p k s t ≡ true
-    stripe = stripe_of p k s t (sized_long p k s t q.sized) bytes
+    stripe = stripe_of p k s t (omega arith) bytes
 
     -- it fits after the mend
     pub still_fits : mendable p k (missing_pieces p k s name unit block ms t) ≡ true → (x : ℕ) → x < p * (k + 2) → get_or (missing_marks p k s name unit block ms t) x 0 ≡ 0 → fits p s name unit block (mended_cells p k s (missing_pieces p k s name unit block ms t) t) x ≡ true
     still_fits ok x l e =
-        fits_same p s name unit block (mended_cells p k s (missing_cells missing) t) t x (mended_off p k s q.sized.array.some (missing_cells missing) pieces_below ok t stripe x l (missing_in missing x ∙ ap not (eq-eqb (get_or missing x 0) 0 e)))
+        fits_same p s name unit block (mended_cells p k s (missing_cells missing) t) t x (mended_off p k s some (missing_cells missing) pieces_below ok t stripe x l (missing_in missing x ∙ ap not (eq-eqb (get_or missing x 0) 0 e)))
         ∙ and_r (eqb (get_or ms x 0) 0) (fits p s name unit block t x) (zero_holds (p * (k + 2)) x (is_present p s name unit block ms t) l e)
 
   -- what `open` promises, from what `mend` did with these marks
@@ -81,67 +80,10 @@ module _ (p k s : ℕ) (name : List ℕ) (unit : ℕ) (block ms t : List ℕ) wh
     pub unopened : b ≡ false → OpenedTo p k s name unit block ms ms t t' false
     unopened h = record { mends = sym h ∙ mends; cells = written ∙ ap (λ (x : Bool). pick x (mended_cells p k s (missing_pieces p k s name unit block ms t) t) t) h; marks = refl; bytes = bytes }
 
--- the promise of the call
-module _ (p k s n : ℕ) (name : List ℕ) (unit : ℕ) (block ms t : List ℕ) (r : Answer) (bytes : all_bytes t ≡ true) where
-  abbrev limits : ℕ
-  limits = open_limits p k s n (length name) (length block) (length t) (length ms)
-
-  abbrev unsealed : ℕ
-  unsealed = when (not (is_sealed p k name unit block)) 24
-
-  abbrev pieces : List ℕ
-  pieces = missing_pieces p k (n * s) name unit block ms t
-
-  abbrev undetermined : ℕ
-  undetermined = when (not (mendable p k pieces)) 23
-
-  abbrev refusal : ℕ
-  refusal = open_refusal p k s n name unit block ms t
-
-  refused : (c : ℕ) → c ≡ refusal → (c ≡ 0 → ⊥) → Answers c r → OpenSays p k s n name unit block ms ms t t r
-  refused c f z q =
-      record {
-        answer = answers_as c refusal r f q;
-        cells = pick_refused c refusal (mended_cells p k (n * s) pieces t) t f z;
-        marks = pick_refused c refusal (fit_marks p k (n * s) name unit block t) ms f z;
-        bytes = bytes;
-      }
-
-  -- by 1, 13, 2, 25 or 5
-  pub open_refused : (c : ℕ) → c ≡ open_limits p k s n (length name) (length block) (length t) (length ms) → (c ≡ 0 → ⊥) → Answers c r → OpenSays p k s n name unit block ms ms t t r
-  open_refused c e z q = refused c (first_kept c limits (first_of unsealed undetermined) e z) z q
-
-  module _ (e : open_limits p k s n (length name) (length block) (length t) (length ms) ≡ 0) (g : Bool) (v : g ≡ is_sealed p k name unit block) where
-    -- by 24
-    pub open_unsealed : g ≡ false → Answers 24 r → OpenSays p k s n name unit block ms ms t t r
-    open_unsealed h q =
-        refused 24
-        (first_next 24 limits (first_of unsealed undetermined) e (first_kept 24 unsealed undetermined (ap (λ (x : Bool). when (not x) 24) (sym h ∙ v)) (λ z. omega arith)))
-        (λ z. omega arith) q
-
-    after : g ≡ true → (c : ℕ) → c ≡ undetermined → c ≡ refusal
-    after h c f = first_next c limits (first_of unsealed undetermined) e (first_next c unsealed undetermined (sym (ap (λ (x : Bool). when (not x) 24) (sym h ∙ v))) f)
-
-    -- by 23, or not
-    pub open_undetermined : (ms' t' : List ℕ) (m : Bool) → g ≡ true → m ≡ false → OpenedTo p k (n * s) name unit block ms ms' t t' m → Answers 23 r → OpenSays p k s n name unit block ms ms' t t' r
-    open_undetermined ms' t' m h y o q =
-        let f : 23 ≡ refusal = after h 23 (ap (λ (x : Bool). when (not x) 23) (sym y ∙ o.mends)) in
-        record {
-          answer = answers_as 23 refusal r f q;
-          cells = o.cells ∙ ap (λ (x : Bool). pick x (mended_cells p k (n * s) pieces t) t) y ∙ pick_refused 23 refusal (mended_cells p k (n * s) pieces t) t f (λ z. omega arith);
-          marks = o.marks ∙ ap (λ (x : Bool). pick x (fit_marks p k (n * s) name unit block t') ms) y ∙ pick_refused 23 refusal (fit_marks p k (n * s) name unit block t') ms f (λ z. omega arith);
-          bytes = bytes;
-        }
-
-    pub open_done : (ms' t' : List ℕ) (m : Bool) → g ≡ true → m ≡ true → OpenedTo p k (n * s) name unit block ms ms' t t' m → Answers 0 r → OpenSays p k s n name unit block ms ms' t t' r
-    open_done ms' t' m h y o q =
-        let f : 0 ≡ refusal = after h 0 (ap (λ (x : Bool). when (not x) 23) (sym y ∙ o.mends)) in
-        record {
-          answer = answers_as 0 refusal r f q;
-          cells = o.cells ∙ ap (λ (x : Bool). pick x (mended_cells p k (n * s) pieces t) t) y ∙ pick_done refusal (mended_cells p k (n * s) pieces t) t (sym f);
-          marks = o.marks ∙ ap (λ (x : Bool). pick x (fit_marks p k (n * s) name unit block t') ms) y ∙ pick_done refusal (fit_marks p k (n * s) name unit block t') ms (sym f);
-          bytes = bytes;
-        }
+-- what the mend of the unit's pieces did, by the numbers of its array
+pub mends_of : (g : Geometry) (a : Array) (s : ℕ) (cs t u : List ℕ) (r : Result Unit Refusal) → g.array ≡ a → g.cell_size ≡ s → Mended g cs t u r → (is_ok r ≡ mendable a.width a.disks cs) × (u ≡ pick (mendable a.width a.disks cs) (mended_cells a.width a.disks s cs t) t)
+mends_of g a s cs t u r e q m =
+    (mended_if g cs t u r m ∙ ap (λ (x : Array). mendable x.width x.disks cs) e, m.stripe ∙ ap₂ (λ (x : Array) (n : ℕ). pick (mendable x.width x.disks cs) (mended_cells x.width x.disks n cs t) t) e q)
 
 -- none of the refusals before 24
 pub open_within : (p k s n : ℕ) (name block ms t : List ℕ) → open_limits p k s n (length name) (length block) (length t) (length ms) ≡ 0 → InUnit p k (n * s) name block t × (length ms ≡ p * (k + 2))

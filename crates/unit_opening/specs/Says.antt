@@ -2,7 +2,7 @@
 use Rattle.std.specs.Prelude.{◌≡◌, Bool, true, List, ℕ, ◌*◌, eqb}
 use Rattle.mathematics.specs.Choice.{pick}
 use Rattle.mathematics.specs.Xor.{all_bytes}
-use Rattle.refusals.specs.declared.Answer.{Answer}
+use Rattle.refusals.specs.declared.answer.Answer.{Answer}
 use Rattle.refusals.specs.Answers.{Answers}
 use Rattle.rebuild_cells.specs.Theory.Mending.{mendable, mended_cells}
 use Rattle.unit_opening.specs.Opening.{missing_pieces, fit_marks}

@@ -2,13 +2,13 @@
 // from the others, and what was mended is compared.
 #![tactic(auto)]
 
-mod limits;
 mod opening;
 
+ghost use Rattle.refusals.specs.Refused.{answer_of};
 ghost use Rattle.unit_opening.specs.Says.{OpenSays};
 
-use refusals::numbers::{DOES_NOT_FIT, UNDETERMINED};
-use refusals::{Answer, Shape};
+use refusals::{Refusal, Shape, check_length};
+use unit_sums::Unit;
 
 // Mends the pieces whose marks are not 0 or that have not the checksum that the block has; then the
 // marks are 0 for the pieces that fit, 1 for others. Refusals: 1, 13, 2, 25, 5, 24 for a block that
@@ -22,23 +22,12 @@ pub fn open_unit(
     block: &[u8],
     marks: &mut [u8],
     cells: &mut [u8],
-) -> Answer
+) -> Result<(), Refusal>
     ensures { OpenSays shape.width shape.disks shape.cell_size stripes name.now unit
-        block.now marks.old marks.new cells.old cells.new result }
+        block.now marks.old marks.new cells.old cells.new (answer_of result) }
 {
-    let long = cells.len();
-    let refusal = limits::open_refusal(shape, stripes, name.len(), block.len(), long, marks.len());
-    if refusal != 0 {
-        return refusals::answered(refusal);
-    }
-    let width = shape.width;
-    let disks = shape.disks;
-    let size = stripes * shape.cell_size;
-    if !unit_sums::is_sealed(width, disks, name, unit, block) {
-        return refusals::answered(DOES_NOT_FIT);
-    }
-    if opening::open(width, disks, size, name, unit, block, marks, cells) {
-        return refusals::answered(0);
-    }
-    refusals::answered(UNDETERMINED)
+    let unit = Unit::new(shape, stripes, name, unit, block, cells.len())?;
+    check_length(marks.len(), unit.block.array.cells())?;
+    unit.block.check_guard()?;
+    opening::open(unit, marks, cells)
 }

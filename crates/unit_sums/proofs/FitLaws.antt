@@ -1,40 +1,31 @@
 -- One piece: its refusals, its test, its promise, and the theorem.
 use mathlib.Core.Path.{◌≡◌, refl, sym, ap, ap₂, subst, ◌∙◌}
-use mathlib.Core.Bool.{Bool, true, false, ◌&&◌, not, true≢false}
+use mathlib.Core.Bool.{Bool, true, false, not, true≢false}
 use mathlib.Core.List.{List}
 use mathlib.Core.Logic.{◌⊎◌, inl, inr, ⊎_elim}
-use Prim.Native.Nat.{ℕ, ◌+◌, ◌-◌, ◌*◌, ◌≤◌, ◌<◌}
+use Prim.Native.Nat.{ℕ, ◌+◌, ◌*◌, ◌≤◌, ◌<◌}
 use native.Mathlib.Nat.{mul-le-mul_right}
 use native.Mathlib.Omega.{arith}
-use lib.Dec.{ltb, leb}
-use lib.ListN.{length, take, drop}
-use borrow.Author.Tests.{le-leb, lt-leb, leb-false, ltb-false, not-true, not-false}
+use lib.Dec.{eqb, ltb, leb}
+use Rattle.std.specs.Cmp.Lexicographic.{pointwise}
+use lib.ListN.{length}
+use borrow.Author.Tests.{leb-false, ltb-false, not-false}
 use Rattle.mathematics.specs.Choice.{when, first_of}
 use Rattle.mathematics.specs.Lists.{same}
-use Rattle.mathematics.proofs.ChoiceLaws.{first_none, first_kept, first_next, when_none}
+use Rattle.mathematics.proofs.ChoiceLaws.{first_none, when_none}
 use Rattle.mathematics.proofs.Flags.{flag, and_r}
 use Rattle.mathematics.proofs.MemberLaws.{same_true, same_self}
 use Rattle.liberation.specs.Limits.{InArray}
 use Rattle.liberation.specs.Sets.{disk_refusal, place}
 use Rattle.liberation.specs.Stripes.Stripes.{cell_at, stripe_long}
 use Rattle.liberation.proofs.Stripes.StripeCellLaws.{cell_fits, cell_long}
-use Rattle.refusals.specs.declared.Answer.{Answer}
-use Rattle.refusals.specs.Answers.{Answers}
-use Rattle.refusals.proofs.AnswerLaws.{answers_as}
+use Rattle.refusals.specs.declared.answer.Answer.{Answer}
 use Rattle.unit_sums.specs.Sums.{little_endian, sum_of, block_of, block_long, is_sealed, fits}
 use Rattle.unit_sums.specs.Refusals.{numbers_refusal, lengths_refusal}
 use Rattle.unit_sums.specs.OnePiece.{fits_at, is_piece_proved, row_refusal, piece_refusal, fit_refusal, FitSays, PieceCollision}
 use Rattle.unit_sums.proofs.UnitRefusals.{numbers_of_lem, lengths_of}
-use Rattle.unit_sums.proofs.NumberLaws.{little_same}
-use Rattle.unit_sums.proofs.PieceLaws.{part_is}
+use Rattle.unit_sums.proofs.NumberLaws.{little_same, same_slices}
 use Rattle.unit_sums.proofs.BlockLaws.{sum_below_lem, block_cell}
-
--- a row that there is not, and one that there is
-pub row_over : (p i : ℕ) → p ≤ i → row_refusal p i ≡ 15
-row_over p i h = ap (λ (b : Bool). when b 15) (le-leb p i h)
-
-pub row_accepted : (p i : ℕ) → i < p → row_refusal p i ≡ 0
-row_accepted p i h = ap (λ (b : Bool). when b 15) (lt-leb p i h)
 
 -- the test of a piece of a unit is that of the piece
 pub fits_at_lem : (p s : ℕ) (name : List ℕ) (unit : ℕ) (block t : List ℕ) (x : ℕ) → fits p s name unit block t x ≡ fits_at p name unit block x (cell_at s t x)
@@ -43,14 +34,10 @@ fits_at_lem p s name unit block t x = refl
 
 -- the test by the eight bytes of the block
 pub fit_at_is :
-    (p unit g x : ℕ) (name block piece : List ℕ) (r : Bool) → x * 8 + 8 ≤ length block → g ≡ sum_of p name unit x piece
-    → r ≡ same (take (x * 8 + 8 - x * 8) (drop (x * 8) block)) (little_endian (length (take (x * 8 + 8 - x * 8) (drop (x * 8) block))) g)
-    → r ≡ fits_at p name unit block x piece
+    (p unit x : ℕ) (name block piece chunk bytes : List ℕ) (r : Bool) → chunk ≡ cell_at 8 block x → bytes ≡ little_endian 8 (sum_of p name unit x piece)
+    → r ≡ pointwise eqb chunk bytes → r ≡ fits_at p name unit block x piece
 unfolding fits_at
-fit_at_is p unit g x name block piece r l e h =
-    h
-    ∙ ap (λ (v : List ℕ). same v (little_endian (length v) g)) (part_is (x * 8) 8 block)
-    ∙ ap₂ (λ (m y : ℕ). same (cell_at 8 block x) (little_endian m y)) (cell_long 8 x block l) e
+fit_at_is p unit x name block piece chunk bytes r e q h = h ∙ same_slices chunk bytes ∙ ap₂ same e q
 
 module _ (p k s n : ℕ) (name : List ℕ) (unit : ℕ) (block : List ℕ) (c i : ℕ) (piece : List ℕ) where
   -- the refusals before 24, and 24
@@ -71,21 +58,6 @@ module _ (p k s n : ℕ) (name : List ℕ) (unit : ℕ) (block : List ℕ) (c i 
       let d : c ≤ k + 1 = ltb-false (k + 1) c (when_none (ltb (k + 1) c) 2 u.0) in
       let r : i < p = leb-false p i (when_none (leb p i) 14 z.1) in
       ((numbers_of_lem p k s n w.0).0, y.0, y.1, omega (arith, mul-le-mul_right p d), y.2)
-
-  module _ (r : Answer) where
-    pub fit_refused : (m : ℕ) → m ≡ before → (m ≡ 0 → ⊥) → Answers m r → FitSays p k s n name unit block c i piece r
-    fit_refused m e z q = record { answer = answers_as m (fit_refusal p k s n name unit block c i piece) r (first_kept m before unproved e z) q }
-
-    module _ (e : before ≡ 0) (g : Bool) (v : g ≡ is_sealed p k name unit block) where
-      pub fit_unsealed : not g ≡ true → Answers 24 r → FitSays p k s n name unit block c i piece r
-      fit_unsealed h q =
-          let z : 24 ≡ unproved = sym (ap (λ (b : Bool). when (not (b && fits_at p name unit block (place p i c) piece)) 24) (sym v ∙ not-true g h)) in
-          record { answer = answers_as 24 (fit_refusal p k s n name unit block c i piece) r (first_next 24 before unproved e z) q }
-
-      pub fit_answered : (b : Bool) (m : ℕ) → not g ≡ false → b ≡ fits_at p name unit block (place p i c) piece → m ≡ when (not b) 24 → Answers m r → FitSays p k s n name unit block c i piece r
-      fit_answered b m h f w q =
-          let z : m ≡ unproved = w ∙ ap₂ (λ (a d : Bool). when (not (a && d)) 24) (sym (not-false g h) ∙ v) f in
-          record { answer = answers_as m (fit_refusal p k s n name unit block c i piece) r (first_next m before unproved e z) q }
 
   -- and not 24
   pub fit_proved : fit_refusal p k s n name unit block c i piece ≡ 0 → (before ≡ 0) × (fits_at p name unit block (place p i c) piece ≡ true)

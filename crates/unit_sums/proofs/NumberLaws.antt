@@ -1,15 +1,16 @@
--- Numbers as bytes, the lowest first: the loop that stores them, the loop that compares them, and
--- that eight bytes determine a number of 64 bits.
-use mathlib.Core.Path.{◌≡◌, refl, sym, ap, ap₂, ◌∙◌}
-use mathlib.Core.Bool.{Bool, true, false, ◌&&◌}
-use mathlib.Core.List.{List, ◌∷◌, ◌++◌, append-nil}
-use Prim.Native.Nat.{ℕ, zero, suc, ◌+◌, ◌-◌, ◌/◌, ◌%◌, ◌^◌, ◌≤◌, ◌<◌}
-use native.Mathlib.Numerals.{add-one}
+-- Numbers as bytes, the lowest first: how the library stores and compares them, and that eight bytes
+-- determine a number of 64 bits.
+use mathlib.Core.Path.{◌≡◌, refl, sym, ap, ◌∙◌}
+use mathlib.Core.Bool.{Bool, ◌&&◌}
+use mathlib.Core.List.{List, [], ◌∷◌}
+use Prim.Native.Nat.{ℕ, zero, suc, ◌/◌, ◌%◌, ◌^◌, ◌<◌}
 use native.Mathlib.Omega.{arith}
 use lib.Dec.{eqb}
-use lib.ListN.{length, get_or, take, drop, set}
-use lib.Seq.{take-suc-set, take_all, append_snoc, drop-cons, drop-length}
-use borrow.Author.Tests.{eq-eqb, ne_eqb}
+use lib.ListN.{length, get_or, drop}
+use mir.Syntax.{w32, w64}
+use Rattle.std.specs.Int.{bytes_low_first, to_le_bytes}
+use Rattle.std.specs.Cmp.Lexicographic.{pointwise}
+use Rattle.std.proofs.Math.Nat.{div-div-eq-div-mul, pow-suc}
 use Rattle.mathematics.specs.Lists.{same}
 use Rattle.unit_sums.specs.Sums.{little_endian}
 
@@ -18,50 +19,28 @@ unfolding little_endian
 length_little zero x = refl
 length_little (suc n) x = ap suc (length_little n (x / 256))
 
--- before the loops
-pub little_start : (n x : ℕ) (d : List ℕ) → take 0 d ++ little_endian (n - 0) x ≡ little_endian n x
-little_start n x d = let z : n - 0 ≡ n = omega arith in ap (λ (j : ℕ). little_endian j x) z
-
-pub alike_start : (b : List ℕ) (x : ℕ) → same (drop 0 b) (little_endian (length b - 0) x) ≡ same b (little_endian (length b) x)
-alike_start b x = let z : length b - 0 ≡ length b = omega arith in ap (λ (j : ℕ). same b (little_endian j x)) z
-
--- a turn of the loop that stores: what is stored, then the bytes of the rest, are all of them
-pub little_more : (d : List ℕ) (n i rest : ℕ) (w : List ℕ) → i < length d → i < n → take i d ++ little_endian (n - i) rest ≡ w → take (i + 1) (set d i (rest % 256)) ++ little_endian (n - (i + 1)) (rest / 256) ≡ w
+-- what `to_le_bytes` gives
+bytes_from : (k i n : ℕ) → bytes_low_first (suc i) k n ≡ little_endian k (n / 256 ^ suc i)
 unfolding little_endian
-little_more d n i rest w h l e =
-    let m : n - i ≡ suc (n - (i + 1)) = omega arith in
-    ap (λ (j : ℕ). take j (set d i (rest % 256)) ++ little_endian (n - (i + 1)) (rest / 256)) (add-one i)
-    ∙ ap (λ (x : List ℕ). x ++ little_endian (n - (i + 1)) (rest / 256)) (take-suc-set d i (rest % 256) h)
-    ∙ append_snoc (take i d) (rest % 256) (little_endian (n - (i + 1)) (rest / 256))
-    ∙ ap (λ (j : ℕ). take i d ++ little_endian j rest) (sym m)
-    ∙ e
+bytes_from zero i n = refl
+bytes_from (suc k) i n =
+    let e : n / 256 ^ suc (suc i) ≡ n / 256 ^ suc i / 256 = sym (div-div-eq-div-mul n (256 ^ suc i) 256 ∙ ap (λ (m : ℕ). n / m) (sym (pow-suc 256 (suc i)))) in
+    ap (λ (l : List ℕ). n / 256 ^ suc i % 256 ∷ l) (bytes_from k (suc i) n ∙ ap (little_endian k) e)
 
-pub little_end : (d : List ℕ) (n i rest : ℕ) (w : List ℕ) → length d ≡ n → i ≡ n → take i d ++ little_endian (n - i) rest ≡ w → d ≡ w
+pub four_bytes : (n : ℕ) → to_le_bytes w32 n ≡ little_endian 4 n
 unfolding little_endian
-little_end d n i rest w h l e =
-    let z : n - i ≡ 0 = omega arith in
-    let f : length d ≤ i = omega arith in
-    sym (ap₂ ◌++◌ (take_all i d f) (ap (λ (j : ℕ). little_endian j rest) z) ∙ append-nil d) ∙ e
+four_bytes n = ap (λ (l : List ℕ). n % 256 ∷ l) (bytes_from 3 0 n)
 
--- the loop that compares
-alike_next : (b : List ℕ) (i rest : ℕ) → i < length b → same (drop i b) (little_endian (length b - i) rest) ≡ (eqb (get_or b i 0) (rest % 256) && same (drop (i + 1) b) (little_endian (length b - (i + 1)) (rest / 256)))
+pub eight_bytes : (n : ℕ) → to_le_bytes w64 n ≡ little_endian 8 n
 unfolding little_endian
-alike_next b i rest h =
-    let m : length b - i ≡ suc (length b - (i + 1)) = omega arith in
-    ap₂ same (drop-cons b i 0 h ∙ ap (λ (j : ℕ). get_or b i 0 ∷ drop j b) (sym (add-one i))) (ap (λ (j : ℕ). little_endian j rest) m)
+eight_bytes n = ap (λ (l : List ℕ). n % 256 ∷ l) (bytes_from 7 0 n)
 
-module _ (b : List ℕ) (i rest : ℕ) (w : Bool) (q : same (drop i b) (little_endian (length b - i) rest) ≡ w) where
-  pub alike_more : i < length b → get_or b i 0 ≡ rest % 256 → same (drop (i + 1) b) (little_endian (length b - (i + 1)) (rest / 256)) ≡ w
-  alike_more h e = sym (alike_next b i rest h ∙ ap (λ (t : Bool). t && same (drop (i + 1) b) (little_endian (length b - (i + 1)) (rest / 256))) (eq-eqb (get_or b i 0) (rest % 256) e)) ∙ q
-
-  pub alike_fails : i < length b → (get_or b i 0 ≡ rest % 256 → ⊥) → false ≡ w
-  alike_fails h e = sym (alike_next b i rest h ∙ ap (λ (t : Bool). t && same (drop (i + 1) b) (little_endian (length b - (i + 1)) (rest / 256))) (ne_eqb (get_or b i 0) (rest % 256) e)) ∙ q
-
-  pub alike_end : i ≡ length b → true ≡ w
-  unfolding little_endian
-  alike_end e =
-      let z : length b - i ≡ 0 = omega arith in
-      sym (ap₂ same (ap (λ (j : ℕ). drop j b) e ∙ drop-length b) (ap (λ (j : ℕ). little_endian j rest) z)) ∙ q
+-- what `==` of two slices gives
+pub same_slices : (xs ys : List ℕ) → pointwise eqb xs ys ≡ same xs ys
+same_slices [] [] = refl
+same_slices [] (y ∷ ys) = refl
+same_slices (x ∷ xs) [] = refl
+same_slices (x ∷ xs) (y ∷ ys) = ap (λ (b : Bool). eqb x y && b) (same_slices xs ys)
 
 -- numbers of n bytes that have the same bytes
 pub little_same : (n x y : ℕ) → x < 256 ^ n → y < 256 ^ n → little_endian n x ≡ little_endian n y → x ≡ y

@@ -4,14 +4,14 @@ use mathlib.Core.Bool.{Bool}
 use mathlib.Core.List.{List}
 use Prim.Native.Nat.{ℕ, ◌+◌, ◌-◌, ◌*◌, ◌≤◌, ◌<◌}
 use native.Mathlib.Omega.{arith}
-use lib.ListN.{length, take, drop, length-drop}
-use lib.Seq.{take_all}
+use lib.ListN.{length, take, drop}
+use lib.Dec.{eqb}
+use Rattle.std.specs.Cmp.Lexicographic.{pointwise}
 use Rattle.mathematics.specs.Lists.{same}
-use Rattle.liberation.specs.Stripes.Stripes.{cell_at}
-use Rattle.liberation.proofs.Stripes.SizedLaws.{sized_long}
-use Rattle.liberation.proofs.Stripes.StripeCellLaws.{cell_fits, cell_long}
-use Rattle.unit_sums.specs.Sums.{little_endian, sum_of, guard_of, block_long, is_sealed, fits}
-use Rattle.unit_sums.specs.UnitLimits.{InUnit}
+use Rattle.liberation.specs.Stripes.Stripes.{stripe_long}
+use Rattle.liberation.proofs.Stripes.StripeCellLaws.{cell_fits}
+use Rattle.unit_sums.specs.Sums.{little_endian, guard_of, is_sealed}
+use Rattle.unit_sums.proofs.NumberLaws.{same_slices}
 
 -- a part from a on, of n
 pub part_is : (a n : ℕ) (t : List ℕ) → take (a + n - a) (drop a t) ≡ take n (drop a t)
@@ -19,29 +19,12 @@ part_is a n t = let e : a + n - a ≡ n = omega arith in ap (λ (m : ℕ). take 
 
 -- the test of a guard
 pub sealed_is :
-    (p k unit g : ℕ) (name block : List ℕ) (r : Bool) → length block ≡ block_long p k → g ≡ guard_of name unit (take (p * (k + 2) * 8) block)
-    → r ≡ same (take (length block - p * (k + 2) * 8) (drop (p * (k + 2) * 8) block)) (little_endian (length (take (length block - p * (k + 2) * 8) (drop (p * (k + 2) * 8) block))) g)
-    → r ≡ is_sealed p k name unit block
+    (p k unit : ℕ) (name block sums guard bytes : List ℕ) (r : Bool) → sums ≡ take (p * (k + 2) * 8) block → guard ≡ drop (p * (k + 2) * 8) block
+    → bytes ≡ little_endian 8 (guard_of name unit sums) → r ≡ pointwise eqb guard bytes → r ≡ is_sealed p k name unit block
 unfolding is_sealed
-sealed_is p k unit g name block r l e h =
-    let d : length (drop (p * (k + 2) * 8) block) ≡ length block - p * (k + 2) * 8 = length-drop (p * (k + 2) * 8) block in
-    let w : take (length block - p * (k + 2) * 8) (drop (p * (k + 2) * 8) block) ≡ drop (p * (k + 2) * 8) block = take_all (length block - p * (k + 2) * 8) (drop (p * (k + 2) * 8) block) (omega arith) in
-    let n : length (drop (p * (k + 2) * 8) block) ≡ 8 = omega arith in
-    h
-    ∙ ap (λ (v : List ℕ). same v (little_endian (length v) g)) w
-    ∙ ap₂ (λ (m x : ℕ). same (drop (p * (k + 2) * 8) block) (little_endian m x)) n e
+sealed_is p k unit name block sums guard bytes r es eg eb h =
+    h ∙ same_slices guard bytes ∙ ap₂ same eg (eb ∙ ap (λ (v : List ℕ). little_endian 8 (guard_of name unit v)) es)
 
--- the test of a piece
-pub fit_is :
-    (p s unit g x : ℕ) (name block t : List ℕ) (r : Bool) → x * 8 + 8 ≤ length block → g ≡ sum_of p name unit x (take (x * s + s - x * s) (drop (x * s) t))
-    → r ≡ same (take (x * 8 + 8 - x * 8) (drop (x * 8) block)) (little_endian (length (take (x * 8 + 8 - x * 8) (drop (x * 8) block))) g)
-    → r ≡ fits p s name unit block t x
-unfolding fits
-fit_is p s unit g x name block t r l e h =
-    h
-    ∙ ap (λ (v : List ℕ). same v (little_endian (length v) g)) (part_is (x * 8) 8 block)
-    ∙ ap₂ (λ (m y : ℕ). same (cell_at 8 block x) (little_endian m y)) (cell_long 8 x block l) (e ∙ ap (sum_of p name unit x) (part_is (x * s) s t))
-
--- a piece and its checksum lie within the unit and its block
-pub piece_within : (p k s x : ℕ) (name block t : List ℕ) → InUnit p k s name block t → x < p * (k + 2) → (x * s + s ≤ length t) × (x * 8 + 8 ≤ length block)
-piece_within p k s x name block t u h = (omega (arith, cell_fits (p * (k + 2)) s x h, sized_long p k s t u.sized), omega (arith, cell_fits (p * (k + 2)) 8 x h, u.summed))
+-- a piece lies within a unit that is as long as its pieces
+pub piece_ends : (p k s x : ℕ) (t : List ℕ) → length t ≡ stripe_long p k s → x < p * (k + 2) → x * s + s ≤ length t
+piece_ends p k s x t l h = let e : (k + 2) * (p * s) ≡ p * (k + 2) * s = omega arith in omega (arith, cell_fits (p * (k + 2)) s x h)

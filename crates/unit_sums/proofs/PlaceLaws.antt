@@ -2,11 +2,11 @@
 -- one before it ends.
 use mathlib.Core.Path.{◌≡◌, refl, sym, ap, ap₂, ◌∙◌}
 use mathlib.Core.List.{List, [], ◌∷◌, ◌++◌, append_assoc, append-nil}
-use Prim.Native.Nat.{ℕ, ◌≤◌}
+use Prim.Native.Nat.{ℕ}
 use native.Mathlib.Omega.{arith}
-use lib.ListN.{length, take, drop, length-append, length-drop}
-use lib.Seq.{take_at, drop_at, length-take-le}
-use borrow.Rule.Slice.PartMut.{mid_of, put_mid}
+use lib.ListN.{length, drop, length-append, length-drop}
+use lib.Seq.{take_at, drop_at}
+use borrow.Rule.Slice.PartMut.{put_mid}
 use Rattle.unit_sums.specs.Sums.{little_endian, place_bytes}
 use Rattle.unit_sums.proofs.NumberLaws.{length_little}
 
@@ -14,19 +14,13 @@ use Rattle.unit_sums.proofs.NumberLaws.{length_little}
 put_next : (f g ys : List ℕ) (a k : ℕ) → length f ≡ a → put_mid a k (f ++ g) ys ≡ (f ++ ys) ++ drop k g
 put_next f g ys a k h = ap₂ (λ (u v : List ℕ). u ++ (ys ++ drop k v)) (take_at f g a h) (drop_at f g a h) ∙ sym (append_assoc f ys (drop k g))
 
-mid_next : (f g : List ℕ) (a k : ℕ) → length f ≡ a → k ≤ length g → length (mid_of a k (f ++ g)) ≡ k
-mid_next f g a k h l = ap (λ (v : List ℕ). length (take k v)) (drop_at f g a h) ∙ length-take-le k g l
-
 module _ (name x y₁ y₂ y₃ z : List ℕ) (disk row unit : ℕ) (n : length name ≡ 16) (l : length z ≡ 16) (e : x ≡ name) where
   long : length x ≡ 16
   long = ap length e ∙ n
 
-  module _ (e₁ : y₁ ≡ little_endian (length (mid_of 16 4 (x ++ z))) disk) where
-    m₁ : length (mid_of 16 4 (x ++ z)) ≡ 4
-    m₁ = mid_next x z 16 4 long (omega arith)
-
+  module _ (e₁ : y₁ ≡ little_endian 4 disk) where
     l₁ : length y₁ ≡ 4
-    l₁ = ap length e₁ ∙ length_little _ disk ∙ m₁
+    l₁ = ap length e₁ ∙ length_little 4 disk
 
     p₁ : put_mid 16 4 (x ++ z) y₁ ≡ (x ++ y₁) ++ drop 4 z
     p₁ = put_next x z y₁ 16 4 long
@@ -34,12 +28,9 @@ module _ (name x y₁ y₂ y₃ z : List ℕ) (disk row unit : ℕ) (n : length 
     f₁ : length (x ++ y₁) ≡ 20
     f₁ = length-append x y₁ ∙ omega (arith, long, l₁)
 
-    module _ (e₂ : y₂ ≡ little_endian (length (mid_of 20 4 (put_mid 16 4 (x ++ z) y₁))) row) where
-      m₂ : length (mid_of 20 4 (put_mid 16 4 (x ++ z) y₁)) ≡ 4
-      m₂ = ap (λ (v : List ℕ). length (mid_of 20 4 v)) p₁ ∙ mid_next (x ++ y₁) (drop 4 z) 20 4 f₁ (omega (arith, length-drop 4 z))
-
+    module _ (e₂ : y₂ ≡ little_endian 4 row) where
       l₂ : length y₂ ≡ 4
-      l₂ = ap length e₂ ∙ length_little _ row ∙ m₂
+      l₂ = ap length e₂ ∙ length_little 4 row
 
       p₂ : put_mid 20 4 (put_mid 16 4 (x ++ z) y₁) y₂ ≡ ((x ++ y₁) ++ y₂) ++ drop 4 (drop 4 z)
       p₂ = ap (λ (v : List ℕ). put_mid 20 4 v y₂) p₁ ∙ put_next (x ++ y₁) (drop 4 z) y₂ 20 4 f₁
@@ -47,10 +38,7 @@ module _ (name x y₁ y₂ y₃ z : List ℕ) (disk row unit : ℕ) (n : length 
       f₂ : length ((x ++ y₁) ++ y₂) ≡ 24
       f₂ = length-append (x ++ y₁) y₂ ∙ omega (arith, f₁, l₂)
 
-      module _ (e₃ : y₃ ≡ little_endian (length (mid_of 24 8 (put_mid 20 4 (put_mid 16 4 (x ++ z) y₁) y₂))) unit) where
-        m₃ : length (mid_of 24 8 (put_mid 20 4 (put_mid 16 4 (x ++ z) y₁) y₂)) ≡ 8
-        m₃ = ap (λ (v : List ℕ). length (mid_of 24 8 v)) p₂ ∙ mid_next ((x ++ y₁) ++ y₂) (drop 4 (drop 4 z)) 24 8 f₂ (omega (arith, length-drop 4 (drop 4 z), length-drop 4 z))
-
+      module _ (e₃ : y₃ ≡ little_endian 8 unit) where
         none : drop 8 (drop 4 (drop 4 z)) ≡ []
         none = nothing (drop 8 (drop 4 (drop 4 z))) (omega (arith, length-drop 8 (drop 4 (drop 4 z)), length-drop 4 (drop 4 z), length-drop 4 z))
           where
@@ -67,4 +55,4 @@ module _ (name x y₁ y₂ y₃ z : List ℕ) (disk row unit : ℕ) (n : length 
             ∙ append-nil (((x ++ y₁) ++ y₂) ++ y₃)
             ∙ append_assoc (x ++ y₁) y₂ y₃
             ∙ append_assoc x y₁ (y₂ ++ y₃)
-            ∙ ap₂ ◌++◌ e (ap₂ ◌++◌ (e₁ ∙ ap (λ (j : ℕ). little_endian j disk) m₁) (ap₂ ◌++◌ (e₂ ∙ ap (λ (j : ℕ). little_endian j row) m₂) (e₃ ∙ ap (λ (j : ℕ). little_endian j unit) m₃)))
+            ∙ ap₂ ◌++◌ e (ap₂ ◌++◌ e₁ (ap₂ ◌++◌ e₂ e₃))

@@ -2,12 +2,12 @@
 use mathlib.Core.Path.{◌≡◌, ap, ap₂}
 use mathlib.Core.Bool.{Bool, false, ◌||◌, not}
 use mathlib.Core.List.{List}
-use Prim.Native.Nat.{ℕ, ◌+◌, ◌*◌, ◌/◌, ◌≤◌, ◌<◌}
-use native.Mathlib.Nat.{mul-pos, mul-le-mul, le-div_iff_mul-le, div-lt_iff_lt-mul}
+use Prim.Native.Nat.{ℕ, ◌*◌, ◌/◌, ◌≤◌, ◌<◌}
+use native.Mathlib.Nat.{mul-pos, div-lt_iff_lt-mul}
 use native.Mathlib.Omega.{arith}
 use lib.Dec.{eqb, ltb}
 use lib.ListN.{length}
-use borrow.Author.Tests.{eq-eqb, ne_eqb, eqb-true, eqb-false, ltb-false, lt-ltb, le-ltb, not-false}
+use borrow.Author.Tests.{eq-eqb, ne_eqb, eqb-true, eqb-false, ltb-false, lt-ltb, not-false}
 use Rattle.mathematics.specs.Choice.{when, first_of}
 use Rattle.mathematics.proofs.ChoiceLaws.{first_none, when_none}
 use Rattle.mathematics.proofs.Flags.{or_l, or_false_l, or_false_r}
@@ -15,12 +15,11 @@ use Rattle.liberation.specs.Limits.{InArray, largest_cell}
 use Rattle.liberation.specs.Sets.{shape_refusal}
 use Rattle.liberation.specs.Stripes.Stripes.{stripe_long}
 use Rattle.liberation.proofs.RefusalLaws.{shape_of}
-use Rattle.liberation.proofs.MarkLists.{cells_most}
 use Rattle.unit_sums.specs.Sums.{block_long}
 use Rattle.unit_sums.specs.UnitLimits.{InUnit}
 use Rattle.unit_sums.specs.Refusals.{stripes_refusal, numbers_refusal, length_refusal, lengths_refusal, unit_refusal}
 
--- a unit of no stripes, of too many, and of neither
+-- a unit of no stripes, and of too many
 pub stripes_none : (s n : ℕ) → n ≡ 0 → stripes_refusal s n ≡ 25
 stripes_none s n e = ap (λ (b : Bool). when b 25) (or_l (eqb n 0) (ltb largest_cell (n * s)) (eq-eqb n 0 e))
 
@@ -29,11 +28,6 @@ module _ (s n : ℕ) (some : 0 < s) (one : n ≡ 0 → ⊥) where
   stripes_over h =
       let l : largest_cell < n * s = (div-lt_iff_lt-mul some).0 h in
       ap₂ (λ (a b : Bool). when (a || b) 25) (ne_eqb n 0 one) (lt-ltb largest_cell (n * s) l)
-
-  pub stripes_accepted : n ≤ largest_cell / s → stripes_refusal s n ≡ 0
-  stripes_accepted h =
-      let l : n * s ≤ largest_cell = (le-div_iff_mul-le some).0 h in
-      ap₂ (λ (a b : Bool). when (a || b) 25) (ne_eqb n 0 one) (le-ltb largest_cell (n * s) l)
 
 stripes_of_lem : (s n : ℕ) → stripes_refusal s n ≡ 0 → (0 < n) × (n * s ≤ largest_cell)
 stripes_of_lem s n e =
@@ -56,14 +50,6 @@ lengths_of p k q a b l e =
     let u = first_none (length_refusal 16 a) (first_of (length_refusal (block_long p k) b) (length_refusal q l)) e in
     let z = first_none (length_refusal (block_long p k) b) (length_refusal q l) u.1 in
     (length_of 16 a u.0, length_of (block_long p k) b z.0, length_of q l z.1)
-
--- cells and bytes of a unit with pieces of b bytes can be counted
-pub unit_most : (p k b : ℕ) → InArray p k → b ≤ largest_cell → (p * (k + 2) ≤ 1023) × (p * b ≤ 1015808) × (k * (p * b) ≤ 31490048) × ((k + 2) * (p * b) ≤ 33521664)
-unit_most p k b a h =
-    let m : p * b ≤ 31 * largest_cell = mul-le-mul a.widest h in
-    let n : k + 2 ≤ 33 = omega (arith, a.disks, a.widest) in
-    let d : k ≤ 31 = omega (arith, a.disks, a.widest) in
-    (cells_most p k a.widest a.disks, omega arith, omega (arith, mul-le-mul d m), omega (arith, mul-le-mul n m))
 
 -- none of these refusals
 pub unit_of_lem : (p k s n : ℕ) (name block t : List ℕ) → unit_refusal p k s n (length name) (length block) (length t) ≡ 0 → (0 < s) × InUnit p k (n * s) name block t

@@ -2,7 +2,7 @@
 use Rattle.std.specs.Prelude.{not, List, ℕ, length}
 use Rattle.mathematics.specs.Choice.{when, first_of}
 use Rattle.liberation.specs.Sets.{array_refusal}
-use Rattle.refusals.specs.declared.Answer.{Answer}
+use Rattle.refusals.specs.declared.answer.Answer.{Answer}
 use Rattle.refusals.specs.Answers.{Answers}
 use Rattle.unit_sums.specs.Sums.{block_long, is_sealed}
 use Rattle.unit_sums.specs.Refusals.{length_refusal}

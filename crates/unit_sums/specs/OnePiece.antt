@@ -5,7 +5,7 @@ use Rattle.mathematics.specs.Choice.{when, first_of}
 use Rattle.mathematics.specs.Lists.{same}
 use Rattle.liberation.specs.Sets.{disk_refusal, place}
 use Rattle.liberation.specs.Stripes.Stripes.{cell_at}
-use Rattle.refusals.specs.declared.Answer.{Answer}
+use Rattle.refusals.specs.declared.answer.Answer.{Answer}
 use Rattle.refusals.specs.Answers.{Answers}
 use Rattle.unit_sums.specs.Sums.{little_endian, sum_of, is_sealed}
 use Rattle.unit_sums.specs.Refusals.{numbers_refusal, lengths_refusal}

@@ -1,7 +1,7 @@
 -- The promise of `seal_unit`, for accepted and refused calls alike.
 use Rattle.std.specs.Prelude.{◌≡◌, List, ℕ, ◌*◌, eqb, length}
 use Rattle.mathematics.specs.Choice.{pick}
-use Rattle.refusals.specs.declared.Answer.{Answer}
+use Rattle.refusals.specs.declared.answer.Answer.{Answer}
 use Rattle.refusals.specs.Answers.{Answers}
 use Rattle.unit_sums.specs.Sums.{block_of}
 use Rattle.unit_sums.specs.Refusals.{unit_refusal}

@@ -3,39 +3,13 @@
 #![tactic(auto)]
 
 mod block;
-mod limits;
-mod numbers;
+mod label;
 mod piece;
-mod pieces;
 mod sealing;
-mod seeds;
+mod unit;
 
-ghost use Rattle.unit_sums.specs.Sealing.{SealSays};
-
-pub use block::block_fits;
-pub use limits::unit_refusal;
+pub use block::{Block, block_fits};
+pub use label::Label;
 pub use piece::piece_fits;
-pub use pieces::{is_fit, is_sealed};
-use refusals::{Answer, Shape};
-
-// block = the checksum block of the unit. Refusals: 1, 13, 2, 25, 5; a refused call leaves the block
-// unchanged.
-pub fn seal_unit(
-    shape: Shape,
-    stripes: usize,
-    name: &[u8],
-    unit: u64,
-    cells: &[u8],
-    block: &mut [u8],
-) -> Answer
-    ensures { SealSays shape.width shape.disks shape.cell_size stripes name.now unit
-        cells.now block.old block.new result }
-{
-    let refusal = limits::unit_refusal(shape, stripes, name.len(), block.len(), cells.len());
-    if refusal != 0 {
-        return refusals::answered(refusal);
-    }
-    let size = stripes * shape.cell_size;
-    sealing::write_block(shape.width, shape.disks, size, name, unit, cells, block);
-    refusals::answered(0)
-}
+pub use sealing::seal_unit;
+pub use unit::Unit;

@@ -1,53 +1,20 @@
 // One piece compared with the checksum that a block has at its place.
-ghost use Rattle.std.specs.Prelude.{◌≡◌, ◌+◌, ◌*◌, ◌≤◌, ◌<◌, length};
-ghost use Rattle.unit_sums.specs.OnePiece.{fits_at, piece_refusal, FitSays};
+ghost use Rattle.std.specs.Prelude.{◌≡◌};
+ghost use Rattle.refusals.specs.Refused.{refused, answer_of};
+ghost use Rattle.unit_sums.specs.OnePiece.{row_refusal, FitSays};
 
-use super::pieces::SUM;
-use super::{limits, numbers, pieces};
-use refusals::numbers::{DOES_NOT_FIT, NO_SUCH_ROW};
-use refusals::{Answer, Shape};
+use super::block::Block;
+use super::unit::unit_geometry;
+use refusals::{Refusal, Shape, check_length};
 
-// The refusal by 1, 13, 2, 25, 3, 5 or 15 of a piece of `long` bytes of row `row` of disk `disk`, 0
-// for none.
-fn fit_refusal(
-    shape: Shape,
-    stripes: usize,
-    disk: usize,
-    row: usize,
-    name: usize,
-    block: usize,
-    long: usize,
-) -> u8
-    ensures { result ≡ piece_refusal shape.width shape.disks shape.cell_size stripes disk row
-        name block long }
+// Is this a row? Refusal: 15.
+fn check_row(width: usize, row: usize) -> Result<(), Refusal>
+    ensures { refused result ≡ row_refusal width row }
 {
-    let first = limits::numbers_refusal(shape, stripes);
-    if first != 0 {
-        return first;
+    if row < width {
+        return Ok(());
     }
-    let width = shape.width;
-    let disks = shape.disks;
-    let second = refusals::disk_refusal(disks, disk);
-    if second != 0 {
-        return second;
-    }
-    let required = stripes * shape.cell_size;
-    let third = limits::lengths_refusal(width, disks, required, name, block, long);
-    if third != 0 {
-        return third;
-    }
-    if width <= row { NO_SUCH_ROW } else { 0 }
-}
-
-// Has the piece the checksum that the block has at place x?
-fn is_fit_at(width: usize, name: &[u8], unit: u64, block: &[u8], x: usize, piece: &[u8]) -> bool
-    requires { (0 < width) × (length name.now ≡ 16) × (x * 8 + 8 ≤ length block.now) }
-    ensures { result ≡ fits_at width name.now unit block.now x piece.now }
-{
-    let sum = pieces::sum_of(width, name, unit, x, piece);
-    let at = x * SUM;
-    let past = at + SUM;
-    numbers::is_number(&block[at..past], sum)
+    Err(Refusal::NoSuchRow)
 }
 
 // Has the piece of row `row` of disk `disk` the checksum that the block has? Refusals: 1, 13, 2, 25,
@@ -61,21 +28,18 @@ pub fn piece_fits(
     disk: usize,
     row: usize,
     piece: &[u8],
-) -> Answer
+) -> Result<(), Refusal>
     ensures { FitSays shape.width shape.disks shape.cell_size stripes name.now unit
-        block.now disk row piece.now result }
+        block.now disk row piece.now (answer_of result) }
 {
-    let long = piece.len();
-    let refusal = fit_refusal(shape, stripes, disk, row, name.len(), block.len(), long);
-    if refusal != 0 {
-        return refusals::answered(refusal);
+    let geometry = unit_geometry(shape, stripes)?;
+    geometry.array.check_disk(disk)?;
+    let block = Block::new(geometry.array, name, unit, block)?;
+    check_length(piece.len(), geometry.cell_size)?;
+    check_row(geometry.array.width, row)?;
+    block.check_guard()?;
+    if block.is_fit(disk * geometry.array.width + row, piece) {
+        return Ok(());
     }
-    let width = shape.width;
-    if !pieces::is_sealed(width, shape.disks, name, unit, block) {
-        return refusals::answered(DOES_NOT_FIT);
-    }
-    if is_fit_at(width, name, unit, block, disk * width + row, piece) {
-        return refusals::answered(0);
-    }
-    refusals::answered(DOES_NOT_FIT)
+    Err(Refusal::DoesNotFit)
 }

@@ -1,37 +1,24 @@
--- Where the cells of an update are: the data cell before its parity cells, all within the stripe,
--- and the diagonal without a remainder.
-use mathlib.Core.Path.{◌≡◌, sym, ap, ◌∙◌}
+-- Where the cells of an update are: the data cell before its parity cells, all within the stripe.
 use mathlib.Core.List.{List}
-use Prim.Native.Nat.{ℕ, suc, ◌+◌, ◌-◌, ◌*◌, ◌%◌, ◌≤◌, ◌<◌}
-use native.Mathlib.Nat.{mod-lt, mul-le-mul, mul-le-mul_right}
+use Prim.Native.Nat.{ℕ, suc, ◌+◌, ◌*◌, ◌≤◌, ◌<◌}
+use native.Mathlib.Nat.{mul-le-mul_right}
 use native.Mathlib.Omega.{arith}
 use lib.ListN.{length}
-use Rattle.mathematics.proofs.Modulo.{mod_unique}
 use Rattle.liberation.specs.Sets.{place}
-use Rattle.liberation.specs.Plans.{diagonal_of}
 use Rattle.liberation.proofs.SetLaws.{place_below}
+use Rattle.liberation.proofs.Widths.{width_odd}
 use Rattle.liberation.proofs.Stripes.StripeCellLaws.{cell_fits}
+use Rattle.refusals.specs.StripeOf.{IsStripeOf}
+use Rattle.update.specs.declared.target.Target.{Target}
 use Rattle.update.specs.Cells.{DataCell}
 
--- (r - c) mod p, where c ≤ r and where not
-pub diagonal_low : (p r c : ℕ) → r < p → c ≤ r → r - c ≡ diagonal_of p c r
-diagonal_low p r c h l = let e : p * 1 + (r - c) ≡ r + p - c = omega arith in sym (mod_unique p 1 (r - c) (omega arith)) ∙ ap (λ (n : ℕ). n % p) e
-
-pub diagonal_high : (p r c : ℕ) → r < c → c < p → r + p - c ≡ diagonal_of p c r
-diagonal_high p r c h l = let e : p * 0 + (r + p - c) ≡ r + p - c = omega arith in sym (mod_unique p 0 (r + p - c) (omega arith)) ∙ ap (λ (n : ℕ). n % p) e
-
-pub diagonal_below : (p r c z : ℕ) → r < p → z ≡ diagonal_of p c r → z < p
-diagonal_below p r c z h e = let some : 0 < p = omega arith in omega (arith, e, mod-lt (r + p - c) some)
+-- the cell of an update, in its stripe
+pub data_cell : (x : Target) (t : List ℕ) → IsStripeOf x.geometry t → DataCell x.geometry.array.width x.geometry.array.disks x.geometry.cell_size x.row x.disk t
+data_cell x t e =
+    let a = x.geometry.array in
+    record { odd = width_odd a.width a.one_of_ten; widest = a.widest; disks = a.within; row = x.in_rows; disk = x.of_data; long = e }
 
 module _ (p k s r c : ℕ) (t : List ℕ) (d : DataCell p k s r c t) where
-  -- places are small numbers
-  pub places_small : (c * p ≤ 961) × (k * p ≤ 961) × ((k + 1) * p ≤ 992)
-  places_small =
-      let n : k ≤ 31 = omega (arith, d.disks, d.widest) in
-      let m : c ≤ 31 = omega (arith, d.disk) in
-      let o : k + 1 ≤ 32 = omega arith in
-      (mul-le-mul m d.widest, mul-le-mul n d.widest, mul-le-mul o d.widest)
-
   place_fits : (i e : ℕ) → i < p → e < k + 2 → place p i e * s + s ≤ length t
   place_fits i e h l = omega (arith, d.long, cell_fits (p * (k + 2)) s (place p i e) (place_below p (k + 2) i e h l))
 

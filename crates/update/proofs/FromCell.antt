@@ -54,10 +54,6 @@ module _ (s x y : ℕ) (t : List ℕ) (h : x < y) (fits : y * s + s ≤ length t
 abbrev pub plus : ℕ → ℕ → ℕ → List ℕ → List ℕ
 plus s x y t = with_cell s y (xor_l (cell_at s t y) (cell_at s t x)) t
 
--- the stripe with the same data cell after a change of other cells
-pub same_cell : {p k s r c : ℕ} {t : List ℕ} (u : List ℕ) → length u ≡ length t → DataCell p k s r c t → DataCell p k s r c u
-same_cell u e d = record { odd = d.odd; widest = d.widest; disks = d.disks; row = d.row; disk = d.disk; long = e ∙ d.long }
-
 -- a data cell, and the diagonal z of which it is an ordinary cell
 module _ (p k s r c z : ℕ) (t : List ℕ) (d : DataCell p k s r c t) (e : z ≡ diagonal_of p c r) where
   parity_is : parity_of p k r c ≡ place p r k ∷ (place p z (suc k) ∷ pick (eqb (suc z) (extra_row p r)) (place p (suc z) (suc k) ∷ []) [])

@@ -1,3 +1,4 @@
 -- What the update of a cell promises.
 pub mod Says
 pub mod Cells
+pub mod Targets

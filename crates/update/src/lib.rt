@@ -3,79 +3,83 @@
 #![tactic(auto)]
 
 mod parity;
+mod target;
 
-ghost use Rattle.std.specs.Prelude.{◌≡◌, length};
+ghost use Rattle.std.specs.Prelude.{◌≡◌, length, IfOk};
+ghost use Rattle.liberation.specs.Stripes.Stripes.{stripe_long};
 ghost use Rattle.liberation.specs.Update.Updates.{updated};
-ghost use Rattle.update.specs.Cells.{DataCell};
+ghost use Rattle.refusals.specs.Refused.{refused, answer_of};
+ghost use Rattle.refusals.specs.StripeOf.{IsStripeOf};
 ghost use Rattle.update.specs.Says.{update_lengths_refusal, UpdateSays};
+ghost use Rattle.update.specs.Targets.{IsTarget};
 
-use refusals::numbers::{NO_SUCH_DISK, NO_SUCH_ROW};
-use refusals::{Answer, Shape};
+use refusals::{Geometry, Refusal, Shape};
+use target::Target;
+
+// dst = src, byte by byte: the library's `copy_from_slice` calls memmove here, and the archive asks no
+// more of C than memcpy and memset.
+fn copy(dst: &mut [u8], src: &[u8])
+    requires { length src.now ≡ length dst.old }
+    ensures { dst.new ≡ src.now }
+{
+    for (i, byte) in dst.iter_mut().enumerate() {
+        *byte = src[i];
+    }
+}
 
 // The new bytes of a data cell, with its parity cells: the cell takes the change, hands it on, then
 // takes the new bytes.
-fn put_cell(
-    width: usize,
-    disks: usize,
-    size: usize,
-    row: usize,
-    disk: usize,
-    stripe: &mut [u8],
-    cell: &[u8],
-)
-    requires { DataCell width disks size row disk stripe.old × (length cell.now ≡ size) }
-    ensures { stripe.new ≡ updated width disks size row disk cell.now stripe.old }
+fn put_cell(target: Target, stripe: &mut [u8], cell: &[u8])
+    requires { IsStripeOf target.geometry stripe.old × (length cell.now ≡ target.geometry.cell_size) }
+    ensures { stripe.new ≡ updated target.geometry.array.width target.geometry.array.disks target.geometry.cell_size target.row target.disk cell.now stripe.old }
 {
-    let start = (disk * width + row) * size;
-    let end = start + size;
+    let start = target.place() * target.geometry.cell_size;
+    let end = start + target.geometry.cell_size;
     xor::add_one(&mut stripe[start..end], cell, 0);
-    parity::add_to_parity(width, disks, size, row, disk, stripe);
-    xor::copy(&mut stripe[start..end], cell);
+    parity::add_to_parity(target, stripe);
+    copy(&mut stripe[start..end], cell);
 }
 
-// The refusal of a call on a stripe and a cell of these many bytes, 0 for none. P and Q hold no
-// data.
-fn update_refusal(
-    width: usize,
-    disks: usize,
-    size: usize,
+// The data cell of a call on a stripe and a cell of these many bytes. P and Q hold no data.
+// Refusals: 1, 13, 2, 3, 5, 15.
+fn find_target(
+    shape: Shape,
     row: usize,
     disk: usize,
     stripe: usize,
     cell: usize,
-) -> u8
-    ensures { result ≡ update_lengths_refusal width disks size row disk stripe cell }
+) -> Result<Target, Refusal>
+    ensures refusal { refused result ≡ update_lengths_refusal shape.width shape.disks shape.cell_size row disk stripe cell }
+    ensures target { IfOk result (λ t. IsTarget shape row disk stripe cell t) }
 {
-    let shape = refusals::shape_refusal(width, disks, size);
-    if shape != 0 {
-        return shape;
+    let geometry = Geometry::new(shape)?;
+    if geometry.array.disks <= disk {
+        return Err(Refusal::NoSuchDisk);
     }
-    if disks <= disk {
-        return NO_SUCH_DISK;
+    refusals::check_length(stripe, geometry.stripe_bytes())?;
+    refusals::check_length(cell, geometry.cell_size)?;
+    if geometry.array.width <= row {
+        return Err(Refusal::NoSuchRow);
     }
-    let first = refusals::length_refusal(stripe, (disks + 2) * (width * size));
-    if first != 0 {
-        return first;
-    }
-    let second = refusals::length_refusal(cell, size);
-    if second != 0 {
-        return second;
-    }
-    if row < width { 0 } else { NO_SUCH_ROW }
+    Ok(Target {
+        geometry,
+        row,
+        disk,
+    })
 }
 
 // Puts new bytes into a data cell and keeps the XOR of every set. Refusals: 1, 13, 2, 3, 5, 15; a
 // refused call leaves the stripe as it was.
-pub fn update_cell(shape: Shape, row: usize, disk: usize, stripe: &mut [u8], cell: &[u8]) -> Answer
-    ensures { UpdateSays shape.width shape.disks shape.cell_size row disk stripe.old cell.now stripe.new result }
+pub fn update_cell(
+    shape: Shape,
+    row: usize,
+    disk: usize,
+    stripe: &mut [u8],
+    cell: &[u8],
+) -> Result<(), Refusal>
+    ensures { UpdateSays shape.width shape.disks shape.cell_size row disk stripe.old cell.now stripe.new (answer_of result) }
 {
-    let width = shape.width;
-    let disks = shape.disks;
-    let size = shape.cell_size;
-    let refusal = update_refusal(width, disks, size, row, disk, stripe.len(), cell.len());
-    if refusal != 0 {
-        return refusals::answered(refusal);
-    }
-    put_cell(width, disks, size, row, disk, stripe, cell);
-    refusals::answered(0)
+    let target = find_target(shape, row, disk, stripe.len(), cell.len())?;
+    put_cell(target, stripe, cell);
+    Ok(())
 }

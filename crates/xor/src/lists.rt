@@ -1,4 +1,4 @@
-// How many offsets go into one list, and where a list of them ends.
+// How many offsets go into one list.
 ghost use Rattle.std.specs.Prelude.{◌≤◌, ◌<◌};
 
 // From so many bytes on, parts are long.
@@ -33,12 +33,4 @@ pub fn list_most(n: usize) -> usize
     } else {
         LONG_PARTS
     }
-}
-
-// Where a list of at most `most` numbers from index i on ends, of `count` numbers.
-pub fn list_end(i: usize, most: usize, count: usize) -> usize
-    requires { (i ≤ count) × (0 < most) }
-    ensures { (i ≤ result) × (result ≤ count) × (i < count → i < result) }
-{
-    if count - i < most { count } else { i + most }
 }

@@ -5,12 +5,12 @@ use mathlib.Core.Logic.{◌⊎◌, inl, inr, ⊎_elim}
 use mathlib.Core.List.{List, [], ◌∷◌, ◌++◌, append_assoc, append-nil}
 use Prim.Native.Nat.{ℕ, suc, ◌+◌, ◌-◌, ◌≤◌, ◌<◌}
 use native.Mathlib.Omega.{arith}
-use lib.ListN.{length, get_or, take, drop, length-append, length-drop, take-append-drop, drop_of_length-le}
+use lib.ListN.{length, get_or, take, drop, length-append, length-take, length-drop, take-append-drop, drop_of_length-le}
 use lib.Seq.{take_at, drop_at, drop-drop, take-add, take_all, length-take-le}
+use borrow.Rule.Slice.PartMut.{put_mid}
 use Rattle.mathematics.specs.Xor.{xor_l}
 use Rattle.mathematics.proofs.ListLaws.{part_front}
 use Rattle.xor.specs.Parts.{part, with_part, xor_offsets}
-use Rattle.xor.specs.Reach.{Reached}
 use Rattle.xor.proofs.BlockLaws.{offsets_long, part_block, tail_is, tail_long}
 use Rattle.xor_in_place.specs.Beside.{Beside}
 
@@ -78,20 +78,28 @@ module _ (d n : ℕ) (t os : List ℕ) (beside : Beside d n (length t) os) where
   new_long = offsets_long n t os beside.sources.inside
 
   -- none are new; all are
+  pub within_long : (b : ℕ) (x : List ℕ) → b ≤ n → x ≡ with_part b d (take b (xor_offsets n t os)) t → length x ≡ length t
+  within_long b x h e = ap length e ∙ simp (length-append, length-take, length-drop) (omega (arith, new_long, beside.fits))
+
   pub within_none : t ≡ with_part 0 d (take 0 (xor_offsets n t os)) t
   within_none = let e : d ≡ d + 0 = omega arith in sym (take-append-drop d t) ∙ ap (λ (k : ℕ). take d t ++ drop k t) e
+
+  -- the first m are
+  pub within_first : (m : ℕ) (y : List ℕ) → m ≤ n → y ≡ with_part m d (xor_offsets m t os) t → y ≡ with_part m d (take m (xor_offsets n t os)) t
+  within_first m y h e = e ∙ ap (λ (w : List ℕ). with_part m d w t) (sym (part_block m 0 n t os (omega arith)))
 
   pub within_all : (b : ℕ) (x : List ℕ) → b ≡ n → x ≡ with_part b d (take b (xor_offsets n t os)) t → x ≡ with_part n d (xor_offsets n t os) t
   within_all b x q e = e ∙ ap (λ (k : ℕ). with_part k d (take k new) t) q ∙ ap (λ (l : List ℕ). with_part n d l t) (take_all n new (omega (arith, new_long)))
 
   -- the next m, which the block makes of the list as it is now
-  pub within_next : (b m : ℕ) (x y : List ℕ) → b + m ≤ n → x ≡ with_part b d (take b (xor_offsets n t os)) t → y ≡ with_part m (d + b) (xor_offsets m (drop b x) os) x → y ≡ with_part (b + m) d (take (b + m) (xor_offsets n t os)) t
-  within_next b m x y h e q =
+  within_next : (b m e : ℕ) (x y : List ℕ) → e ≡ b + m → b + m ≤ n → x ≡ with_part b d (take b (xor_offsets n t os)) t → y ≡ with_part m (d + b) (xor_offsets m (drop b x) os) x → y ≡ with_part e d (take e (xor_offsets n t os)) t
+  within_next b m e x y s h g q =
       q
-      ∙ ap (λ (l : List ℕ). with_part m (d + b) (xor_offsets m (drop b l) os) l) e
+      ∙ ap (λ (l : List ℕ). with_part m (d + b) (xor_offsets m (drop b l) os) l) g
       ∙ ap (λ (v : List ℕ). with_part m (d + b) v now) (offsets_same m (drop b now) (drop b t) os kept ∙ sym (part_block m b n t os h))
       ∙ with_next b d (take b new) t long fits m (part m b new)
       ∙ ap (λ (l : List ℕ). with_part (b + m) d l t) (sym (take-add b m new))
+      ∙ ap (λ (c : ℕ). with_part c d (take c new) t) (sym s)
     where
       now : List ℕ
       now = with_part b d (take b new) t
@@ -109,13 +117,18 @@ module _ (d n : ℕ) (t os : List ℕ) (beside : Beside d n (length t) os) where
           ∙ part_kept b d (take b new) t long fits m (b + a) (⊎_elim (λ w. inl (omega arith)) (λ w. inr (omega arith)) (beside.apart j k))
           ∙ ap (take m) (sym (drop-drop a b t))
 
--- fewer bytes of every source, in a list as long
-pub reach_less : {n long : ℕ} {at : List ℕ} (m k : ℕ) → m ≤ n → k ≡ long → Reached n long at → Reached m k at
-reach_less m k h e r = record { few = r.few; inside = λ i q. omega (arith, r.inside i q) }
+-- fewer bytes of every source
+pub beside_less : {d n long : ℕ} {at : List ℕ} (m : ℕ) → m ≤ n → Beside d n long at → Beside d m long at
+beside_less m h r =
+    record {
+      sources = record { few = r.sources.few; inside = λ i q. omega (arith, r.sources.inside i q) };
+      fits = omega (arith, r.fits);
+      apart = λ i q. ⊎_elim (λ w. inl (omega arith)) (λ w. inr w) (r.apart i q);
+    }
 
--- of the list from b on
-pub beside_tail : (d n b : ℕ) (t x at : List ℕ) → b ≤ n → length x ≡ length t → Beside d n (length t) at → Beside d (n - b) (length (take (length x - b) (drop b x))) at
-beside_tail d n b t x at h e r =
+-- the next m bytes, of the list from b on
+pub beside_tail : (d n b m : ℕ) (t x at : List ℕ) → b + m ≤ n → length x ≡ length t → Beside d n (length t) at → Beside d m (length (take (length x - b) (drop b x))) at
+beside_tail d n b m t x at h e r =
     let l : length (take (length x - b) (drop b x)) ≡ length x - b = tail_long b x in
     record {
       sources = record { few = r.sources.few; inside = λ i q. omega (arith, r.sources.inside i q) };
@@ -124,7 +137,7 @@ beside_tail d n b t x at h e r =
     }
 
 -- a gather in the list from b on, said of the whole list
-pub put_tail : (d m b : ℕ) (at x v : List ℕ) → b ≤ length x → v ≡ with_part m d (xor_offsets m (take (length x - b) (drop b x)) at) (take (length x - b) (drop b x)) →
+put_tail : (d m b : ℕ) (at x v : List ℕ) → b ≤ length x → v ≡ with_part m d (xor_offsets m (take (length x - b) (drop b x)) at) (take (length x - b) (drop b x)) →
     take b x ++ (v ++ drop (length x - b) (drop b x)) ≡ with_part m (d + b) (xor_offsets m (drop b x) at) x
 put_tail d m b at x v h e =
     let w = xor_offsets m (drop b x) at in
@@ -134,3 +147,10 @@ put_tail d m b at x v h e =
     ∙ ap (λ (y : List ℕ). take b x ++ y) (append-nil (with_part m d w (drop b x)))
     ∙ sym (append_assoc (take b x) (take d (drop b x)) (w ++ drop (d + m) (drop b x)))
     ∙ ap₂ (λ (y z : List ℕ). y ++ (w ++ z)) (sym (take-add b d x) ∙ ap (λ (k : ℕ). take k x) r) (drop-drop (d + m) b x ∙ ap (λ (k : ℕ). drop k x) q)
+
+-- the next m bytes, which a gather in the list from b on makes new
+pub within_more : (d n : ℕ) (t os : List ℕ) → Beside d n (length t) os → (b m e : ℕ) (x v : List ℕ) → e ≡ b + m → b + m ≤ n → x ≡ with_part b d (take b (xor_offsets n t os)) t
+    → v ≡ with_part m d (xor_offsets m (take (length x - b) (drop b x)) os) (take (length x - b) (drop b x)) → put_mid b (length x - b) x v ≡ with_part e d (take e (xor_offsets n t os)) t
+within_more d n t os r b m e x v s h g q =
+    let l : length x ≡ length t = within_long d n t os r b x (omega arith) g in
+    within_next d n t os r b m e x (put_mid b (length x - b) x v) s h g (put_tail d m b os x v (omega (arith, r.fits)) q)

@@ -12,30 +12,17 @@ ghost use Rattle.xor_in_place.specs.Beside.{Beside};
 pub use lists::gather_lists;
 use xor::{BLOCK, WIDE_BLOCK};
 
-// The n bytes from d on = the XOR of the parts of n bytes at the offsets, in blocks of 64 bytes.
-fn gather_small(t: &mut [u8], d: usize, n: usize, at: &[usize])
-    requires { Beside d n (length t.old) at.now }
-    ensures { t.new ≡ with_part n d (xor_offsets n t.old at.now) t.old }
-{
-    let mut b = 0;
-    while BLOCK <= n - b {
-        blocks::put_block(t, d, at, b);
-        b += BLOCK;
-    }
-    if b < n {
-        blocks::put_rest(t, d, at, b, n - b);
-    }
-}
-
-// The same in blocks of 128 bytes, and what is left in one of 64.
+// The n bytes from d on = the XOR of the parts of n bytes at the offsets: in blocks of 128 bytes,
+// then of 64, then what is left.
 pub fn gather_within(t: &mut [u8], d: usize, n: usize, at: &[usize])
     requires { Beside d n (length t.old) at.now }
     ensures { t.new ≡ with_part n d (xor_offsets n t.old at.now) t.old }
 {
-    let mut b = 0;
-    while WIDE_BLOCK <= n - b {
-        blocks::put_wide_block(t, d, at, b);
-        b += WIDE_BLOCK;
+    let wide = n - n % WIDE_BLOCK;
+    blocks::put_blocks::<WIDE_BLOCK>(t, d, wide, at);
+    let whole = n - n % BLOCK;
+    blocks::put_blocks::<BLOCK>(&mut t[wide..], d, whole - wide, at);
+    if whole < n {
+        blocks::put_rest(&mut t[whole..], d, n - whole, at);
     }
-    gather_small(&mut t[b..], d, n - b, at);
 }

@@ -1,7 +1,7 @@
 -- The XOR of parts and of a list of bytes x, block by block: it is zero up to the end of a block
 -- exactly if it is zero up to the block and in it.
-use mathlib.Core.Path.{◌≡◌, refl, sym, ap, ◌∙◌}
-use mathlib.Core.Bool.{◌&&◌}
+use mathlib.Core.Path.{◌≡◌, refl, sym, ap, ap₂, ◌∙◌}
+use mathlib.Core.Bool.{Bool, true, ◌&&◌}
 use mathlib.Core.List.{List}
 use Prim.Native.Nat.{ℕ, ◌+◌, ◌-◌, ◌≤◌}
 use native.Mathlib.Omega.{arith}
@@ -11,8 +11,8 @@ use Rattle.mathematics.specs.Lists.{same}
 use Rattle.mathematics.specs.Xor.{xor_l}
 use Rattle.mathematics.proofs.XorLaws.{xor_l_comm, xor_l_long, take_xor_l, drop_xor_l}
 use Rattle.xor.specs.Parts.{part, xor_offsets}
-use Rattle.xor.proofs.BlockLaws.{Within, offsets_long, part_block, both_lists}
-use Rattle.xor.proofs.ZeroLaws.{none_to, none_add}
+use Rattle.xor.proofs.BlockLaws.{Within, offsets_long, part_block, both_lists, tail_is}
+use Rattle.xor.proofs.ZeroLaws.{none_to, none_add, zero_from, zero_all, zero_turn}
 
 -- the XOR of the parts of n bytes and of x
 abbrev pub sum_with : ℕ → List ℕ → List ℕ → List ℕ → List ℕ
@@ -36,10 +36,25 @@ module _ (n : ℕ) (t os x : List ℕ) (long : length x ≡ n) (inside : Within 
   pub sum_split : (b : ℕ) → b ≤ n → same (sum_with n t os x) (replicate n 0) ≡ (none_to b (sum_with n t os x) && same (part (n - b) b (sum_with n t os x)) (replicate (n - b) 0))
   sum_split b h = let e : n ≡ b + (n - b) = omega arith in sum_whole ∙ none_add b (n - b) n (sum_with n t os x) e (omega (arith, sum_long))
 
+  -- a turn, whose block's answer is r
+  pub sum_turn : (b m k : ℕ) (a r : Bool) (u : List ℕ) → b + m ≤ n → k ≡ m → u ≡ drop b t → none_to b (sum_with n t os x) ≡ true → a ≡ same (sum_with m u os (take k (drop b x))) (replicate m 0) → a ≡ r
+      → none_to (b + m) (sum_with n t os x) ≡ r
+  sum_turn b m k a r u h e d w q g =
+      sum_next b m h ∙ ap₂ (λ (f i : Bool). f && i) w (sym (sym g ∙ q ∙ ap₂ (λ (v : List ℕ) (j : ℕ). same (sum_with m v os (take j (drop b x))) (replicate m 0)) d e))
+
   -- all bytes
   pub sum_all : (b : ℕ) → b ≡ n → same (sum_with n t os x) (replicate n 0) ≡ none_to b (sum_with n t os x)
   sum_all b e = sum_whole ∙ ap (λ (k : ℕ). none_to k (sum_with n t os x)) (sym e)
 
 -- the first i parts gathered in x, and the others with it
-pub two_lists : (s i : ℕ) (t at x : List ℕ) → Within s (length t) at → x ≡ xor_offsets s t (take i at) → sum_with s t (take (length at - i) (drop i at)) x ≡ xor_offsets s t at
-two_lists s i t at x f e = let last = xor_offsets s t (take (length at - i) (drop i at)) in xor_l_comm last x ∙ both_lists s i t at x (xor_l x last) f e refl
+pub two_lists : (s i : ℕ) (t at x : List ℕ) → Within s (length t) at → x ≡ xor_offsets s t (take i at) → sum_with s t (drop i at) x ≡ xor_offsets s t at
+two_lists s i t at x f e = let last = xor_offsets s t (drop i at) in xor_l_comm last x ∙ both_lists s i t at x (xor_l x last) f e refl
+
+-- the answer W, in two turns: that of the first b bytes, which is r, of the next up to byte j, which is q, and of what follows
+module _ (b j n : ℕ) (t os : List ℕ) (low : b ≤ j) (high : j ≤ n) (long : n ≤ length t) (inside : Within n (length t) os) where
+  pub first_turn : (x r : Bool) → x ≡ same (xor_offsets b t os) (replicate b 0) → x ≡ r → same (xor_offsets n t os) (replicate n 0) ≡ (r && zero_from b n t os)
+  first_turn x r e g = zero_turn (same (xor_offsets n t os) (replicate n 0)) x r 0 b b n t os t (omega arith) (omega arith) long inside refl (zero_all n t os) e g
+
+  pub both_turns : (x y r q : Bool) → x ≡ same (xor_offsets b t os) (replicate b 0) → x ≡ r → y ≡ same (xor_offsets (j - b) (take (length t - b) (drop b t)) os) (replicate (j - b) 0) → y ≡ q
+      → same (xor_offsets n t os) (replicate n 0) ≡ (r && (q && zero_from j n t os))
+  both_turns x y r q e g f h = first_turn x r e g ∙ ap (λ (z : Bool). r && z) (zero_turn (zero_from b n t os) y q b (j - b) j n t os (take (length t - b) (drop b t)) (omega arith) high long inside (tail_is b t) refl f h)

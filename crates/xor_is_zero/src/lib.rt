@@ -15,18 +15,8 @@ pub use blocks::blocks_are_zero;
 // The bytes of a stretch.
 pub const STRETCH: usize = 2048;
 
-// The bits of a number of bytes below a stretch.
-const BELOW_STRETCH: usize = STRETCH - 1;
-
 // From so many parts on, stretches are faster.
 const MANY_PARTS: usize = 10;
-
-// A stretch of zeros.
-fn no_stretch() -> [u8; STRETCH]
-    ensures { result ≡ replicate 2048 0 }
-{
-    [0; STRETCH]
-}
 
 // Is the XOR of the parts of n bytes zero, n a number of stretches? One buffer serves for all of
 // them.
@@ -34,22 +24,13 @@ fn stretches_are_zero(t: &[u8], n: usize, at: &[usize]) -> bool
     requires { (n % 2048 ≡ 0) × (n ≤ length t.now) × Reached n (length t.now) at.now }
     ensures { result ≡ same (xor_offsets n t.now at.now) (replicate n 0) }
 {
-    let mut stretch = no_stretch();
-    let mut b = 0;
-    while b < n {
-        if !one_stretch::stretch_is_zero(&mut stretch[..STRETCH], &t[b..], at) {
+    let mut stretch = [0; STRETCH];
+    for b in (0..n).step_by(STRETCH) {
+        if !one_stretch::stretch_is_zero(&mut stretch, &t[b..], at) {
             return false;
         }
-        b += STRETCH;
     }
     true
-}
-
-// How many of n bytes are in whole stretches.
-fn stretched(n: usize) -> usize
-    ensures { (result ≤ n) × (result % 2048 ≡ 0) }
-{
-    n - (n & BELOW_STRETCH)
 }
 
 // Is the XOR of the parts of n bytes zero? The stretches, then what is left block by block.
@@ -57,11 +38,8 @@ pub fn long_is_zero(t: &[u8], n: usize, at: &[usize]) -> bool
     requires { (n ≤ length t.now) × Reached n (length t.now) at.now }
     ensures { result ≡ same (xor_offsets n t.now at.now) (replicate n 0) }
 {
-    let b = stretched(n);
-    if !stretches_are_zero(t, b, at) {
-        return false;
-    }
-    blocks::blocks_are_zero(&t[b..], n - b, at)
+    let whole = n - n % STRETCH;
+    stretches_are_zero(t, whole, at) && blocks::blocks_are_zero(&t[whole..], n - whole, at)
 }
 
 // Is the XOR of the parts of n bytes zero? What is shorter than a stretch goes block by block, and
@@ -71,7 +49,8 @@ pub fn is_zero(t: &[u8], n: usize, at: &[usize]) -> bool
     ensures { result ≡ same (xor_offsets n t.now at.now) (replicate n 0) }
 {
     if n < STRETCH || at.len() < MANY_PARTS {
-        return blocks::blocks_are_zero(t, n, at);
+        blocks::blocks_are_zero(t, n, at)
+    } else {
+        long_is_zero(t, n, at)
     }
-    long_is_zero(t, n, at)
 }

@@ -1,8 +1,7 @@
-// What XXH64 does with words alone: rounds, the accumulators' end, words of the tail, the avalanche.
+// What XXH64 does with words alone: rounds, words of the tail, the avalanche. Sums and products
+// wrap.
 ghost use Rattle.std.specs.Prelude.{◌≡◌, ◌<◌};
-ghost use Rattle.xxh64.specs.Checksum.{round as round_of, merge, converge, eight, four, one, folded, avalanche as avalanche_of};
-
-use super::words::{product, rotated, sum};
+ghost use Rattle.xxh64.specs.Checksum.{round as round_of, merge, number, eight, four, one, folded, avalanche as avalanche_of};
 
 pub const PRIME_1: u64 = 0x9E37_79B1_85EB_CA87;
 
@@ -18,50 +17,43 @@ pub const PRIME_5: u64 = 0x27D4_EB2F_1656_67C5;
 pub fn round(acc: u64, lane: u64) -> u64
     ensures { result ≡ round_of acc lane }
 {
-    product(rotated(sum(acc, product(lane, PRIME_2)), 31), PRIME_1)
+    let sum = acc.wrapping_add(lane.wrapping_mul(PRIME_2));
+    sum.rotate_left(31).wrapping_mul(PRIME_1)
 }
 
 // An accumulator into the sum.
-fn merged(begun: u64, acc: u64) -> u64
+pub fn merged(begun: u64, acc: u64) -> u64
     ensures { result ≡ merge begun acc }
 {
-    sum(product(begun ^ round(0, acc), PRIME_1), PRIME_4)
-}
-
-// The four accumulators into one sum.
-pub fn converged(a: u64, b: u64, c: u64, d: u64) -> u64
-    ensures { result ≡ converge a b c d }
-{
-    let two = sum(rotated(a, 1), rotated(b, 7));
-    let all = sum(sum(two, rotated(c, 12)), rotated(d, 18));
-    merged(merged(merged(merged(all, a), b), c), d)
+    let mixed = begun ^ round(0, acc);
+    mixed.wrapping_mul(PRIME_1).wrapping_add(PRIME_4)
 }
 
 // Eight bytes of the tail into the sum.
-pub fn with_eight(begun: u64, lane: u64) -> u64
-    ensures { result ≡ eight begun lane }
+pub fn with_eight(begun: u64, bytes: &[u8; 8]) -> u64
+    ensures { result ≡ eight begun (number bytes.now) }
 {
-    sum(
-        product(rotated(begun ^ round(0, lane), 27), PRIME_1),
-        PRIME_4,
-    )
+    let mixed = begun ^ round(0, u64::from_le_bytes(*bytes));
+    let turned = mixed.rotate_left(27);
+    turned.wrapping_mul(PRIME_1).wrapping_add(PRIME_4)
 }
 
 // Four bytes of the tail into the sum.
-pub fn with_four(begun: u64, lane: u64) -> u64
-    ensures { result ≡ four begun lane }
+pub fn with_four(begun: u64, bytes: &[u8; 4]) -> u64
+    ensures { result ≡ four begun (number bytes.now) }
 {
-    sum(
-        product(rotated(begun ^ product(lane, PRIME_1), 23), PRIME_2),
-        PRIME_3,
-    )
+    let lane = u64::from(u32::from_le_bytes(*bytes));
+    let mixed = begun ^ lane.wrapping_mul(PRIME_1);
+    let turned = mixed.rotate_left(23);
+    turned.wrapping_mul(PRIME_2).wrapping_add(PRIME_3)
 }
 
 // One byte of the tail into the sum.
-pub fn with_one(begun: u64, lane: u64) -> u64
-    ensures { result ≡ one begun lane }
+pub fn with_one(begun: u64, byte: &u8) -> u64
+    ensures { result ≡ one begun byte.now }
 {
-    product(rotated(begun ^ product(lane, PRIME_5), 11), PRIME_1)
+    let mixed = begun ^ u64::from(*byte).wrapping_mul(PRIME_5);
+    mixed.rotate_left(11).wrapping_mul(PRIME_1)
 }
 
 // x ^ (x >> k).
@@ -76,6 +68,6 @@ fn fold(x: u64, k: u32) -> u64
 pub fn avalanche(begun: u64) -> u64
     ensures { result ≡ avalanche_of begun }
 {
-    let second = product(fold(begun, 33), PRIME_2);
-    fold(product(fold(second, 29), PRIME_3), 32)
+    let second = fold(begun, 33).wrapping_mul(PRIME_2);
+    fold(fold(second, 29).wrapping_mul(PRIME_3), 32)
 }

@@ -1,5 +1,6 @@
--- `cuzhaveli_rebuild_one`: what the call promises.
+-- `cuzhaveli_rebuild_one`: what the call promises, as C gets its answer.
+use Rattle.refusals.proofs.AnswerLaws.{answer_is}
 use Rattle.cuzhaveli_rebuild.proofs.cuzhaveli_rebuild_one.Goals as goal
 
 pub returns : goal.returns
-returns c = c.rebuild_one.ensures
+returns c = rw (answer_is _ _ c.into.ensures) c.rebuild_one.ensures

@@ -3,7 +3,7 @@
 use Rattle.encode.proofs.EncodeLaws.{both_kinds}
 use Rattle.encode.proofs.write_parity.Goals as goal
 
-pub returns : goal.returns
-returns c =
-    let a = c.args in
-    both_kinds a.width a.disks a.size a.stripe.now c.solve_rows.new.stripe c.solve_diagonals.new.stripe c.solve_rows.ensures c.solve_diagonals.ensures
+pub returns-else-disks-ge-GROUPED_DISKS : goal.returns-else-disks-ge-GROUPED_DISKS
+returns-else-disks-ge-GROUPED_DISKS c =
+    let w = c.args.geometry in
+    both_kinds w.array.width w.array.disks w.cell_size c.args.stripe.now c.solve_rows.new.stripe c.solve_diagonals.new.stripe c.solve_rows.ensures c.solve_diagonals.ensures

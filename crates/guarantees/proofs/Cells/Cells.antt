@@ -33,7 +33,7 @@ use Rattle.rebuild_cells.proofs.Theory.Exact.{refused_two, determined_mendable}
 use Rattle.rebuild_cells.proofs.Theory.WholeDisks.{disks_mendable, disks_whole}
 use Rattle.rebuild_cells.proofs.Theory.OneDisk.{disk_mendable, disk_mended, q_mendable, q_mended}
 use Rattle.rebuild_cells.specs.Listed.{RunFrom}
-use Rattle.refusals.specs.declared.Answer.{Answer}
+use Rattle.refusals.specs.declared.answer.Answer.{Answer}
 use Rattle.rebuild_cells.specs.Says.{lent_refusal, mend_refusal, RebuildCellsSays}
 use Rattle.rebuild_cells.proofs.MendRefusals.{lent_none}
 use Rattle.guarantees.specs.Limits.Limits.{by, Within as Inside, Decides}

@@ -28,7 +28,7 @@ use Rattle.liberation.specs.ReliefPlan.Relief.{Relief, relief_step, relief_route
 use Rattle.liberation.proofs.ReliefPlan.ProgressionPlan.{progression_parity}
 use Rattle.liberation.proofs.ReliefPlan.ReliefPlan.{plans_relief}
 use Rattle.liberation.proofs.ReliefPlan.HalfAsked.{half_asked}
-use Rattle.refusals.specs.declared.Answer.{Answer}
+use Rattle.refusals.specs.declared.answer.Answer.{Answer}
 use Rattle.refusals.proofs.AnswerLaws.{answers_none}
 use Rattle.planner.proofs.HeldLaws.{held_is}
 use Rattle.planner.specs.declared.Plan.{Plan}

@@ -21,7 +21,7 @@ use Rattle.liberation.proofs.BalancedPlan.BalancedPlan.{balanced_accepted}
 use Rattle.liberation.specs.Stripes.Stripes.{cell_at, column_of, is_stripe, clean, rebuilt_by, rebuilt}
 use Rattle.liberation.proofs.Stripes.Rebuilding.{plan_back, plan_unused, plan_only_read}
 use Rattle.liberation.proofs.Stripes.RearrangedBytes.{bytes_same}
-use Rattle.refusals.specs.declared.Answer.{Answer}
+use Rattle.refusals.specs.declared.answer.Answer.{Answer}
 use Rattle.planner.specs.declared.Plan.{Plan}
 use Rattle.planner.specs.PlanSays.{PlanSays}
 use Rattle.planner.proofs.FormLaws.{form_of, length_of, plan_form}

@@ -13,7 +13,7 @@ use Rattle.liberation.specs.Plans.{Step, plan_of, route_word}
 use Rattle.liberation.specs.Judging.{steps_in, judge}
 use Rattle.liberation.specs.Scrub.Survivors.{suspect, verdict}
 use Rattle.plan_texts.specs.Form.Reading.{steps_read}
-use Rattle.refusals.specs.declared.Answer.{Answer}
+use Rattle.refusals.specs.declared.answer.Answer.{Answer}
 use Rattle.liberation.specs.BalancedPlan.Balanced.{balanced_plan}
 use Rattle.liberation.specs.ReliefPlan.Relief.{relief_plan as relief_steps}
 use Rattle.liberation.specs.FewestPlan.Fewest.{fewest_plan}

@@ -9,7 +9,7 @@ use borrow.Author.Tests.{eqb-false, ne_eqb, not-true}
 use Rattle.mathematics.specs.Choice.{pick, when, first_of}
 use Rattle.mathematics.proofs.Flags.{and_l, and_r, or_false_l, or_false_r}
 use Rattle.mathematics.proofs.ChoiceLaws.{pick_refused}
-use Rattle.refusals.specs.declared.Answer.{Answer}
+use Rattle.refusals.specs.declared.answer.Answer.{Answer}
 use Rattle.refusals.specs.Answers.{Answers}
 use Rattle.guarantees.specs.Limits.Limits.{Limits, none, limit, by, ◌then◌, Within, RefusedBy, Cases, Decides, Refuses}
 

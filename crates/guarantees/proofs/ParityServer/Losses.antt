@@ -17,7 +17,7 @@ use Rattle.liberation.specs.TwoDisks.Pairs.{pair_solved}
 use Rattle.liberation.specs.ParityServer.Servers.{server_at, lost, first_loss, second_loss, mended, rebuild_refusal}
 use Rattle.liberation.specs.ParityServer.ServerClaims.{Given}
 use Rattle.liberation.proofs.ParityServer.ServerRefusalLaws.{Losses, losses_of, rebuild_of, rebuild_losses}
-use Rattle.refusals.specs.declared.Answer.{Answer}
+use Rattle.refusals.specs.declared.answer.Answer.{Answer}
 use Rattle.refusals.proofs.AnswerLaws.{answers_none}
 use Rattle.rebuild_one.specs.RebuildOneSays.{one_refusal, OneSays}
 use Rattle.rebuild_two.specs.Says.{two_refusal, TwoSays}

@@ -18,7 +18,7 @@ use Rattle.liberation.proofs.ParityServer.ServerLaws.{servers_of}
 use Rattle.liberation.proofs.ParityServer.Writing.{written_servers, written_other, written_cell, written_clean, written_cleans}
 use Rattle.liberation.proofs.ParityServer.ServerBack.{rebuilt_servers, rebuilt_other, rebuilt_off, rebuilt_lost, servers_back, rebuilt_alike}
 use Rattle.liberation.proofs.ParityServer.Unread.{refusal_unread, rebuilt_unread}
-use Rattle.refusals.specs.declared.Answer.{Answer}
+use Rattle.refusals.specs.declared.answer.Answer.{Answer}
 use Rattle.refusals.proofs.AnswerLaws.{answers_none}
 use Rattle.parity_server.specs.Says.{WriteServerSays, RebuildServerSays}
 

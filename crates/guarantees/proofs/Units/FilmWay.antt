@@ -17,7 +17,7 @@ use Rattle.liberation.specs.Judging.{steps_in}
 use Rattle.liberation.specs.Stripes.Stripes.{cell_at, column_of, is_stripe, clean}
 use Rattle.liberation.proofs.Stripes.StripeCellLaws.{cell_long, cell_fits, cells_equal, column_cell}
 use Rattle.liberation.proofs.Stripes.Rebuilding.{plan_back, plan_only_read}
-use Rattle.refusals.specs.declared.Answer.{Answer}
+use Rattle.refusals.specs.declared.answer.Answer.{Answer}
 use Rattle.host_plans.specs.PlanListSays.{PlanListSays}
 use Rattle.rebuild_cells.specs.Theory.Mending.{Determined}
 use Rattle.unit_sums.specs.Sums.{block_of, is_sealed, fits}

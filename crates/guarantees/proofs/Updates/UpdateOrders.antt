@@ -18,7 +18,7 @@ use Rattle.liberation.proofs.Stripes.Solving.{stripe_of}
 use Rattle.liberation.specs.Update.Updates.{updated}
 use Rattle.liberation.proofs.Update.Updating.{updated_long}
 use Rattle.liberation.proofs.Update.UpdateOrder.{updates_turn, updates_again}
-use Rattle.refusals.specs.declared.Answer.{Answer}
+use Rattle.refusals.specs.declared.answer.Answer.{Answer}
 use Rattle.refusals.proofs.AnswerLaws.{answers_none}
 use Rattle.update.specs.Says.{update_lengths_refusal, update_refusal, UpdateSays}
 use Rattle.update.proofs.UpdateRefusals.{refusal_none}

@@ -23,7 +23,7 @@ use Rattle.liberation.specs.Update.Updates.{is_extra, holders, parity_of, update
 use Rattle.liberation.proofs.Update.HolderLaws.{in_holders, holders_distinct, holders_count, extra_some, extra_any}
 use Rattle.liberation.proofs.Update.ParityCells.{parity_row, parity_diagonal, parity_cases}
 use Rattle.liberation.proofs.Update.Updating.{updated_stripe, updated_new, updated_parity, updated_byte, updated_set, updated_clean, updated_encoded}
-use Rattle.refusals.specs.declared.Answer.{Answer}
+use Rattle.refusals.specs.declared.answer.Answer.{Answer}
 use Rattle.refusals.proofs.AnswerLaws.{answers_none}
 use Rattle.refusals.specs.StripeSays.{stripe_refusal}
 use Rattle.encode.specs.Says.{EncodeSays}

@@ -4,7 +4,7 @@
 -- The limits of each call stand in `Calls`. A prime is what a call leaves in what was lent; of a
 -- call that writes none, every other field of its answer is zero or false.
 use Rattle.std.specs.Prelude.{◌≡◌, Bool, false, List, [], ℕ}
-use Rattle.refusals.specs.declared.Answer.{Answer}
+use Rattle.refusals.specs.declared.answer.Answer.{Answer}
 use Rattle.planner.specs.StepRecords.{Holds}
 use Rattle.planner.specs.declared.Plan.{Plan}
 use Rattle.planner.specs.PlanSays.{PlanSays}
@@ -47,8 +47,7 @@ use Rattle.billing.specs.Bills.{BillSays, RunBillSays}
 use Rattle.space.specs.declared.Space.{Space}
 use Rattle.space.specs.Says.{SpaceSays}
 use Rattle.array_states.specs.declared.ArrayState.{ArrayState}
-use Rattle.array_states.specs.declared.StateAnswer.{StateAnswer}
-use Rattle.array_states.specs.States.{StateSays}
+use Rattle.array_states.specs.States.{StateAnswer, StateSays}
 use Rattle.array_states.specs.Scanning.{no_totals}
 use Rattle.array_states.specs.declared.board.Board.{Board}
 use Rattle.array_states.specs.Reports.{ReportSays}

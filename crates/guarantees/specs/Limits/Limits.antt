@@ -1,7 +1,7 @@
 -- The limits of a call, in the order in which they are tested, each with the refusal outside it
 -- (document 01, "Reasons to turn a call away"): "A refusal returns its number and a place".
 use Rattle.std.specs.Prelude.{◌≡◌, ◌⊎◌, ℕ, ◌<◌}
-use Rattle.refusals.specs.declared.Answer.{Answer}
+use Rattle.refusals.specs.declared.answer.Answer.{Answer}
 
 -- refusal n with a place, outside a limit
 pub data Limits : Type 1 where

@@ -4,7 +4,7 @@ use Rattle.std.specs.Prelude.{◌≡◌, true, false, List, ◌⊎◌, ℕ, ◌+
 use Rattle.mathematics.specs.Xor.{all_bytes}
 use Rattle.liberation.specs.Sets.{place}
 use Rattle.liberation.specs.Stripes.Stripes.{cell_at, stripe_long}
-use Rattle.refusals.specs.declared.Answer.{Answer}
+use Rattle.refusals.specs.declared.answer.Answer.{Answer}
 use Rattle.encode.specs.Says.{EncodeSays}
 use Rattle.host_plans.specs.RebuildByPlanSays.{ByPlanSays}
 use Rattle.rebuild_cells.specs.Theory.Mending.{Determined}

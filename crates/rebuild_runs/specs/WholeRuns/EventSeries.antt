@@ -6,7 +6,7 @@ use Rattle.mathematics.specs.Choice.{pick, first_of}
 use Rattle.liberation.specs.Sets.{width_refusal, size_refusal, disk_refusal, numbers_refusal}
 use Rattle.liberation.specs.Plans.{plan_of, read_count}
 use Rattle.liberation.specs.Stripes.Stripes.{stripe_long, rebuilt}
-use Rattle.refusals.specs.declared.Answer.{Answer}
+use Rattle.refusals.specs.declared.answer.Answer.{Answer}
 use Rattle.rebuild_runs.specs.declared.Run.{Run}
 use Rattle.rebuild_runs.specs.declared.starts.FullRun.{FullRun}
 use Rattle.rebuild_runs.specs.declared.starts.DisksRun.{DisksRun}

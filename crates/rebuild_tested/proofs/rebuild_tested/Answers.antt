@@ -1,41 +1,18 @@
 -- `rebuild_tested`: a refusal leaves the column as it was; else the survivors fit, and the disk is
 -- rebuilt.
-use mathlib.Core.Path.{◌≡◌, sym, ◌∙◌}
-use mathlib.Core.Bool.{true}
-use Rattle.mathematics.specs.Xor.{all_bytes}
+use borrow.Author.Rules.{rules}
 use Rattle.xor.proofs.SourceLaws.{bytes_all}
-use Rattle.rebuild_tested.specs.Says.{tested_refusal}
-use Rattle.rebuild_tested.proofs.TestedRefusals.{tested, refused, accepted}
+use Rattle.rebuild_tested.proofs.TestedRefusals.{refused_tested, accepted_tested}
 use Rattle.rebuild_tested.proofs.rebuild_tested.Goals as goal
 
--- the lent stripe is bytes
-bytes : (c : goal.After-answered) → all_bytes c.args.stripe.now ≡ true
-bytes c = bytes_all c.args.stripe.now c.shared_slice_known-1.given
-
--- past the refusals
-passed : (c : goal.After-tested_column-arg-1) → let a = c.args in tested_refusal a.shape.width a.shape.disks a.shape.cell_size a.lost a.stripe.now a.column.now ≡ 0
-passed c = sym c.tested_refusal-refusal.ensures ∙ c.if-refusal-ne0.false
-
--- the lent stripe is bytes
-bytes_2 : (c : goal.After-answered-2) → all_bytes c.args.stripe.now ≡ true
-bytes_2 c = bytes_all c.args.stripe.now c.shared_slice_known-1.given
-
--- past the refusals
-passed_2 : (c : goal.After-answered-2) → let a = c.args in tested_refusal a.shape.width a.shape.disks a.shape.cell_size a.lost a.stripe.now a.column.now ≡ 0
-passed_2 c = sym c.tested_refusal-refusal.ensures ∙ c.if-refusal-ne0.false
-
-pub returns-then-refusal-ne0 : goal.returns-then-refusal-ne0
-returns-then-refusal-ne0 c =
-    let f = c.tested_refusal-refusal in
+pub returns-in_err-disk : goal.returns-in_err-disk
+returns-in_err-disk c =
     let a = c.args in
-    refused a.shape.width a.shape.disks a.shape.cell_size a.lost f.result a.stripe.now a.column.now c.answered.result f.ensures c.if-refusal-ne0.true c.answered.ensures (bytes c)
-
-pub tested_column-requires : goal.tested_column-requires
-tested_column-requires c =
-    let a = c.args in
-    tested a.shape.width a.shape.disks a.shape.cell_size a.lost a.stripe.now a.column.now (passed c)
+    let s = a.shape in
+    refused_tested s.width s.disks s.cell_size a.lost a.stripe.now a.column.now c.from_residual.result c.from_residual.ensures.0 (search rules) (bytes_all a.stripe.now c.type_inv.stripe)
 
 pub returns : goal.returns
 returns c =
     let a = c.args in
-    accepted a.shape.width a.shape.disks a.shape.cell_size a.lost a.stripe.now a.column.now c.tested_column.new.column c.answered-2.result (passed_2 c) c.tested_column.ensures c.answered-2.ensures (bytes_2 c)
+    let s = a.shape in
+    accepted_tested s.width s.disks s.cell_size a.lost a.stripe.now a.column.now c.tested_column.new.column c.in_ok-disk.ensures.refusal (search rules) (bytes_all a.stripe.now c.type_inv.stripe)

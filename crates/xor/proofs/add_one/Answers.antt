@@ -10,7 +10,7 @@ pub loop-i-init : goal.loop-i-init
 loop-i-init c =
     let o = c.args in
     let n = length o.dst.now in
-    stored_none o.dst.now _ 0 n (omega arith) (xor_long (record { size = refl }) (part_long o.t.now o.a n c.requires))
+    (stored_none o.dst.now _ 0 n (omega arith) (xor_long (record { size = refl }) (part_long o.t.now o.a n c.requires)), c.type_inv.dst)
 
 pub loop-i-preserved : goal.loop-i-preserved
 loop-i-preserved c =
@@ -19,7 +19,7 @@ loop-i-preserved c =
     let i = c.loop-i.i in
     let n = length o.dst.now in
     let h : i < n = omega arith in
-    stored_more i (omega arith) st (of_xor (of_whole st h refl (c.slice_known-1.given i)) (of_part o.t.now o.a n i h c.requires (c.shared_slice_known-1.given (o.a + i))))
+    (stored_more i (omega arith) st.0 (of_xor (of_whole st.0 h refl (st.1 i)) (of_part o.t.now o.a n i h c.requires (c.type_inv.t (o.a + i)))), st.1)
 
 pub returns : goal.returns
-returns c = stored_whole c.loop-i.invariant (omega arith) refl
+returns c = stored_whole c.loop-i.invariant.0 (omega arith) refl

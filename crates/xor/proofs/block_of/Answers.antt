@@ -1,19 +1,9 @@
 -- `block_of`: zeros, and all parts added.
-use mathlib.Core.Path.{◌≡◌, sym, subst, ap, ◌∙◌}
+use mathlib.Core.Path.{refl}
 use Prim.Native.Nat.{ℕ}
-use lib.ListN.{length, length-replicate}
-use Rattle.xor.specs.Reach.{Reached}
+use lib.ListN.{length, replicate, length-replicate}
 use Rattle.xor.proofs.BlockLaws.{block_is}
 use Rattle.xor.proofs.block_of.Goals as goal
 
-long : (c : goal.After-block-1) → length c.no_block-block.result ≡ 64
-long c = ap length c.no_block-block.ensures ∙ length-replicate {A = ℕ} 64 0
-
-long_2 : (c : goal.After-block-2-1) → length c.no_block-block.result ≡ 64
-long_2 c = ap length c.no_block-block.ensures ∙ length-replicate {A = ℕ} 64 0
-
-pub add_all-requires : goal.add_all-requires
-add_all-requires c = subst (λ (m : ℕ). Reached m (length c.args.t.now) c.args.at.now) (sym (long c)) c.requires
-
 pub returns : goal.returns
-returns c = block_is 64 (length c.no_block-block.result) c.args.t.now c.args.at.now c.no_block-block.result c.add_all.new.dst c.no_block-block.ensures (long_2 c) c.requires.inside c.add_all.ensures
+returns g c = block_is g.row.N (length (replicate {A = ℕ} g.row.N 0)) c.args.t.now c.args.at.now (replicate g.row.N 0) c.add_all.new.dst refl (length-replicate {A = ℕ} g.row.N 0) c.requires.inside c.add_all.ensures

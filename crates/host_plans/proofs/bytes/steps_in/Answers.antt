@@ -1,24 +1,35 @@
 -- `steps_in`: each turn copies the three bytes of a step to their places.
-use mathlib.Core.Path.{◌≡◌, refl, ap}
-use Prim.Native.Nat.{ℕ, ◌+◌, ◌*◌, ◌<◌}
-use native.Mathlib.Omega.{arith}
-use lib.ListN.{get_or, length-replicate}
-use Rattle.host_plans.proofs.FillLaws.{has_none, has_next, all_steps}
+use Rattle.std.proofs.Common.{rules, ◌<◌, ◌∙◌, arith}
+use Rattle.std.specs.Iterator.Adapters.{enumerate_count}
+use Rattle.host_plans.proofs.FillLaws.{filled_none, filled_room, filled_next, filled_all}
 use Rattle.host_plans.proofs.bytes.steps_in.Goals as goal
 
-pub loop-i-init : goal.loop-i-init
-loop-i-init c = (omega arith, has_none 0 _ _ (length-replicate {A = ℕ} 31 0), has_none 1 _ _ (length-replicate {A = ℕ} 31 0), has_none 2 _ _ (length-replicate {A = ℕ} 31 0))
+pub loop-place-init : goal.loop-place-init
+loop-place-init c = record {
+  can_next = search rules;
+  is_finite = search rules;
+  by_three = search rules;
+  filled = filled_none c.args.plan.now _ _ _ (search rules) (search rules) c.none-steps.ensures;
+}
 
-pub loop-i-preserved : goal.loop-i-preserved
-loop-i-preserved c =
-    let l = c.loop-i in
-    let bs = c.args.plan.now in
-    let w : l.i < 31 = omega (arith, c.requires.0) in
-    let z : 3 * l.i ≡ 3 * l.i + 0 = omega arith in
-    (omega arith, has_next 0 _ bs l.rows l.i w (ap (λ (j : ℕ). get_or bs j 0) z) l.invariant.1, has_next 1 _ bs l.kinds l.i w refl l.invariant.2, has_next 2 _ bs l.numbers l.i w refl l.invariant.3)
+pub bounds-steps-place : goal.bounds-steps-place
+bounds-steps-place c =
+    let s = c.in-Some.ensures.steps in
+    let l = c.loop-place in
+    omega (arith, s.1, filled_room c.in-Some.bytes.now _ s.0.1.0 (s.0.1.1 ∙ l.invariant.by_three) l.invariant.filled, c.requires, c.args.array.widest)
+
+pub loop-place-preserved : goal.loop-place-preserved
+loop-place-preserved c =
+    let s = c.in-Some.ensures.steps in
+    let l = c.loop-place in
+    let k = s.0.1.1 ∙ l.invariant.by_three in
+    let h : enumerate_count l.place-iterator < 31 = omega (arith, filled_room c.in-Some.bytes.now _ s.0.1.0 k l.invariant.filled, c.requires, c.args.array.widest) in
+    record {
+      can_next = search rules;
+      is_finite = search rules;
+      by_three = search rules;
+      filled = rw s.1 (filled_next c.in-Some.bytes.now _ _ s.2 h s.0.1.0 k l.invariant.filled);
+    }
 
 pub returns : goal.returns
-returns c =
-    let a = c.args in
-    let l = c.loop-i in
-    all_steps a.width l.i _ _ _ _ (omega (arith, l.invariant.0)) l.invariant.1 l.invariant.2 l.invariant.3
+returns c = filled_all c.args.array.width c.requires (search rules) c.loop-place.invariant.filled

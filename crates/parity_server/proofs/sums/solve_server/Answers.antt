@@ -1,35 +1,26 @@
--- `solve_server`: the offsets of the other stripes are pushed, and their XOR is put in the place of
--- this one, apart from which they lie.
-use mathlib.Core.Path.{sym}
-use Prim.Native.Nat.{◌*◌}
+-- `solve_server`: the other stripes lie apart from this one, and their XOR is put in its place.
+use mathlib.Core.Path.{◌≡◌, sym, ap, ◌∙◌}
+use mathlib.Core.List.{List}
+use Prim.Native.Nat.{ℕ, ◌+◌, ◌*◌}
+use native.Mathlib.Numerals.{add-one}
 use native.Mathlib.Omega.{arith}
-use lib.ListN.{length, take}
-use lib.Seq.{length-take-le}
-use Rattle.xor_in_place.specs.Beside.{Apart}
+use lib.ListN.{length}
+use Rattle.liberation.specs.Stripes.Stripes.{stripe_long}
+use Rattle.parity_server.specs.declared.servers.Servers.{Servers}
+use Rattle.parity_server.specs.Turns.{AreStripesOf}
 use Rattle.parity_server.proofs.OtherServers.{others_apart, others_solve}
 use Rattle.parity_server.proofs.sums.solve_server.Goals as goal
 
-lies : (c : goal.After-gather_lists-arg-1) → let a = c.args in Apart (a.server * a.long) a.long (length a.stripes.now) (take c.push_others-n.result c.push_others-n.new.at)
-lies c =
+-- the bytes of all stripes
+whole : (s : Servers) (ts : List ℕ) → AreStripesOf s ts → length ts ≡ (s.count + 1) * stripe_long s.geometry.array.width s.geometry.array.disks s.geometry.cell_size
+whole s ts e = e ∙ sym (ap (λ (n : ℕ). n * stripe_long s.geometry.array.width s.geometry.array.disks s.geometry.cell_size) (add-one s.count))
+
+pub gather-requires : goal.gather-requires
+gather-requires c =
     let a = c.args in
-    others_apart a.long a.servers a.server c.push_others-n.result _ c.push_others-n.new.at a.stripes.now c.requires.1 c.requires.2 c.requires.3 c.push_others-n.ensures
-
-lies_2 : (c : goal.After-at-3-1) → let a = c.args in Apart (a.server * a.long) a.long (length a.stripes.now) (take c.push_others-n.result c.push_others-n.new.at)
-lies_2 c =
-    let a = c.args in
-    others_apart a.long a.servers a.server c.push_others-n.result _ c.push_others-n.new.at a.stripes.now c.requires.1 c.requires.2 c.requires.3 c.push_others-n.ensures
-
-pub overflow_mul-server : goal.overflow_mul-server
-overflow_mul-server c = omega (arith, (lies c).fits)
-
-pub slice_bounds-gather_lists-end : goal.slice_bounds-gather_lists-end
-slice_bounds-gather_lists-end c = let v = c.push_others-n in sym (length-take-le v.result v.new.at v.ensures.fits)
-
-pub gather_lists-requires : goal.gather_lists-requires
-gather_lists-requires c = lies_2 c
+    (omega arith, rw c.stripe_bytes-long.ensures.0 (others_apart _ a.servers.count a.server c.other_stripes.result a.stripes.now a.servers.many c.requires.1 (whole a.servers a.stripes.now c.requires.0) c.other_stripes.ensures))
 
 pub returns : goal.returns
 returns c =
-    let g = c.gather_lists in
     let a = c.args in
-    others_solve a.long a.servers a.server c.push_others-n.result _ c.push_others-n.new.at a.stripes.now c.requires.1 c.requires.2 c.requires.3 c.push_others-n.ensures g.new.t g.ensures
+    others_solve _ a.servers.count a.server c.other_stripes.result a.stripes.now a.servers.many c.requires.1 (whole a.servers a.stripes.now c.requires.0) c.other_stripes.ensures c.gather.new.stripe (rw c.stripe_bytes-long.ensures.0 at c.gather.ensures)

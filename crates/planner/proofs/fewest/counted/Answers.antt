@@ -1,34 +1,30 @@
 -- `counted`: the plan by the routes, and its reads counted.
-use mathlib.Core.Path.{◌≡◌, ap, ◌∙◌}
-use native.Mathlib.Omega.{arith}
-use lib.ListN.{length, take, length-take}
-use borrow.Author.Rules.{rules}
+use Rattle.std.proofs.Common.{◌≡◌, ap, subst, ◌∙◌, arith, length}
+use Rattle.refusals.proofs.WithinLimits.{in_array}
+use Rattle.refusals.specs.declared.array.Array.{Array}
 use Rattle.liberation.specs.Judging.{accepted}
+use Rattle.planner.specs.PlanSays.{Finished}
+use Rattle.planner.specs.RouteRecords.{rows_in}
+use Rattle.planner.specs.declared.routes.Routes.{Routes}
+use Rattle.planner.proofs.RouteLaws.{long}
 use Rattle.planner.proofs.FewestLaws.{routes_accepted, routes_held, routed_is}
 use Rattle.planner.proofs.fewest.counted.Goals as goal
 
-long : (c : goal.After-by_routes-p) → length c.args.r.routes ≡ 31
-long c = search rules
-
-long_2 : (c : goal.After-finished) → length c.args.r.routes ≡ 31
-long_2 c = search rules
-
-size : (c : goal.After-by_routes-p) → length (take c.args.width c.args.r.routes) ≡ c.args.width
-size c = simp length-take (omega (arith, long c, c.requires.0.widest))
-
-size_2 : (c : goal.After-finished) → length (take c.args.width c.args.r.routes) ≡ c.args.width
-size_2 c = simp length-take (omega (arith, long_2 c, c.requires.0.widest))
-
-pub by_routes-p-requires : goal.by_routes-p-requires
-by_routes-p-requires c = (c.requires.0.widest, omega (arith, c.requires.1, c.requires.0.disks), c.requires.2)
+-- a route for each row
+size : (r : Routes) → length (rows_in r) ≡ r.array.width
+size r = long r.array.width r.routes r.array.widest r.long
 
 pub finished-requires : goal.finished-requires
 finished-requires c =
-    let a = c.args in
-    let rs = take a.width a.r.routes in
-    (c.requires.0, omega (arith, c.requires.1), ap (accepted a.width a.disks a.lost) (routes_held a.width a.disks a.lost rs c.by_routes-p.result.steps c.requires.0 c.requires.1 (size c) c.by_routes-p.ensures.steps) ∙ routes_accepted a.width a.disks a.lost rs c.requires.0 c.requires.1 (size c))
+    let r = c.args.routes in
+    let a = r.array in
+    let f = c.args.lost in
+    let rs = rows_in r in
+    rw c.array.ensures (omega (arith, c.requires), ap (accepted a.width a.disks f) (routes_held a.width a.disks f rs c.by_routes.result.steps (in_array a) c.requires (size r) c.by_routes.ensures.steps) ∙ routes_accepted a.width a.disks f rs (in_array a) c.requires (size r))
 
 pub returns : goal.returns
 returns c =
-    let a = c.args in
-    routed_is a.width a.disks a.lost (take a.width a.r.routes) c.by_routes-p.result c.finished.result c.requires.0 c.requires.1 (size_2 c) c.by_routes-p.ensures c.finished.ensures
+    let r = c.args.routes in
+    let a = r.array in
+    let f = c.args.lost in
+    routed_is a.width a.disks f (rows_in r) c.by_routes.result c.finished.result (in_array a) c.requires (size r) c.by_routes.ensures (subst (λ (x : Array). Finished x.width x.disks f c.by_routes.result c.finished.result) c.array.ensures c.finished.ensures)

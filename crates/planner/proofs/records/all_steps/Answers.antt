@@ -1,28 +1,24 @@
--- `all_steps`: each turn adds the next set of the kind. The invariant: the steps so far, with those
--- still to come, are all; a set has its row's number.
-use mathlib.Core.Path.{◌≡◌, ap}
-use Prim.Native.Nat.{ℕ, ◌+◌, ◌-◌}
-use native.Mathlib.Omega.{arith}
-use lib.ListN.{replicate}
-use Rattle.liberation.specs.Plans.{step, all_of}
-use Rattle.planner.proofs.StepRecord.{collect_start, collect_push, collect_skip, collect_end, all_some, all_last}
+-- `all_steps`: the steps so far, and those of the rows still to come, are all.
+use Rattle.std.proofs.Common.{List, ◌∷◌, ◌++◌, [], subst, ℕ, ◌+◌, length, ap, ap₂, ◌∙◌}
+use Rattle.std.proofs.lemmas.List.{length-append}
+use Rattle.liberation.specs.Plans.{Step, step}
+use Rattle.planner.specs.StepRecords.{Holds}
+use Rattle.planner.specs.StepLists.{steps_put}
+use Rattle.planner.proofs.StepRecord.{push, over, all_some, all_last}
 use Rattle.planner.proofs.records.all_steps.Goals as goal
 
-pub loop-row-init : goal.loop-row-init
-loop-row-init c =
-    let a = c.args in
-    let z : a.width ≡ a.width - 0 = omega arith in
-    (omega arith, collect_skip _ _ _ (replicate 31 0) (replicate 31 0) (replicate 31 0) 0 (ap (λ (n : ℕ). all_of n a.kind 0) z) (collect_start (all_of a.width a.kind 0)))
-
 pub loop-row-preserved : goal.loop-row-preserved
-loop-row-preserved c =
+loop-row-preserved g c =
     let a = c.args in
     let l = c.loop-row in
-    (omega arith, collect_push (all_of a.width a.kind 0) (all_of (a.width - (l.row + 1)) a.kind (l.row + 1)) (all_of (a.width - l.row) a.kind l.row) (step l.row a.kind l.row) l.rows l.kinds l.rows l.row (all_some a.width a.kind l.row (omega arith)) (omega arith) l.invariant.1)
+    let p = a.array.width in
+    record {
+      count = ap length c.push.ensures ∙ length-append (steps_put l.list) _ ∙ ap (λ (n : ℕ). n + 1) l.invariant.count;
+      steps = λ t k. push (steps_put l.list) (step l.row t l.row) (all_some p t l.row c.loop-row-test.true) (l.invariant.steps t k) (c.push.ensures ∙ ap₂ (λ (x y : ℕ). steps_put l.list ++ (step l.row x y ∷ [])) (k l.row c.set.result c.loop-row-test.true c.set.ensures) (c.requires.numbered l.row c.set.result c.loop-row-test.true c.set.ensures));
+    }
 
 pub returns : goal.returns
-returns c =
-    let a = c.args in
+returns g c =
+    λ t k.
     let l = c.loop-row in
-    let k = collect_end (all_of a.width a.kind 0) (all_of (a.width - l.row) a.kind l.row) l.rows l.kinds l.rows l.row (all_last a.width a.kind l.row c.loop-row-test.false) l.invariant.1 in
-    record { rows = k.rows; kinds = k.kinds; numbers = k.numbers }
+    subst (λ (ss : List Step). Holds ss l.list.steps) (over (steps_put l.list) (all_last c.args.array.width t l.row c.loop-row-test.false) (l.invariant.steps t k)) l.list.holds

@@ -1,24 +1,19 @@
--- `lightest`: of the unknowns looked at the best one is chosen.
+-- `lightest`: of the unknowns looked at one that is left is chosen, or none is left.
+use mathlib.Core.Path.{sym, ◌∙◌}
 use native.Mathlib.Omega.{arith}
-use Rattle.rebuild_cells.proofs.NearestLoops.{chosen_none, chosen_end}
+use lib.ListN.{length}
+use Rattle.rebuild_cells.proofs.NearestLoops.{chosen_off, chosen_kept}
 use Rattle.rebuild_cells.proofs.nearest.lightest.Goals as goal
-
-pub loop-x-init : goal.loop-x-init
-loop-x-init c = let a = c.args in (omega arith, omega arith, chosen_none a.n a.left)
-
-pub better-best-requires : goal.better-best-requires
-better-best-requires c =
-    let l = c.loop-x in
-    (c.requires.0, c.requires.1, l.invariant.1, omega arith, l.invariant.2)
-
-pub overflow_add-x : goal.overflow_add-x
-overflow_add-x c = omega (arith, c.requires.0, c.requires.1)
+use Rattle.rebuild_cells.proofs.nearest.lightest.Goals.{then-has_bit+then-is_lighter, else-has_bit, else-has_bit-via-then-has_bit+else-is_lighter, else-has_bit-via-else-has_bit}
 
 pub loop-x-preserved : goal.loop-x-preserved
-loop-x-preserved c = (omega arith, c.better-best.ensures.0, c.better-best.ensures.1)
-
-pub returns : goal.returns
-returns c =
+loop-x-preserved c =
     let l = c.loop-x in
-    let a = c.args in
-    (l.invariant.1, chosen_end a.n l.x a.left l.best (omega arith) l.invariant.2)
+    let n = length c.args.near.now in
+    elim c.if-has_bit.branch [
+      | then-has_bit+then-is_lighter w ↦ rw w.best-is (omega arith, sym c.has_bit.ensures ∙ w.if-has_bit.true)
+      | else-has_bit w ↦ rw w.best-is (elim w.else-has_bit.branch [
+        | else-has_bit-via-then-has_bit+else-is_lighter v ↦ chosen_kept n l.x c.args.left l.best (v.is_lighter.ensures v.if-is_lighter.false) l.invariant
+        | else-has_bit-via-else-has_bit v ↦ chosen_off n l.x c.args.left l.best (sym c.has_bit.ensures ∙ v.if-has_bit.false) l.invariant
+      ])
+    ]

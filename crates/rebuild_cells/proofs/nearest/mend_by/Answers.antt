@@ -1,19 +1,24 @@
--- `mend_by`: a word that names the cell's row set alone is that set.
+-- `mend_by`: a word that names the cell's row set or its diagonal alone is that set.
 use mathlib.Core.Path.{◌∙◌}
-use native.Mathlib.Nat.{mod-lt}
-use native.Mathlib.Omega.{arith}
-use Rattle.rebuild_cells.proofs.SetSteps.{row_ordinary, row_solved}
+use Prim.Native.Nat.{◌+◌, ◌*◌}
+use Rattle.mathematics.proofs.MemberLaws.{in_below}
+use Rattle.rebuild_cells.specs.Theory.Mending.{odd_cells}
+use Rattle.rebuild_cells.proofs.SetSteps.{alone_ordinary, alone_solved}
+use Rattle.rebuild_cells.proofs.Theory.OddCells.{cells_below}
 use Rattle.rebuild_cells.proofs.nearest.mend_by.Goals as goal
-
-pub bit_of-requires : goal.bit_of-requires
-bit_of-requires c = omega (arith, mod-lt c.args.cell c.requires.0.array.some, c.requires.0.array.widest)
 
 pub solve-requires : goal.solve-requires
 solve-requires c =
     let a = c.args in
-    (c.requires.0, row_ordinary a.width a.disks a.cell a.word c.requires.0.array.some (c.if-word-bit_of.true ∙ c.bit_of.ensures) c.requires.1)
+    record { stripe_len = c.requires.0; ordinary = alone_ordinary a.geometry.array a.cell a.word c.in-Some.set c.in-Some.ensures c.requires.1 }
 
-pub returns-then-word-bit_of : goal.returns-then-word-bit_of
-returns-then-word-bit_of c =
+pub returns-in-Some : goal.returns-in-Some
+returns-in-Some c =
     let a = c.args in
-    c.solve.ensures ∙ row_solved a.width a.disks a.size a.cell a.word a.stripe.now c.requires.0 (c.if-word-bit_of.true ∙ c.bit_of.ensures) c.requires.1
+    c.solve.ensures ∙ alone_solved a.geometry a.cell a.word c.in-Some.set a.stripe.now c.requires.0 c.in-Some.ensures c.requires.1
+
+pub mend_cell-requires : goal.mend_cell-requires
+mend_cell-requires c =
+    let a = c.args.geometry.array in
+    let w = c.args.word in
+    (c.requires.0, in_below (a.width * (a.disks + 2)) c.args.cell (odd_cells a.width a.disks w) (cells_below a.width a.disks a.some w) c.requires.1)

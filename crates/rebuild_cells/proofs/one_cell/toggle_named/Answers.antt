@@ -1,32 +1,23 @@
--- `toggle_named`: each turn toggles for a set. The invariant: the sets still to come, toggled in
--- the marks as they are, give what all give in the marks as they were.
-use mathlib.Core.Path.{refl, ◌∙◌}
+-- `toggle_named`: each turn toggles for a set, if the word names it.
 use native.Mathlib.Omega.{arith}
-use Rattle.rebuild_cells.proofs.NamedLaws.{named_turn, named_end}
+use mathlib.Core.Path.{sym, ◌∙◌}
+use Rattle.rebuild_cells.proofs.NamedLaws.{named_on, named_off, named_end}
 use Rattle.rebuild_cells.proofs.one_cell.toggle_named.Goals as goal
 
-pub overflow_mul-i : goal.overflow_mul-i
-overflow_mul-i c = omega (arith, c.requires.0.widest)
-
-pub loop-i-init : goal.loop-i-init
-loop-i-init c = (omega arith, refl, refl)
-
-pub toggle_if-requires : goal.toggle_if-requires
-toggle_if-requires c =
-    let l = c.loop-i in
-    (c.requires.0, omega (arith, l.invariant.0), l.invariant.1 ∙ c.requires.1)
-
-pub loop-i-preserved : goal.loop-i-preserved
-loop-i-preserved c =
-    let l = c.loop-i in
+pub loop-number-preserved-then-has_bit : goal.loop-number-preserved-then-has_bit
+loop-number-preserved-then-has_bit c =
     let a = c.args in
-    (omega arith, c.toggle_if.auto.marks ∙ l.invariant.1, named_turn a.width a.disks a.word l.i l.marks c.toggle_if.new.marks (omega arith) c.toggle_if.ensures ∙ l.invariant.2)
+    let l = c.loop-number in
+    named_on a.array.width a.array.disks a.word l.number _ _ l.marks c.toggle_set.new.marks (sym c.has_bit.ensures ∙ c.if-has_bit.true) (omega arith) c.set_numbered.ensures.1 c.toggle_set.ensures ∙ l.invariant
 
-pub shape_of-marks : goal.shape_of-marks
-shape_of-marks c = c.loop-i.invariant.1
+pub loop-number-preserved : goal.loop-number-preserved
+loop-number-preserved c =
+    let a = c.args in
+    let l = c.loop-number in
+    named_off a.array.width a.array.disks a.word l.number _ l.marks (sym c.has_bit.ensures ∙ c.if-has_bit.false) (omega arith) ∙ l.invariant
 
 pub returns : goal.returns
 returns c =
-    let l = c.loop-i in
     let a = c.args in
-    named_end a.width a.disks a.word l.i l.marks (omega arith) ∙ l.invariant.2
+    let l = c.loop-number in
+    named_end a.array.width a.array.disks a.word l.number l.marks (omega arith) ∙ l.invariant

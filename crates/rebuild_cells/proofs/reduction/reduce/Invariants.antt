@@ -3,12 +3,9 @@
 use mathlib.Core.Path.{◌≡◌}
 use Prim.Native.Nat.{◌-◌, ◌≤◌}
 use lib.ListN.{length}
-use Rattle.mathematics.specs.BitRows.Rows.{rows, reduced_from}
+use Rattle.mathematics.specs.BitRows.Rows.{reduced_from}
+use Rattle.rebuild_cells.specs.RowLists.{rows_of}
 use Rattle.rebuild_cells.proofs.reduction.reduce.Given as goal
 
 abbrev pub invariant-loop-b : goal.invariant-loop-b
-invariant-loop-b l = (l.b ≤ l.unknowns) × (l.b ≤ length l.initial.words) × (length l.words ≡ length l.initial.words) × (length l.sums ≡ length l.initial.sums)
-    × (reduced_from (l.unknowns - l.b) (length l.initial.words) l.b (rows l.words l.sums) ≡ reduced_from l.unknowns (length l.initial.words) 0 (rows l.initial.words l.initial.sums))
-
-abbrev pub decreases-loop-b : goal.decreases-loop-b
-decreases-loop-b l = l.unknowns - l.b
+invariant-loop-b l = (l.b ≤ length l.initial.rows) × (reduced_from (l.unknowns - l.b) (length l.initial.rows) l.b (rows_of l.rows) ≡ reduced_from l.unknowns (length l.initial.rows) 0 (rows_of l.initial.rows))

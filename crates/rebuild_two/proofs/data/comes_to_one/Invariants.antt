@@ -5,8 +5,5 @@ use Prim.Native.Nat.{◌-◌, ◌/◌, ◌<◌}
 use Rattle.liberation.specs.TwoDisks.Pairs.{comes_to_one}
 use Rattle.rebuild_two.proofs.data.comes_to_one.Given as goal
 
-abbrev pub invariant-loop-left : goal.invariant-loop-left
-invariant-loop-left l = (l.at < l.width) × (comes_to_one l.left l.width l.gap l.at ≡ comes_to_one ((l.width - 1) / 2) l.width l.gap l.gap)
-
-abbrev pub decreases-loop-left : goal.decreases-loop-left
-decreases-loop-left l = l.left
+abbrev pub invariant-loop : goal.invariant-loop
+invariant-loop l = (l.multiple < l.array.width) × (comes_to_one (l.end - l.counter) l.array.width l.gap l.multiple ≡ comes_to_one ((l.array.width - 1) / 2) l.array.width l.gap l.gap)

@@ -4,40 +4,33 @@ use mathlib.Core.Path.{refl, sym, ap, ◌∙◌}
 use Prim.Native.Nat.{ℕ, ◌+◌, ◌%◌}
 use native.Mathlib.Omega.{arith}
 use Rattle.liberation.proofs.RowSteps.{ordinary_row}
-use Rattle.parity_sets.proofs.NumberLaws.{numbered}
 use Rattle.stripe_cells.proofs.OrdinaryLaws.{diagonal_own}
-use Rattle.liberation.proofs.Stripes.SizedLaws.{sized_kept}
 use Rattle.rebuild_two.proofs.UpLaws.{up_first, up_turn, up_last}
 use Rattle.rebuild_two.proofs.with_parity.up_diagonals.Goals as goal
 
-pub loop-i-init : goal.loop-i-init
-loop-i-init c = let a = c.args in (omega arith, refl, up_first a.width a.disks a.size a.disk a.stripe.now)
-
-pub diagonal_of-number-requires : goal.diagonal_of-number-requires
-diagonal_of-number-requires c =
-    let q = c.requires in
-    (q.sized.array.widest, omega arith, omega (arith, q.disk_lt_disks, q.sized.array.disks))
+pub loop-row-init : goal.loop-row-init
+loop-row-init c = let g = c.args.geometry in (refl, up_first g.array.width g.array.disks g.cell_size c.args.disk c.args.stripe.now)
 
 pub solve-requires : goal.solve-requires
 solve-requires c =
-    let a = c.args in
-    let l = c.loop-i in
-    let n = c.diagonal_of-number.result in
-    let b = numbered a.width a.disk l.i n (omega arith) c.diagonal_of-number.ensures in
-    (sized_kept a.width a.disks a.size a.stripe.now l.stripe c.requires.sized l.invariant.1, diagonal_own a.width a.disks n a.disk l.i b (omega arith) (omega arith) (sym (ordinary_row a.width a.disk l.i (omega arith) (omega arith)) ∙ ap (λ (i : ℕ). (i + a.disk) % a.width) (sym c.diagonal_of-number.ensures)))
+    let p = c.args.geometry.array.width in
+    let f = c.args.disk in
+    let l = c.loop-row in
+    let n = c.diagonal_of in
+    record {
+      stripe_len = l.invariant.0 ∙ c.requires.long;
+      ordinary = diagonal_own p c.args.geometry.array.disks n.result f l.row n.ensures.1 (omega arith) (omega arith) (sym (ordinary_row p f l.row (omega arith) (omega arith)) ∙ ap (λ (i : ℕ). (i + f) % p) (sym n.ensures.0));
+    }
 
-pub loop-i-preserved : goal.loop-i-preserved
-loop-i-preserved c =
+pub loop-row-preserved : goal.loop-row-preserved
+loop-row-preserved c =
     let v = c.solve in
-    let l = c.loop-i in
-    let a = c.args in
-    (omega arith, omega (arith, l.invariant.1), up_turn a.width a.disks a.size a.disk l.i c.diagonal_of-number.result l.stripe v.new.stripe c.diagonal_of-number.ensures (omega arith) v.ensures ∙ l.invariant.2)
-
-pub shape_of-stripe : goal.shape_of-stripe
-shape_of-stripe c = c.loop-i.invariant.1
+    let l = c.loop-row in
+    let g = c.args.geometry in
+    (v.auto.stripe ∙ l.invariant.0, up_turn g.array.width g.array.disks g.cell_size c.args.disk l.row c.diagonal_of.result l.stripe v.new.stripe c.diagonal_of.ensures.0 (omega arith) v.ensures ∙ l.invariant.1)
 
 pub returns : goal.returns
 returns c =
-    let l = c.loop-i in
-    let a = c.args in
-    sym (up_last a.width a.disks a.size a.disk l.i l.stripe (omega arith)) ∙ l.invariant.2
+    let l = c.loop-row in
+    let g = c.args.geometry in
+    sym (up_last g.array.width g.array.disks g.cell_size c.args.disk l.row l.stripe (omega arith)) ∙ l.invariant.1

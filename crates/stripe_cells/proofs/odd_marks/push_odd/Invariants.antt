@@ -1,11 +1,7 @@
--- `push_odd`: each turn pushes the offset of an odd place, or passes over it; a full list ends the
+-- `push_odd`: each turn appends the offset of an odd place, or passes over it; a full list ends the
 -- loop.
-use Prim.Native.Nat.{◌-◌}
-use Rattle.stripe_cells.proofs.ListedLaws.{OddPushing}
+use Rattle.stripe_cells.proofs.OddPushLaws.{OddPushing}
 use Rattle.stripe_cells.proofs.odd_marks.push_odd.Given as goal
 
-abbrev pub invariant-loop-x : goal.invariant-loop-x
-invariant-loop-x l = OddPushing l.size l.marks l.initial.at l.count l.from l.at l.n l.x
-
-abbrev pub decreases-loop-x : goal.decreases-loop-x
-decreases-loop-x l = l.all - l.x
+abbrev pub invariant-loop-place : goal.invariant-loop-place
+invariant-loop-place g l = OddPushing l.size l.marks l.initial.list l.from l.most l.list l.place

@@ -22,7 +22,7 @@ long_2 : (c : goal.Else-x-places) → length c.copy_part.new.out ≡ length c.lo
 long_2 c = search rules
 
 -- in a turn: that byte
-next : (c : goal.After-least-count) → let a = c.args in place a.places c.loop-done.x c.loop-done.stripe * a.size + c.loop-done.byte ≡ a.from + c.loop-done.done
+next : (c : goal.After-min-count) → let a = c.args in place a.places c.loop-done.x c.loop-done.stripe * a.size + c.loop-done.byte ≡ a.from + c.loop-done.done
 next c = ⊎_elim (λ e. absurd (omega arith)) (λ e. e) c.loop-done.invariant.4
 
 -- in a turn: that byte
@@ -37,7 +37,7 @@ next_3 c = ⊎_elim (λ e. absurd (omega arith)) (λ e. e) c.loop-done.invariant
 next_4 : (c : goal.Else-x-places) → let a = c.args in place a.places c.loop-done.x c.loop-done.stripe * a.size + c.loop-done.byte ≡ a.from + c.loop-done.done
 next_4 c = ⊎_elim (λ e. absurd (omega arith)) (λ e. e) c.loop-done.invariant.4
 
-within : (c : goal.After-least-count) → let a = c.args in (a.stripes * a.size ≤ length a.cells.now) × (c.loop-done.x * (a.stripes * a.size) + c.loop-done.stripe * a.size + a.size ≤ length a.cells.now)
+within : (c : goal.After-min-count) → let a = c.args in (a.stripes * a.size ≤ length a.cells.now) × (c.loop-done.x * (a.stripes * a.size) + c.loop-done.stripe * a.size + a.size ≤ length a.cells.now)
 within c =
     let a = c.args in
     turn_within a.places a.size a.stripes a.from (length a.out.now) c.loop-done.x c.loop-done.stripe c.loop-done.byte c.loop-done.done a.cells.now c.loop-done.invariant.2 c.loop-done.invariant.3 (omega arith) c.requires.2 c.requires.3 (next c)
@@ -53,30 +53,30 @@ below c =
     turn_stripe a.places a.size a.stripes a.from (length a.out.now) c.loop-done.x c.loop-done.stripe c.loop-done.byte c.loop-done.done a.cells.now c.loop-done.invariant.2 c.loop-done.invariant.3 (omega arith) c.requires.2 c.requires.3 (next_3 c)
 
 -- the byte that comes next is the first of a cell
-moved : (c : goal.Then-x-places) (y v : ℕ) → let a = c.args in let m = c.loop-done.done + c.least-count.result in place a.places y v ≡ place a.places c.loop-done.x c.loop-done.stripe + 1 → (m ≡ length a.out.now) ⊎ (place a.places y v * a.size + 0 ≡ a.from + m)
+moved : (c : goal.Then-x-places) (y v : ℕ) → let a = c.args in let m = c.loop-done.done + c.min-count.result in place a.places y v ≡ place a.places c.loop-done.x c.loop-done.stripe + 1 → (m ≡ length a.out.now) ⊎ (place a.places y v * a.size + 0 ≡ a.from + m)
 moved c y v e =
     let a = c.args in
     turn_next a.places a.size a.stripes a.from (length a.out.now) c.loop-done.x c.loop-done.stripe c.loop-done.byte c.loop-done.done a.cells.now c.loop-done.invariant.2 c.loop-done.invariant.3 (omega arith) c.requires.2 c.requires.3 (next_3 c)
-    c.least-count.result c.least-count.ensures y v e
+    c.min-count.result c.min-count.ensures y v e
 
-copied : (c : goal.Then-x-places) → let a = c.args in let m = c.loop-done.done + c.least-count.result in take m c.copy_part.new.out ≡ take m (drop a.from (in_order a.places a.size a.stripes a.cells.now))
+copied : (c : goal.Then-x-places) → let a = c.args in let m = c.loop-done.done + c.min-count.result in take m c.copy_part.new.out ≡ take m (drop a.from (in_order a.places a.size a.stripes a.cells.now))
 copied c =
     let a = c.args in
     turn_copied a.places a.size a.stripes a.from (length a.out.now) c.loop-done.x c.loop-done.stripe c.loop-done.byte c.loop-done.done a.cells.now c.loop-done.invariant.2 c.loop-done.invariant.3 (omega arith) c.requires.2 c.requires.3 (next_3 c)
-    c.least-count.result c.least-count.ensures c.loop-done.out c.copy_part.new.out c.loop-done.invariant.1 c.loop-done.invariant.5 c.copy_part.ensures
+    c.min-count.result c.min-count.ensures c.loop-done.out c.copy_part.new.out c.loop-done.invariant.1 c.loop-done.invariant.5 c.copy_part.ensures
 
 -- the byte that comes next is the first of a cell
-moved_2 : (c : goal.Else-x-places) (y v : ℕ) → let a = c.args in let m = c.loop-done.done + c.least-count.result in place a.places y v ≡ place a.places c.loop-done.x c.loop-done.stripe + 1 → (m ≡ length a.out.now) ⊎ (place a.places y v * a.size + 0 ≡ a.from + m)
+moved_2 : (c : goal.Else-x-places) (y v : ℕ) → let a = c.args in let m = c.loop-done.done + c.min-count.result in place a.places y v ≡ place a.places c.loop-done.x c.loop-done.stripe + 1 → (m ≡ length a.out.now) ⊎ (place a.places y v * a.size + 0 ≡ a.from + m)
 moved_2 c y v e =
     let a = c.args in
     turn_next a.places a.size a.stripes a.from (length a.out.now) c.loop-done.x c.loop-done.stripe c.loop-done.byte c.loop-done.done a.cells.now c.loop-done.invariant.2 c.loop-done.invariant.3 (omega arith) c.requires.2 c.requires.3 (next_4 c)
-    c.least-count.result c.least-count.ensures y v e
+    c.min-count.result c.min-count.ensures y v e
 
-copied_2 : (c : goal.Else-x-places) → let a = c.args in let m = c.loop-done.done + c.least-count.result in take m c.copy_part.new.out ≡ take m (drop a.from (in_order a.places a.size a.stripes a.cells.now))
+copied_2 : (c : goal.Else-x-places) → let a = c.args in let m = c.loop-done.done + c.min-count.result in take m c.copy_part.new.out ≡ take m (drop a.from (in_order a.places a.size a.stripes a.cells.now))
 copied_2 c =
     let a = c.args in
     turn_copied a.places a.size a.stripes a.from (length a.out.now) c.loop-done.x c.loop-done.stripe c.loop-done.byte c.loop-done.done a.cells.now c.loop-done.invariant.2 c.loop-done.invariant.3 (omega arith) c.requires.2 c.requires.3 (next_4 c)
-    c.least-count.result c.least-count.ensures c.loop-done.out c.copy_part.new.out c.loop-done.invariant.1 c.loop-done.invariant.5 c.copy_part.ensures
+    c.min-count.result c.min-count.ensures c.loop-done.out c.copy_part.new.out c.loop-done.invariant.1 c.loop-done.invariant.5 c.copy_part.ensures
 
 pub loop-done-init : goal.loop-done-init
 loop-done-init c =
@@ -99,10 +99,10 @@ pub overflow_add-at-in-loop-done : goal.overflow_add-at-in-loop-done
 overflow_add-at-in-loop-done c = omega (arith, within c)
 
 pub copy_part-requires : goal.copy_part-requires
-copy_part-requires c = (omega (arith, within_2 c, c.least-count.ensures), omega (arith, c.loop-done.invariant.1, c.least-count.ensures))
+copy_part-requires c = (omega (arith, within_2 c, c.min-count.ensures), omega (arith, c.loop-done.invariant.1, c.min-count.ensures))
 
 pub overflow_add-done : goal.overflow_add-done
-overflow_add-done c = omega (arith, c.least-count.ensures)
+overflow_add-done c = omega (arith, c.min-count.ensures)
 
 pub overflow_add-x : goal.overflow_add-x
 overflow_add-x c = omega (arith, c.loop-done.invariant.2)
@@ -111,11 +111,11 @@ pub overflow_add-stripe : goal.overflow_add-stripe
 overflow_add-stripe c = omega (arith, below c)
 
 pub loop-done-smaller-then-x-places : goal.loop-done-smaller-then-x-places
-loop-done-smaller-then-x-places c = omega (arith, c.least-count.ensures)
+loop-done-smaller-then-x-places c = omega (arith, c.min-count.ensures)
 
 pub loop-done-preserved-then-x-places : goal.loop-done-preserved-then-x-places
 loop-done-preserved-then-x-places c = (
-  omega (arith, c.least-count.ensures),
+  omega (arith, c.min-count.ensures),
   long c ∙ c.loop-done.invariant.1,
   c.requires.0,
   c.requires.1,
@@ -124,11 +124,11 @@ loop-done-preserved-then-x-places c = (
 )
 
 pub loop-done-smaller : goal.loop-done-smaller
-loop-done-smaller c = omega (arith, c.least-count.ensures)
+loop-done-smaller c = omega (arith, c.min-count.ensures)
 
 pub loop-done-preserved : goal.loop-done-preserved
 loop-done-preserved c = (
-  omega (arith, c.least-count.ensures),
+  omega (arith, c.min-count.ensures),
   long_2 c ∙ c.loop-done.invariant.1,
   omega (arith, c.loop-done.invariant.2, c.if-x-places.false),
   c.requires.1,

@@ -1,13 +1,8 @@
 -- `add_cell`: the gather of the cell itself and the other one, which lies before it.
 use mathlib.Core.Path.{◌∙◌}
-use native.Mathlib.Omega.{arith}
-use Rattle.liberation.proofs.Stripes.StripeCellLaws.{cell_fits}
 use Rattle.xor.proofs.SourceLaws.{bytes_all}
 use Rattle.update.proofs.FromCell.{two_beside, two_added}
 use Rattle.update.proofs.parity.add_cell.Goals as goal
-
-pub overflow_mul-at : goal.overflow_mul-at
-overflow_mul-at c = omega (arith, c.requires.1, cell_fits c.args.to c.args.size c.args.from c.requires.0)
 
 pub gather_within-requires : goal.gather_within-requires
 gather_within-requires c =

@@ -1,46 +1,32 @@
--- `gather_blocks`: block after block of 128 bytes, then what is left.
-use mathlib.Core.Path.{◌≡◌, refl, sym, subst, ap, ap₂, ◌∙◌}
-use mathlib.Core.List.{List, ◌++◌}
-use Prim.Native.Nat.{ℕ, ◌+◌, ◌-◌, ◌≤◌}
+-- `gather_blocks`: block after block of N bytes.
+use Prim.Native.Nat.{◌+◌, ◌-◌, ◌≤◌}
 use native.Mathlib.Omega.{arith}
-use lib.ListN.{length, take, drop}
-use lib.Seq.{drop-drop}
-use Rattle.xor.specs.Parts.{xor_offsets}
-use Rattle.xor.specs.Reach.{Reached}
-use Rattle.xor.proofs.BlockLaws.{block_next, block_last, tail_is, tail_long, reach_tail}
+use lib.ListN.{length}
+use Rattle.xor.proofs.BlockLaws.{tail_is, gathered_none, gathered_more, gathered_all, blocks_all, block_fits, blocks_left}
 use Rattle.xor.proofs.into_slice.gather_blocks.Goals as goal
 
 pub loop-b-init : goal.loop-b-init
-loop-b-init c = (omega arith, refl, refl)
+loop-b-init g c = (omega arith, blocks_all g.row.N (length c.args.dst.now) c.requires.1, gathered_none c.args.t.now c.args.at.now c.args.dst.now)
 
-pub overflow_sub-n : goal.overflow_sub-n
-overflow_sub-n c = c.loop-b.invariant.0
-
-pub put_wide_block-requires : goal.put_wide_block-requires
-put_wide_block-requires c = (omega arith, omega arith, subst (λ (m : ℕ). Reached m (length c.args.t.now) c.args.at.now) (sym c.loop-b.invariant.1) c.requires.1)
+pub slice_bounds-gather_block-end : goal.slice_bounds-gather_block-end
+slice_bounds-gather_block-end g c = omega (arith, block_fits g.row.N (length c.args.dst.now) c.loop-b.b c.loop-b-test.true c.loop-b.invariant.1)
 
 pub loop-b-preserved : goal.loop-b-preserved
-loop-b-preserved c =
+loop-b-preserved g c =
+    let b = c.loop-b.b in
+    let n = length c.args.dst.now in
     let i = c.loop-b.invariant in
-    let h : c.loop-b.b + 128 ≤ length c.args.dst.now = omega arith in
-    (h, omega arith, block_next 128 c.loop-b.b 128 c.args.t.now c.args.at.now c.loop-b.dst c.put_wide_block.new.dst (length c.args.dst.now) i.1 h refl c.requires.1.inside i.2 c.put_wide_block.ensures)
-
-pub gather_small-requires : goal.gather_small-requires
-gather_small-requires c =
-    let l = c.loop-b in
-    let t = c.args.t.now in
-    let m = length c.args.dst.now - l.b in
-    let k : length (take (length t - l.b) (drop l.b t)) ≡ length t - l.b = tail_long l.b t in
-    subst (λ (n : ℕ). (n ≤ length (take (length t - l.b) (drop l.b t))) × Reached n (length (take (length t - l.b) (drop l.b t))) c.args.at.now)
-    (sym (tail_long l.b l.dst ∙ ap (λ (n : ℕ). n - l.b) l.invariant.1))
-    (omega arith, reach_tail (length c.args.dst.now) m l.b t c.args.at.now (omega arith) (omega arith) c.requires.1)
+    let h : b + g.row.N ≤ n = block_fits g.row.N n b c.loop-b-test.true i.1 in
+    (h, blocks_left g.row.N n b c.loop-b-test.true i.1, gathered_more (b + g.row.N - b) (b + g.row.N) _ c.gather_block.new.dst i.2 c.requires.3.inside (omega arith) h (tail_is b c.args.t.now) c.gather_block.ensures)
 
 pub returns : goal.returns
-returns c =
-    let l = c.loop-b in
-    let g = c.gather_small in
-    let t = c.args.t.now in
-    let at = c.args.at.now in
-    let k = length l.dst - l.b in
-    block_last l.b k t at l.dst (take l.b l.dst ++ (g.new.dst ++ drop k (drop l.b l.dst))) (length c.args.dst.now) l.invariant.1 l.invariant.0 (omega arith) c.requires.1.inside l.invariant.2
-    (ap₂ (λ (u v : List ℕ). take l.b l.dst ++ (u ++ v)) (g.ensures ∙ ap₂ (λ (n : ℕ) (u : List ℕ). xor_offsets n u at) (tail_long l.b l.dst) (tail_is l.b t)) (drop-drop k l.b l.dst))
+returns g c = gathered_all c.loop-b.invariant.2 c.requires.3.inside (omega arith)
+
+-- the last turn
+pub returns-2 : goal.returns-2
+returns-2 g c =
+    let b = c.loop-b.b in
+    let n = length c.args.dst.now in
+    let i = c.loop-b.invariant in
+    let h : b + g.row.N ≤ n = block_fits g.row.N n b c.loop-b-test.true i.1 in
+    gathered_all (gathered_more (b + g.row.N - b) (b + g.row.N) _ c.gather_block.new.dst i.2 c.requires.3.inside (omega arith) h (tail_is b c.args.t.now) c.gather_block.ensures) c.requires.3.inside (omega arith)

@@ -1,13 +1,13 @@
--- `gather_blocks`: block after block of 128 bytes, then what is left.
+-- `gather_blocks`: block after block of N bytes.
 use mathlib.Core.Path.{◌≡◌}
-use Prim.Native.Nat.{◌-◌, ◌≤◌}
-use lib.ListN.{length, take}
-use Rattle.xor.specs.Parts.{xor_offsets}
+use Prim.Native.Nat.{◌-◌, ◌%◌, ◌≤◌}
+use lib.ListN.{length}
+use Rattle.xor.proofs.BlockLaws.{Gathered}
 use Rattle.xor.proofs.into_slice.gather_blocks.Given as goal
 
--- the first b bytes stand
+-- the first b bytes are gathered, and a number of blocks is left
 abbrev pub invariant-loop-b : goal.invariant-loop-b
-invariant-loop-b l = (l.b ≤ length l.initial.dst) × (length l.dst ≡ length l.initial.dst) × (take l.b l.dst ≡ take l.b (xor_offsets (length l.initial.dst) l.t l.at))
+invariant-loop-b g l = (l.b ≤ length l.fn.dst) × ((length l.fn.dst - l.b) % g.row.N ≡ 0) × Gathered (length l.fn.dst) l.b l.t l.at l.dst
 
 abbrev pub decreases-loop-b : goal.decreases-loop-b
-decreases-loop-b l = l.n - l.b
+decreases-loop-b g l = length l.fn.dst - l.b

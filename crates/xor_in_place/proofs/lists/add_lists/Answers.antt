@@ -1,65 +1,58 @@
--- `add_lists`: each turn adds the next sources by a list that has the destination in front. The
--- invariant: those before i are added, and the list is as it was from i on.
-use mathlib.Core.Path.{refl, ◌∙◌}
-use Prim.Native.Nat.{◌-◌, ◌<◌}
+-- `add_lists`: each turn adds the next sources by a list that has the destination in front.
+use mathlib.Core.Path.{◌≡◌, refl, subst, ◌∙◌}
+use Prim.Native.Nat.{ℕ, ◌+◌, ◌-◌, ◌<◌}
 use native.Mathlib.Omega.{arith}
-use lib.ListN.{length-set}
-use borrow.Author.Rules.{rules}
+use lib.ListN.{take, drop, set, length-set}
+use Rattle.mathematics.specs.Xor.{xor_l}
+use Rattle.xor.specs.Parts.{part, with_part, xor_offsets}
 use Rattle.xor.proofs.SourceLaws.{bytes_all}
 use Rattle.xor_in_place.proofs.ListLaws.{none_added, next_beside, next_rest, next_added, all_added}
 use Rattle.xor_in_place.proofs.lists.add_lists.Goals as goal
 
--- a turn begins behind an offset that is done
-low : (c : goal.In-loop-i) → 0 < c.loop-i.i
-low c = c.loop-i.invariant.1 (omega arith)
-
--- a turn begins behind an offset that is done
-low_2 : (c : goal.After-gather_within-arg-in-loop-i-1) → 0 < c.loop-i.i
-low_2 c = c.loop-i.invariant.1 (omega arith)
-
--- a turn begins behind an offset that is done
-low_3 : (c : goal.After-slice_known-in-loop-i-1) → 0 < c.loop-i.i
-low_3 c = c.loop-i.invariant.1 (omega arith)
-
 pub loop-i-init : goal.loop-i-init
 loop-i-init c =
     let a = c.args in
-    (c.requires.1, c.requires.2, omega arith, refl, refl, refl, none_added a.d a.n a.t.now a.at.now c.requires.0 a.from (bytes_all a.t.now c.slice_known-1.given))
-
-pub overflow_sub-b : goal.overflow_sub-b
-overflow_sub-b c = omega (arith, low c)
-
-pub slice_bounds-gather_within-end : goal.slice_bounds-gather_within-end
-slice_bounds-gather_within-end c = simp length-set (omega (arith, c.list_end-e.ensures.1, c.loop-i.invariant.4))
+    (c.requires.1, c.requires.2, omega arith, refl, refl, none_added a.d a.n a.t.now a.at.now c.requires.0 a.from (bytes_all a.t.now c.type_inv.t))
 
 pub gather_within-requires : goal.gather_within-requires
 gather_within-requires c =
-    let e = c.list_end-e in
     let l = c.loop-i in
     let a = c.args in
-    let h = low_2 c in
-    next_beside a.d a.n a.t.now a.at.now c.requires.0 a.from l.i (l.i - 1) e.result l.at l.t (omega arith) l.invariant.2 (e.ensures.2 (omega arith)) e.ensures.1 l.invariant.4 l.invariant.5 l.invariant.6 l.invariant.3
-
-pub loop-i-smaller : goal.loop-i-smaller
-loop-i-smaller c = let e = c.list_end-e in omega (arith, e.ensures.1, e.ensures.2 (omega arith))
+    let i = l.invariant in
+    let h : 0 < l.i = i.1 c.loop-i-test.true in
+    next_beside a.d a.n a.t.now a.at.now c.requires.0 a.from l.i (l.i - 1) c.min-end.result l.at l.t (omega arith) i.2 (omega arith) (omega arith) i.3 i.4 i.5 l.auto.t
 
 pub loop-i-preserved : goal.loop-i-preserved
 loop-i-preserved c =
-    let g = c.gather_within in
-    let e = c.list_end-e in
     let l = c.loop-i in
     let a = c.args in
-    let h = low_3 c in
-    (e.ensures.1, λ q. omega (arith, e.ensures), omega (arith, e.ensures), search rules, length-set l.at (l.i - 1) a.d ∙ l.invariant.4, next_rest a.d a.n a.t.now a.at.now c.requires.0 a.from l.i (l.i - 1) e.result l.at l.t (omega arith) l.invariant.2 (e.ensures.2 (omega arith)) e.ensures.1 l.invariant.4 l.invariant.5 l.invariant.6 l.invariant.3, next_added a.d a.n a.t.now a.at.now c.requires.0 a.from l.i (l.i - 1) e.result l.at l.t (omega arith) l.invariant.2 (e.ensures.2 (omega arith)) e.ensures.1 l.invariant.4 l.invariant.5 l.invariant.6 l.invariant.3 g.new.t g.ensures)
-
-pub shape_of-t : goal.shape_of-t
-shape_of-t c = c.loop-i.invariant.3
+    let i = l.invariant in
+    let h : 0 < l.i = i.1 c.loop-i-test.true in
+    let e : c.min-end.result ≡ l.i + 7 = omega arith in (
+      omega arith,
+      λ q. omega arith,
+      omega arith,
+      length-set l.at (l.i - 1) a.d ∙ i.3,
+      subst (λ (k : ℕ). drop k (set l.at (l.i - 1) a.d) ≡ drop k a.at.now) e (next_rest a.d a.n a.t.now a.at.now c.requires.0 a.from l.i (l.i - 1) c.min-end.result l.at l.t (omega arith) i.2 (omega arith) (omega arith) i.3 i.4 i.5 l.auto.t),
+      subst (λ (k : ℕ). c.gather_within.new.t ≡ with_part a.n a.d (xor_l (part a.n a.d a.t.now) (xor_offsets a.n a.t.now (take (k - a.from) (drop a.from a.at.now)))) a.t.now) e
+          (next_added a.d a.n a.t.now a.at.now c.requires.0 a.from l.i (l.i - 1) c.min-end.result l.at l.t (omega arith) i.2 (omega arith) (omega arith) i.3 i.4 i.5 l.auto.t c.gather_within.new.t c.gather_within.ensures),
+    )
 
 pub shape_of-at : goal.shape_of-at
-shape_of-at c = c.loop-i.invariant.4
+shape_of-at c = c.loop-i.invariant.3
 
 pub returns : goal.returns
 returns c =
     let l = c.loop-i in
     let a = c.args in
-    all_added a.d a.n a.t.now a.at.now c.requires.0 a.from l.i l.t (omega arith) l.invariant.6
+    all_added a.d a.n a.t.now a.at.now c.requires.0 a.from l.i l.t (omega arith) l.invariant.5
+
+-- the last turn
+pub returns-2 : goal.returns-2
+returns-2 c =
+    let l = c.loop-i in
+    let a = c.args in
+    let i = l.invariant in
+    let h : 0 < l.i = i.1 c.loop-i-test.true in
+    all_added a.d a.n a.t.now a.at.now c.requires.0 a.from c.min-end.result c.gather_within.new.t (omega arith)
+    (next_added a.d a.n a.t.now a.at.now c.requires.0 a.from l.i (l.i - 1) c.min-end.result l.at l.t (omega arith) i.2 (omega arith) (omega arith) i.3 i.4 i.5 l.auto.t c.gather_within.new.t c.gather_within.ensures)

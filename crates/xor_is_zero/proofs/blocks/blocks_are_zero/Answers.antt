@@ -1,60 +1,58 @@
--- `blocks_are_zero`: block after block of 128 bytes, then what is left. The invariant: the answer
--- is that of what is left.
-use mathlib.Core.Path.{◌≡◌, sym, ap, ◌∙◌}
-use mathlib.Core.Bool.{Bool, true, false, ◌&&◌}
+-- `blocks_are_zero`: wide blocks, then blocks, then the rest, if there is one.
+use mathlib.Core.Path.{sym, ap, ◌∙◌}
+use mathlib.Core.Bool.{true, false}
 use mathlib.Core.List.{List}
-use Prim.Native.Nat.{ℕ, ◌+◌, ◌-◌}
+use Prim.Native.Nat.{ℕ, ◌-◌, ◌%◌}
 use native.Mathlib.Omega.{arith}
 use lib.ListN.{replicate}
+use borrow.Author.Tests.{eq-eqb}
 use Rattle.mathematics.specs.Lists.{same}
 use Rattle.xor.specs.Parts.{xor_offsets}
-use Rattle.xor.proofs.BlockLaws.{tail_is, reach_tail}
-use Rattle.xor.proofs.ZeroLaws.{zero_from, zero_all, zero_next}
+use Rattle.xor.proofs.BlockLaws.{tail_is}
+use Rattle.xor.proofs.ZeroLaws.{zero_none}
+use Rattle.xor_is_zero.proofs.LastLaws.{first_turn, both_turns}
+use Rattle.xor_is_zero.proofs.blocks.blocks_are_zero.Goals.{then-whole_blocks_are_zero, else-whole_blocks_are_zero}
 use Rattle.xor_is_zero.proofs.blocks.blocks_are_zero.Goals as goal
 
--- the answer is that of the block, which is r, and of what follows it
-next : (c : goal.Then-not-wide_block_is_zero) (r : Bool) → c.wide_block_is_zero.result ≡ r → let o = c.args in
-    same (xor_offsets o.n o.t.now o.at.now) (replicate o.n 0) ≡ (r && zero_from (c.loop-b.b + 128) o.n o.t.now o.at.now)
-next c r e =
-    let l = c.loop-b in
+pub returns-then-whole-n : goal.returns-then-whole-n
+returns-then-whole-n c =
     let a = c.args in
-    l.invariant.1
-    ∙ zero_next l.b 128 a.n a.t.now a.at.now (omega arith) c.requires.0 c.requires.1.inside
-    ∙ ap (λ (f : Bool). f && zero_from (l.b + 128) a.n a.t.now a.at.now)
-    (sym (c.wide_block_is_zero.ensures ∙ ap (λ (u : List ℕ). same (xor_offsets 128 u a.at.now) (replicate 128 0)) (tail_is l.b a.t.now)) ∙ e)
+    let wide = a.n - a.n % 128 in
+    let whole = a.n - a.n % 64 in
+    elim c.if-whole_blocks_are_zero.branch [
+      | then-whole_blocks_are_zero w ↦
+          let second = w.whole_blocks_are_zero-then-whole_blocks_are_zero in
+          eq-eqb whole a.n c.if-whole-n.true
+          ∙ sym (both_turns wide whole a.n a.t.now a.at.now (omega arith) (omega arith) c.requires.0 c.requires.1.inside _ _ true true c.whole_blocks_are_zero.ensures w.if-whole_blocks_are_zero.true second.ensures (cc)
+          ∙ zero_none whole a.n a.t.now a.at.now (omega arith))
+      | else-whole_blocks_are_zero w ↦ absurd (cc)
+    ]
 
--- the answer is that of the block, which is r, and of what follows it
-next_2 : (c : goal.Else-not-wide_block_is_zero) (r : Bool) → c.wide_block_is_zero.result ≡ r → let o = c.args in
-    same (xor_offsets o.n o.t.now o.at.now) (replicate o.n 0) ≡ (r && zero_from (c.loop-b.b + 128) o.n o.t.now o.at.now)
-next_2 c r e =
-    let l = c.loop-b in
+pub returns-else-whole-n : goal.returns-else-whole-n
+returns-else-whole-n c =
     let a = c.args in
-    l.invariant.1
-    ∙ zero_next l.b 128 a.n a.t.now a.at.now (omega arith) c.requires.0 c.requires.1.inside
-    ∙ ap (λ (f : Bool). f && zero_from (l.b + 128) a.n a.t.now a.at.now)
-    (sym (c.wide_block_is_zero.ensures ∙ ap (λ (u : List ℕ). same (xor_offsets 128 u a.at.now) (replicate 128 0)) (tail_is l.b a.t.now)) ∙ e)
+    let wide = a.n - a.n % 128 in
+    let whole = a.n - a.n % 64 in
+    elim c.if-whole_blocks_are_zero.branch [
+      | then-whole_blocks_are_zero w ↦
+          let second = w.whole_blocks_are_zero-then-whole_blocks_are_zero in
+          c.rest_is_zero.ensures
+          ∙ ap (λ (u : List ℕ). same (xor_offsets (a.n - whole) u a.at.now) (replicate (a.n - whole) 0)) (tail_is whole a.t.now)
+          ∙ sym (both_turns wide whole a.n a.t.now a.at.now (omega arith) (omega arith) c.requires.0 c.requires.1.inside _ _ true true c.whole_blocks_are_zero.ensures w.if-whole_blocks_are_zero.true second.ensures (cc))
+      | else-whole_blocks_are_zero w ↦ absurd (cc)
+    ]
 
-pub loop-b-init : goal.loop-b-init
-loop-b-init c = let o = c.args in (omega arith, zero_all o.n o.t.now o.at.now)
-
-pub wide_block_is_zero-requires : goal.wide_block_is_zero-requires
-wide_block_is_zero-requires c =
-    let b = c.loop-b.b in
-    reach_tail c.args.n 128 b c.args.t.now c.args.at.now (omega arith) (omega arith) c.requires.1
-
-pub returns-then-not-wide_block_is_zero : goal.returns-then-not-wide_block_is_zero
-returns-then-not-wide_block_is_zero c = sym (next c false c.if-not-wide_block_is_zero.true)
-
-pub loop-b-preserved : goal.loop-b-preserved
-loop-b-preserved c = (omega arith, next_2 c true c.if-not-wide_block_is_zero.false)
-
-pub small_is_zero-requires : goal.small_is_zero-requires
-small_is_zero-requires c =
-    let b = c.loop-b.b in
-    (omega arith, reach_tail c.args.n (c.args.n - b) b c.args.t.now c.args.at.now (omega arith) (omega arith) c.requires.1)
-
-pub returns : goal.returns
-returns c =
-    let l = c.loop-b in
+pub returns-else-whole_blocks_are_zero-2 : goal.returns-else-whole_blocks_are_zero-2
+returns-else-whole_blocks_are_zero-2 c =
     let a = c.args in
-    c.small_is_zero.ensures ∙ ap (λ (u : List ℕ). same (xor_offsets (a.n - l.b) u a.at.now) (replicate (a.n - l.b) 0)) (tail_is l.b a.t.now) ∙ sym l.invariant.1
+    let wide = a.n - a.n % 128 in
+    let whole = a.n - a.n % 64 in
+    elim c.if-whole_blocks_are_zero.branch [
+      | then-whole_blocks_are_zero w ↦
+          let second = w.whole_blocks_are_zero-then-whole_blocks_are_zero in
+          c.if-whole_blocks_are_zero-2.false
+          ∙ sym (both_turns wide whole a.n a.t.now a.at.now (omega arith) (omega arith) c.requires.0 c.requires.1.inside _ _ true false c.whole_blocks_are_zero.ensures w.if-whole_blocks_are_zero.true second.ensures (cc))
+      | else-whole_blocks_are_zero w ↦
+          c.if-whole_blocks_are_zero-2.false
+          ∙ sym (first_turn wide whole a.n a.t.now a.at.now (omega arith) (omega arith) c.requires.0 c.requires.1.inside _ false c.whole_blocks_are_zero.ensures w.if-whole_blocks_are_zero.false)
+    ]

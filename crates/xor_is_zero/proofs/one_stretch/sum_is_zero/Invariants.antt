@@ -1,5 +1,4 @@
--- `sum_is_zero`: block after block of 128 bytes. The invariant: the XOR is zero up to byte b. A
--- block in which it is not settles the answer.
+-- `sum_is_zero`: block after block of 128 bytes. A block that is not zero settles the answer.
 use mathlib.Core.Path.{◌≡◌}
 use mathlib.Core.Bool.{true}
 use Prim.Native.Nat.{◌-◌, ◌%◌, ◌≤◌}
@@ -7,6 +6,7 @@ use Rattle.xor.proofs.ZeroLaws.{none_to}
 use Rattle.xor_is_zero.proofs.LastLaws.{sum_with}
 use Rattle.xor_is_zero.proofs.one_stretch.sum_is_zero.Given as goal
 
+-- the XOR is zero up to byte b
 abbrev pub invariant-loop-b : goal.invariant-loop-b
 invariant-loop-b l = (l.b ≤ 2048) × (l.b % 128 ≡ 0) × (none_to l.b (sum_with 2048 l.t l.at l.stretch) ≡ true)
 

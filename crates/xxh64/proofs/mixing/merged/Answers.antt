@@ -1,7 +1,7 @@
 -- `merged`: step by step as in the definition.
-use Rattle.xxh64.specs.Checksum.{merge}
+use Rattle.xxh64.specs.Checksum.{add, mul, merge}
 use Rattle.xxh64.proofs.mixing.merged.Goals as goal
 
 pub returns : goal.returns
-unfolding merge
+unfolding add mul merge
 returns c = cc

@@ -1,9 +1,0 @@
--- `is_lost`: the lowest bit of what is left after the shift is its remainder by 2.
-use mathlib.Core.Path.{ap}
-use Prim.Native.Nat.{ℕ, ◌/◌, ◌^◌}
-use lib.Bits.{and_mask}
-use lib.Dec.{eqb}
-use Rattle.array_states.proofs.bits.is_lost.Goals as goal
-
-pub returns : goal.returns
-returns c = let a = c.args in ap (λ (n : ℕ). eqb n 1) (and_mask (a.lost / 2 ^ a.disk) 1)

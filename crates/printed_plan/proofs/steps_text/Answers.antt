@@ -1,6 +1,0 @@
--- `steps_text`: the plan's text, written at the start of zeros.
-use Rattle.printed_plan.proofs.TextAnswers.{text_holds}
-use Rattle.printed_plan.proofs.steps_text.Goals as goal
-
-pub returns : goal.returns
-returns c = text_holds c.no_text-bytes.ensures c.put_plan-length.ensures
