@@ -1,7 +1,5 @@
 -- `try_list`: a plan that the judge does not refuse is accepted.
 use Rattle.std.proofs.Common.{refl}
-use Rattle.std.specs.Prelude.{Ok}
-use Rattle.judge.specs.Verdicts.{judged_of}
 use Rattle.judge.proofs.AcceptLaws.{zero_accepts}
 use Rattle.host_plans.proofs.reads.try_list.Goals as goal
 
@@ -9,4 +7,4 @@ pub write_list-requires-clause-plan_value : goal.write_list-requires-clause-plan
 write_list-requires-clause-plan_value c =
     let a = c.args in
     let n = c.in_ok-array.ensures.numbers in
-    rw (n.0, n.1) (zero_accepts a.width a.disks a.lost a.plan.now (judged_of (Ok c.in_ok-judged_reads.field-0)) c.in_ok-judged_reads.ensures refl).accepts
+    rw (n.0, n.1) (zero_accepts a.width a.disks a.lost a.plan.now _ c.in_ok-judged_reads.ensures refl).accepts

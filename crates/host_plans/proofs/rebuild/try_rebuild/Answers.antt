@@ -1,6 +1,6 @@
 -- `try_rebuild`: a plan that the judge does not refuse is accepted, and followed.
 use Rattle.std.proofs.Common.{◌≡◌, rules, refl, sym}
-use Rattle.std.specs.Prelude.{Ok, Err}
+use Rattle.std.specs.Prelude.{Err}
 use Rattle.xor.proofs.SourceLaws.{bytes_all}
 use Rattle.judge.specs.Verdicts.{judged_of}
 use Rattle.judge.proofs.AcceptLaws.{zero_accepts}
@@ -29,7 +29,7 @@ pub plan_column-requires-clause-plan_value : goal.plan_column-requires-clause-pl
 plan_column-requires-clause-plan_value c =
     let a = c.args in
     let n = c.in_ok-disk.ensures.numbers in
-    rw (n.0, n.1, n.3) (zero_accepts a.shape.width a.shape.disks a.lost a.plan.now (judged_of (Ok c.in_ok-judged_reads.field-0)) c.in_ok-judged_reads.ensures refl).accepts
+    rw (n.0, n.1, n.3) (zero_accepts a.shape.width a.shape.disks a.lost a.plan.now _ c.in_ok-judged_reads.ensures refl).accepts
 
 pub returns : goal.returns
 returns c = record { decides = search rules; bytes = bytes_all c.args.stripe.now c.type_inv.stripe }
