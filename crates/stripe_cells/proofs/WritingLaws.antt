@@ -11,8 +11,16 @@ use lib.Seq.{take-suc-set, take_all}
 use Rattle.liberation.specs.Limits.{largest_cell}
 use Rattle.liberation.specs.Sets.{place}
 use Rattle.liberation.proofs.DiagonalRows.{row_below}
+use Rattle.parity_sets.specs.declared.set.ParitySet.{ParitySet}
+use Rattle.parity_sets.specs.declared.set.ParitySet.TheVariants.{Row, Diagonal}
+use Rattle.parity_sets.specs.ParitySets.{kind_of}
 use Rattle.stripe_cells.specs.Offsets.{scaled, cells_from}
 use Rattle.stripe_cells.proofs.KeptLaws.{row_in, cell_walk}
+
+-- there are two kinds of set
+pub kind_most : (set : ParitySet) → kind_of set ≤ 1
+kind_most (Row _) = omega arith
+kind_most (Diagonal _) = omega arith
 
 -- n of the slots are written
 pub record Writing (kind p i s from : ℕ) (old at : List ℕ) (n : ℕ) : Type 0 where

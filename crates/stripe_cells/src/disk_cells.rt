@@ -42,7 +42,7 @@ fn write_diagonal(geometry: Geometry, number: usize, disk: usize, slots: &mut [u
 // and P for a row set.
 pub fn write_cells(geometry: Geometry, set: ParitySet, disk: usize, slots: &mut [usize])
     requires numbered { number_of set < geometry.array.width }
-    requires disks { (0 < length slots.old) × (disk + length slots.old ≤ geometry.array.width + 1) }
+    requires disks { (0 < length slots.old) × (disk + length slots.old + kind_of set ≤ geometry.array.width + 2) }
     ensures { slots.new ≡ scaled geometry.cell_size (cells_from (kind_of set) (length slots.old) geometry.array.width (number_of set) disk) }
 {
     match set {

@@ -71,7 +71,7 @@ impl<const N: usize> Offsets<N> {
     // Appends those of a set's cells on these disks: data disks, and P for a row set.
     pub fn push_on(&mut self, geometry: Geometry, set: ParitySet, disks: Range<usize>)
         requires numbered { number_of set < geometry.array.width }
-        requires disks { disks.end ≤ geometry.array.width + 1 }
+        requires disks { disks.end + kind_of set ≤ geometry.array.width + 2 }
         requires room { length self.old + (disks.end - disks.start) ≤ N }
         ensures { self.new ≡ self.old ++ scaled geometry.cell_size (cells_from (kind_of set) (disks.end - disks.start) geometry.array.width (number_of set) disks.start) }
     {

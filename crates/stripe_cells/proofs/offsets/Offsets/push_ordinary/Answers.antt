@@ -6,6 +6,7 @@ use native.Mathlib.Omega.{arith}
 use borrow.Author.Rules.{rules}
 use Rattle.parity_sets.specs.ParitySets.{kind_of, number_of}
 use Rattle.stripe_cells.proofs.AppendedLaws.{data_length, data_appended, row_ordinary, diagonal_ordinary}
+use Rattle.stripe_cells.proofs.WritingLaws.{kind_most}
 use Rattle.stripe_cells.proofs.offsets.Offsets.push_ordinary.Goals as goal
 
 pub push_on-requires-2 : goal.push_on-requires-2
@@ -13,7 +14,7 @@ push_on-requires-2 g c =
     let a = c.args in
     let w = a.geometry in
     let n = data_length w.array.width w.array.disks w.cell_size (kind_of a.set) (number_of a.set) _ _ (c.min.result - 0) 0 c.push_on.ensures in
-    (search rules, (c.requires.numbered, (omega arith, omega (arith, n))))
+    (search rules, (c.requires.numbered, (omega (arith, kind_most a.set), omega (arith, n))))
 
 pub push_on-requires-3 : goal.push_on-requires-3
 push_on-requires-3 g c =
@@ -21,7 +22,7 @@ push_on-requires-3 g c =
     let w = a.geometry in
     let n = data_length w.array.width w.array.disks w.cell_size (kind_of a.set) (number_of a.set) _ _ (c.min.result - 0) 0 c.push_on.ensures in
     let m = data_length w.array.width w.array.disks w.cell_size (kind_of a.set) (number_of a.set) _ _ (c.min-2.result - (a.lost.low + 1)) (a.lost.low + 1) c.push_on-2.ensures in
-    (search rules, (c.requires.numbered, (omega arith, omega (arith, n, m))))
+    (search rules, (c.requires.numbered, (omega (arith, kind_most a.set), omega (arith, n, m))))
 
 pub push_cell-requires : goal.push_cell-requires
 push_cell-requires g c =
