@@ -54,7 +54,9 @@ fn gather_list(dst: &mut [u8], t: &[u8], at: &[usize])
 }
 
 // dst = the XOR of the parts of t at the offsets: the first list block by block, the others four a
-// pass.
+// pass. It is not inlined either: within a long caller the loops would fetch the place of t from
+// memory for each part.
+#[inline(never)]
 pub fn gather(dst: &mut [u8], t: &[u8], at: &[usize])
     requires { (length dst.old ≤ length t.now) × Reached (length dst.old) (length t.now) at.now }
     ensures { dst.new ≡ xor_offsets (length dst.old) t.now at.now }
