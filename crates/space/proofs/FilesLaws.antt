@@ -107,7 +107,7 @@ files_small d ls f =
     omega (arith, f.bytes, files_most d f.pos ls)
 
 -- so they are fewer than 2^49 too
-stripes_small : (d : ℕ) (ls : List ℕ) → FewFiles d ls → total (up_each d ls) < 2 ^ 49
+pub stripes_small : (d : ℕ) (ls : List ℕ) → FewFiles d ls → total (up_each d ls) < 2 ^ 49
 stripes_small d ls f = omega (arith, files_small d ls f, mul-le-mul_left (total (up_each d ls)) f.pos)
 
 -- the sum as the code takes it

@@ -1,23 +1,25 @@
 -- No product or sum of the space call wraps, by the bounds that its tests leave: the stripes hold
--- at most 2^48 bytes and 4,096 stripes more. What an accepted answer
--- means follows from the laws of the files.
+-- at most 2^48 bytes and 4,096 stripes more. Accepted and refused answers keep the promise, and
+-- what an accepted answer means follows from the laws of the files.
 use mathlib.Core.Path.{◌≡◌, sym, ap, ◌∙◌}
 use mathlib.Core.List.{List, [], ◌∷◌}
 use Prim.Native.Nat.{ℕ, ◌+◌, ◌*◌, ◌^◌, ◌≤◌, ◌<◌}
 use native.Mathlib.Nat.{mul-le-mul, mul-pos, mul-le-mul_right, mul-le-mul_left}
 use native.Mathlib.Omega.{arith}
-use lib.Dec.{ltb}
+use lib.Dec.{ltb, leb}
 use lib.ListN.{length}
 use borrow.Author.Tests.{ltb-false, leb-true, le-leb}
 use Rattle.mathematics.specs.Choice.{first_of}
 use Rattle.mathematics.specs.Sums.{total}
 use Rattle.liberation.specs.Sets.{shape_refusal}
-use Rattle.mathematics.proofs.ChoiceLaws.{first_none, when_none, pick_done, and_done}
+use Rattle.mathematics.proofs.ChoiceLaws.{first_none, when_none, pick_refused, pick_done, and_refused, and_done}
 use Rattle.liberation.proofs.RefusalLaws.{shape_of}
-use Rattle.refusals.proofs.AnswerLaws.{answers_none}
+use Rattle.refusals.specs.declared.answer.Answer.{Answer}
+use Rattle.refusals.specs.Answers.{Answers}
+use Rattle.refusals.proofs.AnswerLaws.{answers_as, answers_none}
 use Rattle.space.specs.Refusals.{files_refusal, package_refusal, space_refusal}
 use Rattle.space.specs.declared.Space.{Space}
-use Rattle.space.specs.Says.{up_by, stripe_holds, up_each, stripes_of, need_of, fits_in, SpaceSays, FewFiles, SpaceMeans}
+use Rattle.space.specs.Says.{up_by, stripe_holds, up_each, stripes_of, need_of, fits_in, SpaceSays, SpaceRefused, FewFiles, SpaceMeans}
 use Rattle.space.proofs.FilesLaws.{each_is, each_once, files_least, files_most, files_small}
 
 -- the numbers of a call with k data disks, whose k and p are at most 31
@@ -53,6 +55,26 @@ small p k s ls e =
     let q = shape_of p k s c.0 in
     let a = q.0 in
     bounds p k s ls a.some a.widest (omega (arith, a.two)) (omega (arith, a.widest, a.disks)) q.1 q.2 c.1.0 c.1.1
+
+-- a refusal by a number that is not 0
+pub refusal_says : (p k s : ℕ) (ls : List ℕ) (free n : ℕ) (r : Space) → n ≡ space_refusal p k s ls → (n ≡ 0 → ⊥) → SpaceRefused n r → SpaceSays p k s ls free r
+refusal_says p k s ls free n r e z d =
+    record {
+      answer = answers_as n (space_refusal p k s ls) r.answer e d.answer;
+      stripes = d.stripes ∙ pick_refused n (space_refusal p k s ls) (stripes_of p k s ls) 0 e z;
+      bytes = d.bytes ∙ pick_refused n (space_refusal p k s ls) (need_of p k s ls) 0 e z;
+      fits = d.fits ∙ and_refused n (space_refusal p k s ls) (fits_in p k s ls free) e z;
+    }
+
+-- an accepted call whose stripes are n
+pub space_says : (p k s : ℕ) (ls : List ℕ) (free n : ℕ) (a : Answer) → space_refusal p k s ls ≡ 0 → Answers 0 a → n ≡ stripes_of p k s ls → SpaceSays p k s ls free (record { answer = a; stripes = n; bytes = n * (p * s); fits = leb (n * (p * s)) free })
+space_says p k s ls free n a e h q =
+    record {
+      answer = answers_as 0 (space_refusal p k s ls) a (sym e) h;
+      stripes = q ∙ pick_done (space_refusal p k s ls) (stripes_of p k s ls) 0 e;
+      bytes = ap (λ (x : ℕ). x * (p * s)) q ∙ pick_done (space_refusal p k s ls) (need_of p k s ls) 0 e;
+      fits = ap (λ (x : ℕ). leb (x * (p * s)) free) q ∙ and_done (space_refusal p k s ls) (fits_in p k s ls free) e;
+    }
 
 -- an accepted answer: each file's stripes hold it and one fewer does not, and the package fits
 -- exactly when its need is at most the free bytes
