@@ -121,7 +121,7 @@ pub sum_small : (d : ℕ) (ls : List ℕ) → FewFiles d ls → sum_by (λ l. di
 sum_small d ls f = omega (arith, each_sum d f.pos ls, stripes_small d ls f)
 
 -- nor do the bytes of a disk for them, which gives g of the d bytes of a stripe
-pub need_small : (d g : ℕ) (ls : List ℕ) → g ≤ d → FewFiles d ls → sum_by (λ l. div_ceil l d) ls * g < 2 ^ 64
+pub need_small : (d g : ℕ) (ls : List ℕ) → g ≤ d → FewFiles d ls → total (up_each d ls) * g < 2 ^ 64
 need_small d g ls h f =
     let m : total (up_each d ls) * g ≤ total (up_each d ls) * d = mul-le-mul_left (total (up_each d ls)) h in
-    rw (each_sum d f.pos ls) (omega (arith, m, files_small d ls f))
+    omega (arith, m, files_small d ls f)

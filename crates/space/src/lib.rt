@@ -4,11 +4,11 @@
 
 mod limits;
 
-ghost use Rattle.std.specs.Prelude.{◌≡◌, ◌^◌, ◌≤◌, ◌<◌, sum_by, IfOk};
-ghost use Rattle.std.specs.Int.{div_ceil};
+ghost use Rattle.std.specs.Prelude.{◌≡◌, ◌≤◌, ◌<◌, IfOk};
+ghost use Rattle.mathematics.specs.Sums.{total};
 ghost use Rattle.refusals.specs.Refused.{number_of, refused};
 ghost use Rattle.space.specs.Refusals.{space_refusal};
-ghost use Rattle.space.specs.Says.{stripe_holds, SpaceSays, SpaceRefused};
+ghost use Rattle.space.specs.Says.{stripe_holds, up_each, SpaceSays, SpaceRefused, FewFiles};
 
 pub use limits::MAX_PACKAGE;
 use refusals::{Answer, Geometry, Refusal, Shape};
@@ -39,9 +39,8 @@ impl From<Refusal> for Space {
 
 // The stripes of each file, rounded up, then added; a stripe holds `holds` bytes.
 fn sum_stripes(holds: u64, lengths: &[u64]) -> u64
-    requires some { 0 < holds }
-    requires few { sum_by (λ l. div_ceil l holds) lengths.now < 2 ^ 64 }
-    ensures { result ≡ sum_by (λ l. div_ceil l holds) lengths.now }
+    requires { FewFiles holds lengths.now }
+    ensures { result ≡ total (up_each holds lengths.now) }
 {
     lengths.iter().map(|bytes| bytes.div_ceil(holds)).sum()
 }
