@@ -1,7 +1,6 @@
 -- `gather`: the first list block by block, and the others added.
-use mathlib.Core.Path.{ap, ap₂, ◌∙◌}
-use mathlib.Core.List.{List}
-use Prim.Native.Nat.{ℕ}
+use Rattle.std.proofs.Common.{rules, ◌≡◌, drop}
+use mathlib.Core.Path.{ap, ◌∙◌}
 use lib.ListN.{length}
 use Rattle.mathematics.specs.Xor.{xor_l}
 use Rattle.xor.specs.Parts.{xor_offsets}
@@ -13,5 +12,5 @@ returns c =
     let o = c.args in
     let n = length o.dst.now in
     let x = c.gather_list.new.dst in
-    both_lists n c.min.result o.t.now o.at.now x c.add_all.new.dst c.requires.1.inside (c.gather_list.ensures ∙ ap (xor_offsets n o.t.now) c.split_at.ensures.front)
-    (c.add_all.ensures ∙ ap₂ (λ (k : ℕ) (l : List ℕ). xor_l x (xor_offsets k o.t.now l)) c.gather_list.auto.dst c.split_at.ensures.back)
+    let rest : c.add_all.new.dst ≡ xor_l x (xor_offsets n o.t.now (drop c.min.result o.at.now)) = search rules in
+    both_lists n c.min.result o.t.now o.at.now x c.add_all.new.dst c.requires.1.inside (c.gather_list.ensures ∙ ap (xor_offsets n o.t.now) c.split_at.ensures.front) rest
