@@ -50,9 +50,13 @@ parity_at p k i at s e h = rw e (omega (arith, least p k i), cell_parity p k 1 i
 extra_first : (p i : ℕ) → 0 < p → i ≡ 0 → p ≤ extra_disk p i
 extra_first p i h e = rw e (omega (arith, mod-eq_of_lt {n = 0} {m = p} h))
 
-pub extra_at : (p k i at : ℕ) (s : ParitySet) → 0 < p → k ≤ p → s ≡ Diagonal i → at ≡ k + 1 → extra_disk p i < k → IsCell p k s at (extra_disk p i * p + (p - 1 - i))
-extra_at p k i at s o q e h d = rw e (go (omega (arith, size_extra p k 1 i other n d)))
+-- d is the disk of the extra cell
+pub extra_at : (p k i at d : ℕ) (s : ParitySet) → 0 < p → k ≤ p → s ≡ Diagonal i → at ≡ k + 1 → d ≡ extra_disk p i → d < k → IsCell p k s at (d * p + (p - 1 - i))
+extra_at p k i at d s o q e h f l = rw (e, f) (go (omega (arith, size_extra p k 1 i other n m)))
   where
+    m : extra_disk p i < k
+    m = rw f at l
+
     n : i ≡ 0 → ⊥
     n z = absurd (omega (arith, extra_first p i o z))
 

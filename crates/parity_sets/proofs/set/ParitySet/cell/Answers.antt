@@ -21,10 +21,9 @@ returns-in_default-2 c = let a = c.args in diagonal_past a.array.width a.array.d
 pub returns-then-disk-disks : goal.returns-then-disk-disks
 returns-then-disk-disks c =
     let a = c.args in
-    let d = c.extra_disk-disk.ensures in
-    rw d (extra_at a.array.width a.array.disks c.in-Diagonal-3.number a.at a.self a.array.some a.array.within c.in-Diagonal-3.is c.if-at-disks-4.true (rw d at c.if-disk-disks.true))
+    extra_at a.array.width a.array.disks c.in-Diagonal-3.number a.at _ a.self a.array.some a.array.within c.in-Diagonal-3.is c.if-at-disks-4.true (omega (arith, c.extra_disk-disk.ensures)) c.if-disk-disks.true
 
 pub returns-else-disk-disks : goal.returns-else-disk-disks
 returns-else-disk-disks c =
     let a = c.args in
-    extra_absent a.array.width a.array.disks c.in-Diagonal-3.number a.at a.self c.in-Diagonal-3.is c.if-at-disks-4.true (rw c.extra_disk-disk.ensures at c.if-disk-disks.false)
+    extra_absent a.array.width a.array.disks c.in-Diagonal-3.number a.at a.self c.in-Diagonal-3.is c.if-at-disks-4.true (omega (arith, c.extra_disk-disk.ensures, c.if-disk-disks.false))
