@@ -8,3 +8,4 @@ pub mod RestLaws
 pub mod ReportLaws
 pub mod CountLaws
 pub mod ScanLaws
+pub mod RecordLaws

@@ -4,3 +4,4 @@ pub mod ServerCallRefusals
 pub mod Turning
 pub mod OtherServers
 pub mod LossRefusals
+pub mod ServerRefusals

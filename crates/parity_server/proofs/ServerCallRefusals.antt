@@ -1,9 +1,9 @@
 -- Refusals 1, 13, 2, 18, 5, then 3 and 4 of the two calls, and their promises from what was refused
 -- or done.
-use mathlib.Core.Path.{◌≡◌, refl, sym, ap, ◌∙◌}
+use mathlib.Core.Path.{◌≡◌, refl, sym, ap, ◌∙◌, ap₂}
 use mathlib.Core.Bool.{true, not}
 use mathlib.Core.List.{List}
-use Prim.Native.Nat.{ℕ, suc, ◌+◌}
+use Prim.Native.Nat.{ℕ, suc, ◌+◌, ◌*◌, ◌≤◌}
 use native.Mathlib.Numerals.{add-one}
 use lib.Dec.{eqb}
 use lib.ListN.{length}
@@ -15,7 +15,7 @@ use Rattle.mathematics.proofs.ChoiceLaws.{pick_done}
 use Rattle.liberation.specs.Sets.{shape_refusal}
 use Rattle.liberation.specs.Stripes.Stripes.{stripe_long, solved}
 use Rattle.liberation.specs.ParityServer.Servers.{up_to, servers_long, server_solved, server_written, mended_all, server_rebuilt, server_refusal, write_refusal, rebuild_refusal}
-use Rattle.liberation.specs.ParityServer.ServerClaims.{GivenLosses}
+use Rattle.liberation.specs.ParityServer.ServerClaims.{GivenLosses, Given}
 use Rattle.liberation.proofs.ParityServer.ServerRefusalLaws.{server_last, rebuild_losses}
 use Rattle.refusals.specs.declared.refusal.Refusal.{Refusal}
 use Rattle.refusals.specs.declared.shape.Shape.{Shape}
@@ -24,6 +24,8 @@ use Rattle.refusals.proofs.RefusalNumbers.{refused_pick}
 use Rattle.parity_server.specs.declared.servers.Servers.{Servers}
 use Rattle.parity_server.specs.Checked.{IsChecked}
 use Rattle.parity_server.specs.Says.{rebuild_tests, WriteServerSays, RebuildServerSays}
+use native.Mathlib.Omega.{arith}
+use Rattle.liberation.proofs.RefusalLaws.{array_none, size_accepted, shape_most}
 
 -- the extra server is server m
 pub write_tests : (p k s m : ℕ) (ts : List ℕ) (n : ℕ) → n ≡ first_of (shape_refusal p k s) (first_of (server_refusal m m) (when (not (eqb (length ts) (servers_long p k s m))) 5)) → n ≡ write_refusal p k s m ts
@@ -84,3 +86,8 @@ module _ (x : Shape) (m j : ℕ) (ts ls : List ℕ) where
           bytes = b;
           loss_bytes = d;
         }
+
+pub given_small : (p k s m : ℕ) (ts : List ℕ) → Given p k s m ts → (k + 2 ≤ 33) × (p * s ≤ 126976) × ((k + 2) * (p * s) ≤ 4190208)
+given_small p k s m ts g =
+    let q = shape_most p k s (ap₂ first_of (array_none p k g.array.width g.array.two g.array.disks) (size_accepted s g.some g.small)) in
+    (omega (arith, q.0, q.1), q.2, q.3)

@@ -3,7 +3,7 @@
 use mathlib.Core.Path.{◌≡◌, refl, sym, ap, ap₂, ◌∙◌}
 use mathlib.Core.Bool.{Bool}
 use mathlib.Core.List.{List}
-use Prim.Native.Nat.{ℕ, suc, ◌+◌, ◌<◌}
+use Prim.Native.Nat.{ℕ, suc, ◌+◌, ◌<◌, ◌≤◌}
 use native.Mathlib.Numerals.{add-one}
 use native.Mathlib.Omega.{arith}
 use lib.ListN.{length}
@@ -13,11 +13,12 @@ use Rattle.liberation.specs.Plans.{plan_of}
 use Rattle.liberation.specs.Stripes.Stripes.{with_cell, stripe_long, followed}
 use Rattle.liberation.proofs.Stripes.StripeCellLaws.{cell_fits}
 use Rattle.liberation.specs.TwoDisks.Pairs.{pair_solved}
-use Rattle.liberation.specs.ParityServer.Servers.{lost, mended, mended_at, mended_turn, mended_all}
+use Rattle.liberation.specs.ParityServer.Servers.{lost, mended, mended_at, mended_turn, mended_all, pair_refusal}
 use Rattle.liberation.specs.ParityServer.ServerClaims.{GivenLosses}
 use Rattle.parity_server.specs.declared.servers.Servers.{Servers}
 use Rattle.parity_server.specs.Turns.{AreStripesOf, Turn}
 use Rattle.parity_server.proofs.LossRefusals.{lost_false, lost_true}
+use Rattle.liberation.proofs.ParityServer.ServerRefusalLaws.{losses_of}
 
 -- what the tests of two bytes pick
 module _ (p k s a b : ℕ) (t : List ℕ) where
@@ -63,3 +64,8 @@ turns_none p k s j ls ts = refl
 pub turns_more : (p k s j i : ℕ) (ls ts us vs : List ℕ) → us ≡ mended_all i p k s j ls ts → vs ≡ mended_turn p k s j ls i us → vs ≡ mended_all (i + 1) p k s j ls ts
 unfolding mended_all
 turns_more p k s j i ls ts us vs e q = q ∙ ap (mended_turn p k s j ls i) e ∙ sym (ap (λ (n : ℕ). mended_all n p k s j ls ts) (add-one i))
+
+pub both_disks : (k a b : ℕ) → pair_refusal k a b ≡ 0 → (a ≡ 255 → ⊥) → (b ≡ 255 → ⊥) → (a ≤ k + 1) × (b ≤ k + 1) × (a ≡ b → ⊥)
+both_disks k a b pair na nb =
+    let l = losses_of k a b pair in
+    (l.first (lost_true a na), l.second (lost_true b nb), l.apart (lost_true a na))

@@ -197,3 +197,7 @@ module _ (p : ℕ) (t : List ℕ) where
       unfolding steps_read
       all_read None h = tests ∙ h
       all_read (Some x) h = (tests ∙ h.0, h.1 ∙ ap (λ (y : List ℕ). step_bytes (lines_in p y).steps) begin)
+
+-- fewer bytes are not the names
+pub names_short : (t : List ℕ) → length t < 14 → false ≡ same (take 14 t) names
+names_short t h = ⊎_elim (λ e. absurd (omega (arith, pointwise_long eqb (take 14 t) names (compared (take 14 t) names ∙ e), length-take 14 t))) sym (flag (same (take 14 t) names))

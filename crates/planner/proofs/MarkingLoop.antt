@@ -1,6 +1,6 @@
 -- Marking the cells that the steps of a plan read, step by step.
 use mathlib.Core.Path.{◌≡◌, refl, sym, ap, ◌∙◌}
-use mathlib.Core.List.{List, ◌∷◌}
+use mathlib.Core.List.{List, ◌∷◌, []}
 use Prim.Native.Nat.{ℕ, zero, suc, ◌+◌, ◌*◌, ◌≤◌, ◌<◌}
 use native.Mathlib.Numerals.{add-one}
 use native.Mathlib.Omega.{arith}
@@ -54,3 +54,6 @@ named (suc kind) number h = h
 pub cells_named : (p k kind number : ℕ) → cells_of p k (parity_set kind number) ≡ set_of p k kind number
 cells_named p k zero number = refl
 cells_named p k (suc kind) number = ap (λ (b : Bool). pick b (row_set p k number) (diagonal_set p k number)) (sym (ne_eqb (suc kind) 0 (λ e. absurd (omega (arith, e)))))
+
+pub reading_start : (p k f : ℕ) (ss : List Step) (m : List ℕ) → m ≡ marks_from (p * (k + 2)) 0 [] → Reading p k f ss m 0 0
+reading_start p k f ss m e = record { within = omega arith; cells = []; marks = e; count = refl; few = omega arith; rest = refl }

@@ -3,7 +3,7 @@ use mathlib.Core.Path.{◌≡◌, refl, sym, ap, ap₂, ◌∙◌}
 use mathlib.Core.Bool.{Bool, ◌||◌}
 use mathlib.Core.List.{List, ◌∷◌}
 use Prim.Native.Nat.{ℕ, zero, suc, ◌+◌, ◌-◌, ◌*◌, ◌/◌, ◌%◌, ◌<◌}
-use native.Mathlib.Nat.{mod-eq_of_lt, mod-add-mod}
+use native.Mathlib.Nat.{mod-eq_of_lt, mod-add-mod, add-mod}
 use native.Mathlib.Omega.{arith}
 use lib.ListN.{set, replicate}
 use borrow.Author.Tests.{eq-eqb, ne_eqb}
@@ -51,3 +51,9 @@ steps_walked p a g (suc n) l =
 
 pub progression_walked : (p f a g : ℕ) → a ≡ start_row p f → a < p → walked p a (same g) ((p - 1) / 2) ≡ progression_routes p f g
 progression_walked p f a g e l = steps_walked p a g ((p - 1) / 2) l ∙ ap (λ (x : ℕ). step_routes p ((p - 1) / 2) p x g 0) e
+
+-- twice a number round p, from its remainder
+pub step_is : (p x w s : ℕ) → w ≡ x % p → s ≡ (w + w) % p → s ≡ 2 * x % p
+step_is p x w s e q =
+    let d : x + x ≡ 2 * x = omega arith in
+    q ∙ ap (λ (n : ℕ). (n + n) % p) e ∙ sym (add-mod x x p) ∙ ap (λ (n : ℕ). n % p) d

@@ -2,7 +2,7 @@
 use mathlib.Core.Path.{◌≡◌, refl, sym, ap, ap₂, ◌∙◌}
 use mathlib.Core.Bool.{Bool, true, false}
 use Prim.Native.Nat.{ℕ, ◌+◌, ◌-◌, ◌*◌, ◌/◌, ◌%◌, ◌≤◌, ◌<◌}
-use native.Mathlib.Nat.{mod-eq_of_lt, mod-add-mod, mul-le-mul_left}
+use native.Mathlib.Nat.{mod-eq_of_lt, mod-add-mod, mul-le-mul_left, mod-lt}
 use native.Mathlib.Numerals.{add-one}
 use native.Mathlib.Omega.{arith}
 use lib.Dec.{ltb, leb}
@@ -86,3 +86,6 @@ tried_same p k f step best most sum b m h e l eb em u =
 pub tried_all : (p k f step best most : ℕ) → (p - 1) / 2 < step → Tried p k f step best most → best ≡ fewest_step p k f
 unfolding fewest_step
 tried_all p k f step best most h u = let n : step - 2 ≡ (p - 1) / 2 - 1 = omega (arith, u.high) in u.best_is ∙ ap (λ (x : ℕ). first_most x (relieved_by p k f)) n
+
+pub summed_below : (p k f g x disk sum : ℕ) → f < p → Summed p k f g x disk sum → disk < p
+summed_below p k f g x disk sum h u = omega (arith, u.at, mod-lt (f + g * x) {m = p} (omega arith))

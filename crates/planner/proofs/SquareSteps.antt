@@ -7,7 +7,7 @@ use Prim.Native.Nat.{ℕ, zero, suc, ◌+◌, ◌-◌, ◌*◌, ◌/◌, ◌%◌
 use native.Mathlib.Nat.{mod-mod, mod-eq_of_lt, mod-add-mod}
 use native.Mathlib.Omega.{arith}
 use lib.Dec.{eqb}
-use lib.ListN.{set, replicate}
+use lib.ListN.{set, replicate, length}
 use borrow.Author.Tests.{eq-eqb, ne_eqb}
 use Rattle.mathematics.specs.Choice.{pick, when}
 use Rattle.mathematics.proofs.Modulo.{cong_add}
@@ -92,3 +92,8 @@ rows_balanced (suc m) p f j w = ap₂ (λ (b : Bool) (rs : List ℕ). pick b 2 1
 
 pub rows_squares : (p f a : ℕ) → is_width p ≡ true → a ≡ balanced_start p f → square_routes p ((p - 1) / 2) p a 0 ≡ balanced_routes p f
 rows_squares p f a ok e = ap (λ (x : ℕ). square_routes p ((p - 1) / 2) p x 0) e ∙ rows_balanced p p f 0 ok
+
+pub routes_size : (m n p a j : ℕ) → length (square_routes m n p a j) ≡ m
+unfolding square_routes
+routes_size zero n p a j = refl
+routes_size (suc m) n p a j = ap suc (routes_size m n p a (suc j))

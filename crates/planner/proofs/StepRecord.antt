@@ -1,8 +1,8 @@
 -- Steps put into the record one by one, and the definition's list of steps taken row by row.
-use mathlib.Core.Path.{◌≡◌, sym, ap, subst, ◌∙◌}
+use mathlib.Core.Path.{◌≡◌, sym, ap, subst, ◌∙◌, refl}
 use mathlib.Core.Bool.{Bool}
 use mathlib.Core.List.{List, [], ◌∷◌, ◌++◌, append_assoc, append-nil}
-use Prim.Native.Nat.{ℕ, suc, ◌+◌, ◌-◌, ◌≤◌, ◌<◌}
+use Prim.Native.Nat.{ℕ, suc, ◌+◌, ◌-◌, ◌≤◌, ◌<◌, zero}
 use native.Mathlib.Numerals.{add-one}
 use native.Mathlib.Omega.{arith}
 use lib.ListN.{length, get_or, drop, set, replicate, length-append, drop_of_length-le}
@@ -123,3 +123,9 @@ all_some p t j h =
 pub all_last : (p t j : ℕ) → p ≤ j → all_of (p - j) t j ≡ []
 unfolding all_of
 all_last p t j h = let z : p - j ≡ 0 = omega arith in ap (λ (n : ℕ). all_of n t j) z
+
+-- a zero written over a zero
+pub zero_again : (n i : ℕ) → set {A = ℕ} (replicate n 0) i 0 ≡ replicate n 0
+zero_again zero i = refl
+zero_again (suc n) zero = refl
+zero_again (suc n) (suc i) = ap (λ (l : List ℕ). 0 ∷ l) (zero_again n i)

@@ -4,3 +4,4 @@ pub mod PrintedLaws
 pub mod FormLaws
 pub mod InputLaws
 mod LineLaws
+pub mod TextAnswers

@@ -1,8 +1,8 @@
 -- Words that are copied, and the lightest one of those left.
-use mathlib.Core.Path.{◌≡◌, sym, ap, ◌∙◌}
+use mathlib.Core.Path.{◌≡◌, sym, ap, ◌∙◌, refl}
 use mathlib.Core.Bool.{false, false≢true}
 use mathlib.Core.List.{List}
-use mathlib.Core.Logic.{⊎_elim}
+use mathlib.Core.Logic.{⊎_elim, ◌⊎◌, inl, inr}
 use Prim.Native.Nat.{ℕ, ◌+◌, ◌≤◌, ◌<◌}
 use native.Mathlib.Omega.{arith}
 use lib.ListN.{length, get_or, set, take}
@@ -11,7 +11,8 @@ use Rattle.mathematics.proofs.OrderLaws.{eq_or_ne, lt_or_le}
 use Rattle.mathematics.specs.BitRows.Parity.{bit}
 use Rattle.std.proofs.Common.{Option, Some, None}
 use Rattle.std.specs.Option.{IsSome}
-use Rattle.rebuild_cells.specs.Renewed.{Chosen}
+use Rattle.rebuild_cells.specs.Renewed.{Chosen, Renewed}
+use lib.Bits.{bit_xor}
 
 -- ---- the first i words copied
 pub copied_turn : (xs ys : List ℕ) (i v : ℕ) → i < length ys → v ≡ get_or xs i 0 → ((j : ℕ) → j < i → get_or ys j 0 ≡ get_or xs j 0) → (j : ℕ) → j < i + 1 → get_or (set ys i v) j 0 ≡ get_or xs j 0
@@ -33,3 +34,22 @@ chosen_off n x left (Some b) e g = g
 pub chosen_kept : (n x left : ℕ) (best : Option ℕ) → IsSome best → Chosen n x left best → Chosen n (x + 1) left best
 chosen_kept n x left None i g = absurd (false≢true i)
 chosen_kept n x left (Some b) i g = g
+
+-- ---- words renewed
+pub renew_none : (n d : ℕ) (ws ns : List ℕ) → Renewed n d ws ns ns
+renew_none n d ws ns x h = inl refl
+
+pub renew_turn :
+    (n d : ℕ) (ws ns ms : List ℕ) (x v : ℕ) → x < length ms → (v ≡ get_or ms x 0) ⊎ (v ≡ bit_xor (get_or ws x 0) (get_or ws d 0))
+    → Renewed n d ws ns ms → Renewed n d ws ns (set ms x v)
+renew_turn n d ws ns ms x v h e g y l = ⊎_elim same (λ q. ⊎_elim (λ w. inl (get_or-set_other ms x y v 0 q ∙ w)) (λ w. inr (get_or-set_other ms x y v 0 q ∙ w)) (g y l)) (eq_or_ne y x)
+  where
+    here : y ≡ x → get_or (set ms x v) y 0 ≡ v
+    here q = ap (λ (i : ℕ). get_or (set ms x v) i 0) q ∙ get_or-set_same ms x v 0 h
+
+    same : y ≡ x → (get_or (set ms x v) y 0 ≡ get_or ns y 0) ⊎ (get_or (set ms x v) y 0 ≡ bit_xor (get_or ws y 0) (get_or ws d 0))
+    same q =
+        ⊎_elim
+        (λ w. let z = here q ∙ w ∙ ap (λ (i : ℕ). get_or ms i 0) (sym q) in ⊎_elim (λ o. inl (z ∙ o)) (λ o. inr (z ∙ o)) (g y l))
+        (λ w. inr (here q ∙ w ∙ ap (λ (i : ℕ). bit_xor (get_or ws i 0) (get_or ws d 0)) (sym q)))
+        e

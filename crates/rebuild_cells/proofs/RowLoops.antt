@@ -72,3 +72,9 @@ reduced_less m b r q e h = (sym (ap (λ (x : Reduced). eqb x.done m) (sym e) ∙
 
 pub reduced_whole : (m b : ℕ) (r : Rows) (q : Reduced) → reduction b r ≡ q → b ≡ m → (true ≡ eqb q.done m) × (r ≡ q.left)
 reduced_whole m b r q e h = (sym (ap (λ (x : Reduced). eqb x.done m) (sym e) ∙ eq-eqb b m h), ap (λ (x : Reduced). x.left) e)
+
+pub clear_start : (n b : ℕ) (r : Rows) → cleared_from (n - 0) b 0 r ≡ cleared_from n b 0 r
+clear_start n b r = let w : n - 0 ≡ n = omega arith in ap (λ (m : ℕ). cleared_from m b 0 r) w
+
+pub reduce_start : (m n : ℕ) (r : Rows) → reduced_from (m - 0) n 0 r ≡ reduced_from m n 0 r
+reduce_start m n r = let w : m - 0 ≡ m = omega arith in ap (λ (x : ℕ). reduced_from x n 0 r) w

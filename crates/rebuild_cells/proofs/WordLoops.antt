@@ -126,3 +126,6 @@ fill_end p k cs ws ts i g h =
       sym (ap (λ (n : ℕ). take i ws ++ words_from n i p k cs) z ∙ append-nil (take i ws) ∙ take_all i ws (omega arith)) ∙ g.words,
       sym (ap (λ (n : ℕ). take i ts ++ powers_from n i) z ∙ append-nil (take i ts) ∙ take_all i ts (omega arith)) ∙ g.sums,
     )
+
+pub word_end : (cs ms : List ℕ) (i w : ℕ) → i ≤ 0 → w ≡ marks_word (drop i cs) ms → w ≡ marks_word cs ms
+word_end cs ms i w h e = let z : i ≡ 0 = omega arith in e ∙ ap (λ (j : ℕ). marks_word (drop j cs) ms) z

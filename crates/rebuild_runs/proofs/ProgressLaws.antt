@@ -25,3 +25,10 @@ cells_most x z n =
     let c : reads_of x ≤ 1023 = omega (arith, plan_reads_most x.shape.width x.shape.disks x.lost q.0.width q.0.disks q.3, array-cells x.shape.width x.shape.disks q.0.widest q.0.disks) in
     let m : x.next - x.skipped ≤ 4294967295 = omega arith in
     mul-le-mul m c
+
+-- a product of two 32-bit numbers has at most 64 bits
+pub product_fits : (a b : ℕ) → a < 2 ^ 32 → b < 2 ^ 32 → a * b < 2 ^ 64
+product_fits a b h k =
+    let u : a ≤ 4294967295 = omega arith in
+    let v : b ≤ 4294967295 = omega arith in
+    omega (arith, mul-le-mul u v)

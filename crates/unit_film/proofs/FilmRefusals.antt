@@ -1,10 +1,10 @@
 -- `film_bytes`: its refusals, its walk over the data places, and its promise from what was refused,
 -- proved or not proved.
-use mathlib.Core.Path.{◌≡◌, ap, ◌∙◌}
+use mathlib.Core.Path.{◌≡◌, sym, ap, ◌∙◌}
 use mathlib.Core.Bool.{Bool, true, not}
 use mathlib.Core.List.{List}
 use Prim.Native.Nat.{ℕ, ◌+◌, ◌-◌, ◌*◌, ◌/◌, ◌%◌, ◌≤◌, ◌<◌, min}
-use native.Mathlib.Nat.{le_antisymm, le-div_iff_mul-le, div-lt_iff_lt-mul, mul-pos}
+use native.Mathlib.Nat.{le_antisymm, le-div_iff_mul-le, div-lt_iff_lt-mul, mul-pos, div-mul-le_self, mul-le-mul_right, mod-add-mod, mod_self, mod-eq_of_lt, mod-lt}
 use Rattle.std.proofs.lemmas.Grind.{div_ceil_times}
 use native.Mathlib.Omega.{arith}
 use lib.Dec.{ltb}
@@ -16,6 +16,8 @@ use Rattle.unit_sums.specs.UnitLimits.{InUnit}
 use Rattle.unit_sums.specs.Refusals.{unit_refusal}
 use Rattle.unit_sums.proofs.UnitRefusals.{unit_of_lem}
 use Rattle.unit_film.specs.Says.{range_refusal, film_limits, cell_count, fit_around, is_film_proved, film_bytes_refusal}
+use mathlib.Core.Logic.{⊎_elim}
+use Rattle.mathematics.proofs.OrderLaws.{lt_or_le}
 
 -- bytes that do not go past the last one
 pub past_within : (e i m : ℕ) → i + m ≤ e → range_refusal e i m ≡ 0
@@ -72,3 +74,26 @@ film_room p k s n name block t i m e r =
     let w = unit_of_lem p k s n name block t e in
     let a = w.1.sized.array in
     (mul-pos (omega (arith, a.two)) a.some, w.0, omega (arith, w.1.sized.long), omega (arith, past_of (k * (p * (n * s))) i m r))
+
+-- the cells that bytes i to e lie in are from the first, that of byte i, to the last
+pub cell_order : (s i e : ℕ) → 0 < s → i ≤ e → i / s ≤ (e + (s - 1)) / s
+cell_order s i e some order = (le-div_iff_mul-le some).1 (omega (arith, div-mul-le_self i s))
+
+-- a cell is no longer than its piece
+pub cell_of_piece : (s n : ℕ) → 0 < n * s → s ≤ n * s
+cell_of_piece s n h =
+    ⊎_elim (λ l. let e : n ≡ 0 = omega arith in absurd (omega (arith, ap (λ (y : ℕ). y * s) e))) (λ l. omega (arith, mul-le-mul_right s l)) (lt_or_le n 1)
+
+-- the next data place, x being that of number c
+module _ (m c x : ℕ) (e : x ≡ c % m) where
+  step : (c + 1) % m ≡ (x + 1) % m
+  step = sym (mod-add-mod c m 1) ∙ ap (λ (y : ℕ). (y + 1) % m) (sym e)
+
+  pub around_back : x + 1 ≡ m → 0 ≡ (c + 1) % m
+  around_back h = sym (step ∙ ap (λ (y : ℕ). y % m) h ∙ mod_self m)
+
+  pub around_on : 0 < m → (x + 1 ≡ m → ⊥) → x + 1 ≡ (c + 1) % m
+  around_on z h =
+      let l : c % m < m = mod-lt c z in
+      let g : x + 1 < m = omega arith in
+      sym (step ∙ mod-eq_of_lt g)

@@ -74,3 +74,6 @@ marks_none (suc n) x f h =
     let e : x ≡ x + 0 = omega arith in
     ap₂ ◌∷◌ (ap (λ (b : Bool). pick b 0 1) (ap f e ∙ h 0 (omega arith)))
     (marks_none n (suc x) f (λ y l. let q : suc x + y ≡ x + suc y = omega arith in ap f q ∙ h (suc y) (omega arith)))
+
+pub marks_start : (n : ℕ) (f : ℕ → Bool) (d : List ℕ) → take 0 d ++ marks_from (n - 0) 0 f ≡ marks_from n 0 f
+marks_start n f d = let z : n - 0 ≡ n = omega arith in ap (λ (j : ℕ). marks_from j 0 f) z

@@ -33,6 +33,7 @@ use Rattle.unit_sums.specs.Refusals.{length_refusal, unit_refusal}
 use Rattle.unit_opening.specs.Says.{OpenedTo}
 use Rattle.unit_opening.proofs.MarkLaws.{marks_long, zero_holds}
 use Rattle.unit_sums.proofs.UnitRefusals.{unit_of_lem, length_of}
+use Rattle.liberation.proofs.Stripes.SizedLaws.{sized_kept}
 
 -- whether a piece fits depends on that piece alone
 pub fits_same : (p s : ℕ) (name : List ℕ) (unit : ℕ) (block t u : List ℕ) (x : ℕ) → cell_at s t x ≡ cell_at s u x → fits p s name unit block t x ≡ fits p s name unit block u x
@@ -100,3 +101,7 @@ open_accepted p k s n name unit block ms t e =
     let w = first_none (open_limits p k s n (length name) (length block) (length t) (length ms)) (first_of (when (not (is_sealed p k name unit block)) 24) (when (not b) 23)) e in
     let v = first_none (when (not (is_sealed p k name unit block)) 24) (when (not b) 23) w.1 in
     (w.0, not-false b (when_none (not b) 22 v.1))
+
+-- another unit of the same length is within the limits too
+pub unit_kept : (p k s : ℕ) (name block t u : List ℕ) → InUnit p k s name block t → length u ≡ length t → InUnit p k s name block u
+unit_kept p k s name block t u q e = record { sized = sized_kept p k s t u q.sized e; some = q.some; named = q.named; summed = q.summed }

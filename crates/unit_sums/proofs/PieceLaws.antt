@@ -12,6 +12,8 @@ use Rattle.liberation.specs.Stripes.Stripes.{stripe_long}
 use Rattle.liberation.proofs.Stripes.StripeCellLaws.{cell_fits}
 use Rattle.unit_sums.specs.Sums.{little_endian, guard_of, is_sealed}
 use Rattle.unit_sums.proofs.NumberLaws.{same_slices}
+use Rattle.liberation.proofs.Stripes.SizedLaws.{sized_long}
+use Rattle.unit_sums.specs.UnitLimits.{InUnit}
 
 -- a part from a on, of n
 pub part_is : (a n : ℕ) (t : List ℕ) → take (a + n - a) (drop a t) ≡ take n (drop a t)
@@ -28,3 +30,7 @@ sealed_is p k unit name block sums guard bytes r es eg eb h =
 -- a piece lies within a unit that is as long as its pieces
 pub piece_ends : (p k s x : ℕ) (t : List ℕ) → length t ≡ stripe_long p k s → x < p * (k + 2) → x * s + s ≤ length t
 piece_ends p k s x t l h = let e : (k + 2) * (p * s) ≡ p * (k + 2) * s = omega arith in omega (arith, cell_fits (p * (k + 2)) s x h)
+
+-- a piece and its checksum lie within the unit and its block
+pub piece_within : (p k s x : ℕ) (name block t : List ℕ) → InUnit p k s name block t → x < p * (k + 2) → (x * s + s ≤ length t) × (x * 8 + 8 ≤ length block)
+piece_within p k s x name block t u h = (omega (arith, cell_fits (p * (k + 2)) s x h, sized_long p k s t u.sized), omega (arith, cell_fits (p * (k + 2)) 8 x h, u.summed))

@@ -14,6 +14,7 @@ use Rattle.liberation.specs.Stripes.Stripes.{cell_at, with_cell}
 use Rattle.liberation.proofs.Stripes.StripeCellLaws.{cell_fits, cell_with, cell_other, cells_equal}
 use Rattle.unit_sums.specs.Sums.{little_endian, sum_of, sums_of, block_long}
 use Rattle.unit_sums.proofs.BlockLaws.{sums_long, sums_cell}
+use Rattle.unit_sums.specs.UnitLimits.{InUnit}
 
 -- one checksum
 pub sum_put : (x : ℕ) (sum block : List ℕ) → put_mid (x * 8) (x * 8 + 8 - x * 8) block sum ≡ with_cell 8 x sum block
@@ -36,3 +37,7 @@ module _ (p k s : ℕ) (name : List ℕ) (unit : ℕ) (t b : List ℕ) (long : l
     where
       at : (x : ℕ) → little_endian 8 (sum_of p name unit (0 + x) (cell_at s t (0 + x))) ≡ little_endian 8 (sum_of p name unit x (cell_at s t x))
       at x = let z : 0 + x ≡ x = omega arith in ap (λ (y : ℕ). little_endian 8 (sum_of p name unit y (cell_at s t y))) z
+
+-- another block of the same length is within the limits too
+pub block_kept : (p k s : ℕ) (name b c t : List ℕ) → InUnit p k s name b t → length c ≡ length b → InUnit p k s name c t
+block_kept p k s name b c t q e = record { sized = q.sized; some = q.some; named = q.named; summed = e ∙ q.summed }

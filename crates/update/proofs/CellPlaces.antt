@@ -1,7 +1,7 @@
 -- Where the cells of an update are: the data cell before its parity cells, all within the stripe.
 use mathlib.Core.List.{List}
 use Prim.Native.Nat.{ℕ, suc, ◌+◌, ◌*◌, ◌≤◌, ◌<◌}
-use native.Mathlib.Nat.{mul-le-mul_right}
+use native.Mathlib.Nat.{mul-le-mul, mul-le-mul_right}
 use native.Mathlib.Omega.{arith}
 use lib.ListN.{length}
 use Rattle.liberation.specs.Sets.{place}
@@ -19,6 +19,14 @@ data_cell x t e =
     record { odd = width_odd a.width a.one_of_ten; widest = a.widest; disks = a.within; row = x.in_rows; disk = x.of_data; long = e }
 
 module _ (p k s r c : ℕ) (t : List ℕ) (d : DataCell p k s r c t) where
+  -- places are small numbers
+  pub places_small : (c * p ≤ 961) × (k * p ≤ 961) × ((k + 1) * p ≤ 992)
+  places_small =
+      let n : k ≤ 31 = omega (arith, d.disks, d.widest) in
+      let m : c ≤ 31 = omega (arith, d.disk) in
+      let o : k + 1 ≤ 32 = omega arith in
+      (mul-le-mul m d.widest, mul-le-mul n d.widest, mul-le-mul o d.widest)
+
   place_fits : (i e : ℕ) → i < p → e < k + 2 → place p i e * s + s ≤ length t
   place_fits i e h l = omega (arith, d.long, cell_fits (p * (k + 2)) s (place p i e) (place_below p (k + 2) i e h l))
 

@@ -1,16 +1,17 @@
 -- Words read from bytes: chunks of a list are its words one after the other.
 use mathlib.Core.Path.{◌≡◌, refl, sym, ap, ap₂, ◌∙◌}
-use mathlib.Core.List.{List, [], ◌∷◌}
-use Prim.Native.Nat.{ℕ, zero, suc, ◌+◌, ◌-◌, ◌*◌, ◌/◌, ◌%◌, ◌≤◌, ◌<◌}
+use mathlib.Core.List.{List, [], ◌∷◌, ◌++◌}
+use Prim.Native.Nat.{ℕ, zero, suc, ◌+◌, ◌-◌, ◌*◌, ◌/◌, ◌%◌, ◌≤◌, ◌<◌, ◌^◌}
 use native.Mathlib.Omega.{arith}
 use lib.ListN.{length, take, drop, get_or, length-drop, drop_of_length-le}
-use lib.Seq.{drop-cons, drop-drop, take-take, length-take-le}
+use lib.Seq.{drop-cons, drop-drop, take-take, length-take-le, take-add}
 use mir.Syntax.{w32, w64}
 use Rattle.std.proofs.lemmas.List.{drop-take}
 use Rattle.std.specs.List.{fold}
 use Rattle.std.specs.Int.{from_le_bytes}
 use Rattle.std.specs.Simd.{first_chunks}
 use Rattle.xxh64.specs.Checksum.{number, word, words, eight, four, one, rest}
+use native.Mathlib.Nat.{mul_assoc, pow-suc}
 
 -- the number of the bytes from place i on, from its lowest byte
 number_at : (bs : List ℕ) (i : ℕ) → i < length bs → number (drop i bs) ≡ get_or bs i 0 + 256 * number (drop (suc i) bs)
@@ -118,3 +119,22 @@ rest_is bs begun t u v eights fours a b c et lt eu lu ev ee ef ea eb ec =
     let e1 : words one 1 (n % 4) (n / 4 * 4) bs b ≡ c =
     words_bytes one (n % 4) (n / 4 * 4) bs b (omega arith) ∙ ap (fold one b) (sym v_is) ∙ sym ec in
     sym e1 ∙ ap (words one 1 (n % 4) (n / 4 * 4) bs) (sym e4) ∙ ap (λ (s : ℕ). words one 1 (n % 4) (n / 4 * 4) bs (words four 4 (n % 8 / 4) (n / 8 * 8) bs s)) (sym e8)
+
+-- the number of two lists, one after the other
+number_append : (xs ys : List ℕ) → number (xs ++ ys) ≡ number ys * 256 ^ length xs + number xs
+unfolding number
+number_append [] ys = omega arith
+number_append (x ∷ xs) ys =
+    let e : 256 ^ length (x ∷ xs) ≡ 256 ^ length xs * 256 = pow-suc 256 (length xs) in
+    let m : number ys * 256 ^ length (x ∷ xs) ≡ number ys * 256 ^ length xs * 256 = ap (λ (n : ℕ). number ys * n) e ∙ sym (mul_assoc (number ys) (256 ^ length xs) 256) in
+    omega (arith, number_append xs ys)
+
+-- a word of n bytes, and one of m after it
+pub word_add : (n m i : ℕ) (bs : List ℕ) → i + n ≤ length bs → word (n + m) i bs ≡ word m (i + n) bs * 256 ^ n + word n i bs
+unfolding word
+word_add n m i bs h =
+    let l : length (take n (drop i bs)) ≡ n = length-take-le n (drop i bs) (simp length-drop (omega arith)) in
+    ap number (take-add n m (drop i bs))
+    ∙ number_append (take n (drop i bs)) (take m (drop n (drop i bs)))
+    ∙ ap (λ (k : ℕ). number (take m (drop n (drop i bs))) * 256 ^ k + number (take n (drop i bs))) l
+    ∙ ap (λ (x : List ℕ). number (take m x) * 256 ^ n + number (take n (drop i bs))) (drop-drop n i bs)

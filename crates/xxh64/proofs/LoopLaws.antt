@@ -3,7 +3,7 @@ use mathlib.Core.Path.{◌≡◌, refl, ap}
 use mathlib.Core.List.{List}
 use Prim.Native.Nat.{ℕ, zero, suc, ◌+◌, ◌-◌, ◌*◌, ◌^◌, ◌≤◌, ◌<◌}
 use native.Mathlib.Omega.{arith}
-use Rattle.xxh64.specs.Checksum.{prime1, prime2, prime5, add, word, round, converge, stripes, start}
+use Rattle.xxh64.specs.Checksum.{prime1, prime2, prime5, add, word, round, converge, stripes, start, words}
 
 pub stripes_none : (n i : ℕ) (bs : List ℕ) (a b c d : ℕ) → n ≤ 0 → stripes n i bs a b c d ≡ converge a b c d
 unfolding stripes
@@ -38,3 +38,15 @@ stripes_step n k bs stripe a b c d a' b' c' d' h lane ea eb ec ed =
     let at : k * 32 + 32 ≡ (k + 1) * 32 = omega arith in
     let first : k * 32 + 0 ≡ k * 32 = omega arith in
     cc (stripes_more (n - k) (k * 32) bs a b c d (omega arith), lane 0 (omega arith), lane 8 (omega arith), lane 16 (omega arith), lane 24 (omega arith))
+
+pub words_none : (mixed : ℕ → ℕ → ℕ) (size n i : ℕ) (bs : List ℕ) (sum : ℕ) → n ≤ 0 → words mixed size n i bs sum ≡ sum
+unfolding words
+words_none mixed size zero i bs sum h = refl
+words_none mixed size (suc n) i bs sum h = absurd (omega arith)
+
+pub words_more : (mixed : ℕ → ℕ → ℕ) (size n i : ℕ) (bs : List ℕ) (sum : ℕ) → 0 < n → words mixed size n i bs sum ≡ words mixed size (n - 1) (i + size) bs (mixed sum (word size i bs))
+unfolding words
+words_more mixed size zero i bs sum h = absurd (omega arith)
+words_more mixed size (suc n) i bs sum h =
+    let e : n ≡ suc n - 1 = omega arith in
+    ap (λ (k : ℕ). words mixed size k (i + size) bs (mixed sum (word size i bs))) e

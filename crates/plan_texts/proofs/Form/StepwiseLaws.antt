@@ -5,13 +5,17 @@ use mathlib.Core.Bool.{Bool, true, false, ◌&&◌, and-true, and_assoc, false�
 use mathlib.Core.List.{List, [], ◌∷◌, ◌++◌}
 use Prim.Native.Nat.{ℕ, zero, suc, ◌+◌, ◌-◌, ◌*◌, ◌≤◌}
 use native.Mathlib.Omega.{arith}
-use lib.Dec.{eqb}
+use lib.Dec.{eqb, leb}
 use lib.ListN.{length, get_or, take, drop}
 use lib.Seq.{drop-drop, get_or-drop}
 use Rattle.mathematics.specs.Choice.{pick}
 use Rattle.liberation.specs.Plans.{Step}
 use Rattle.liberation.specs.Judging.{steps_in}
-use Rattle.plan_texts.specs.Form.Reading.{byte_at, is_digit, digits_up_to, digits_in, value_from, number_in, end_in, Line, line_in, lines_in, names_size, steps_read, step_bytes}
+use Rattle.plan_texts.specs.Form.Reading.{byte_at, is_digit, digits_up_to, digits_in, value_from, number_in, end_in, Line, line_in, lines_in, names_size, steps_read, step_bytes, is_number, is_set, kind_of, after_row, after_set, after_number}
+use borrow.Author.Tests.{leb-true}
+use Rattle.mathematics.specs.Lists.{is_in}
+use Rattle.mathematics.proofs.Flags.{and_l, and_r}
+use Rattle.plan_texts.proofs.Form.NumberLaws.{digits_few}
 
 -- The bytes at and after a place.
 module _ (t : List ℕ) (at : ℕ) where
@@ -116,3 +120,36 @@ pub bytes_more : (ss : List Step) (s : Step) → step_bytes (ss ++ (s ∷ [])) �
 unfolding step_bytes
 bytes_more [] s = refl
 bytes_more (x ∷ ss) s = ap (λ (l : List ℕ). x.row ∷ (x.kind ∷ (x.number ∷ l))) (bytes_more ss s)
+
+pub line_few : (t : List ℕ) → (line_in t).size ≤ 11
+unfolding line_in
+line_few t = omega (arith, digits_few 3 t, digits_few 3 (after_set t), end_few (after_number t))
+
+pub lines_few : (n : ℕ) (t : List ℕ) → (lines_in n t).size ≤ 11 * n
+unfolding lines_in
+lines_few zero t = omega arith
+lines_few (suc n) t = omega (arith, line_few t, lines_few n (drop (line_in t).size t))
+
+kind_few : (b : ℕ) → kind_of b ≤ 1
+kind_few b = go (is_in b (82 ∷ (114 ∷ [])))
+  where
+    go : (x : Bool) → pick x 0 1 ≤ 1
+    go true = omega arith
+    go false = omega arith
+
+number_small : (t : List ℕ) → is_number t ≡ true → number_in t ≤ 255
+unfolding is_number
+number_small t h = leb-true (number_in t) 255 (and_r (leb 1 (digits_in t)) (leb (number_in t) 255) h)
+
+-- what a line names is a byte each
+pub record SmallStep (s : Step) : Type 0 where
+  pub row : s.row ≤ 255
+  pub kind : s.kind ≤ 1
+  pub number : s.number ≤ 255
+
+pub line_small : (t : List ℕ) → (line_in t).ok ≡ true → SmallStep (line_in t).read
+unfolding line_in
+line_small t h =
+    let h₁ = and_r (is_number t) _ h in
+    let h₂ = and_r (is_set (after_row t)) _ h₁ in
+    record { row = number_small t (and_l (is_number t) _ h); kind = kind_few (byte_at (after_row t) 1); number = number_small (after_set t) (and_l (is_number (after_set t)) _ h₂) }
