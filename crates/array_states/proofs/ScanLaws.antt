@@ -11,7 +11,7 @@ use lib.Count.{ones}
 use lib.Dec.{eqb, ltb, leb}
 use lib.ListN.{length, get_or, set, take, length-take}
 use lib.Seq.{take_all}
-use borrow.Author.Tests.{ltb-false, leb-false, le-leb, lt-leb, le-ltb, eq-eqb, ne_eqb}
+use borrow.Author.Tests.{eqb-true, eqb-false, ltb-false, leb-false, le-leb, lt-leb, le-ltb, eq-eqb, ne_eqb}
 use Rattle.mathematics.specs.Choice.{pick, when, first_of}
 use Rattle.mathematics.proofs.OrderLaws.{lt_or_le}
 use Rattle.mathematics.proofs.ChoiceLaws.{first_none, first_zero, first_assoc, when_none, pick_refused, pick_done}
@@ -19,7 +19,9 @@ use Rattle.array_states.specs.declared.ArrayState.{ArrayState}
 use Rattle.array_states.specs.declared.totals.Totals.{Totals}
 use Rattle.array_states.specs.States.{state_refusal, disk_report_refusal, state_report_refusal, changed}
 use Rattle.array_states.specs.Scanning.{no_array, no_totals}
-use Rattle.array_states.specs.OnePass.{Scan, scan_length, scan_start, counted_on, MayScan, reported, scan_record, scan_from, scan_refusal, scan_answer}
+use Rattle.array_states.specs.declared.board.Board.{Board}
+use Rattle.refusals.specs.declared.answer.Answer.{Answer}
+use Rattle.array_states.specs.OnePass.{Scan, scan_length, scan_start, counted_on, MayScan, reported, scan_record, scan_from, scan_refusal, scan_answer, one_pass}
 use Rattle.array_states.proofs.CountLaws.{totals_are}
 use Rattle.array_states.specs.Reports.{list_refusal, number_refusal, report_refusal, list_after, how_many, totals_of, ReportSays}
 
@@ -273,3 +275,20 @@ says_refused which d back xs some =
       list = pick_refused f (report_refusal xs which d back) (list_after xs which d back) xs same some;
       totals = sym (pick_refused f f s.totals no_totals refl some) ∙ pick_refused f (report_refusal xs which d back) (totals_of xs) no_totals same some;
     }
+
+-- ---- the answer is the pass's
+-- a report on a list has one answer
+same_answer : (xs : List ArrayState) (which d : ℕ) (back : Bool) (ys zs : List ArrayState) (r q : Board) → ReportSays xs which d back ys r → ReportSays xs which d back zs q → r ≡ q
+same_answer xs which d back ys zs r q m n =
+    let given : List ArrayState → Totals = λ ls. pick (eqb (report_refusal xs which d back) 0) (totals_of ls) no_totals in
+    let totals = m.totals ∙ ap given (m.list ∙ sym n.list) ∙ sym n.totals in
+    let refusal = m.answer.refusal ∙ sym n.answer.refusal in
+    let place = m.answer.place ∙ sym n.answer.place in
+    ap₂ (λ (a : Answer) (t : Totals). record { answer = a; totals = t }) (ap₂ (λ (a b : ℕ). record { refusal = a; place = b }) refusal place) totals
+
+pub is_one_pass : (xs : List ArrayState) (which d : ℕ) (back : Bool) (ys : List ArrayState) (r : Board) → ReportSays xs which d back ys r → r ≡ one_pass xs which d back
+is_one_pass xs which d back ys r m = go (eqb (one_pass xs which d back).answer.refusal 0) refl
+  where
+    go : (b : Bool) → eqb (one_pass xs which d back).answer.refusal 0 ≡ b → r ≡ one_pass xs which d back
+    go true e = same_answer xs which d back ys _ r (one_pass xs which d back) m (says_done which d back xs (eqb-true _ 0 e))
+    go false e = same_answer xs which d back ys xs r (one_pass xs which d back) m (says_refused which d back xs (eqb-false _ 0 e))

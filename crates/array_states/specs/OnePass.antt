@@ -1,6 +1,6 @@
 -- The report on a list in one pass: record by record, its first refusal, the named record as it will
--- be, and the totals. No function goes so; what it finds is what a report answers (`scan_hit`).
-use Rattle.std.specs.Prelude.{Bool, List, [], ◌∷◌, ℕ, ◌+◌, ◌≤◌, eqb, leb, ltb}
+-- be, and the totals. What it finds is what a report answers: `array_states::report_disk` promises it.
+use Rattle.std.specs.Prelude.{Bool, List, [], ◌∷◌, ℕ, ◌+◌, ◌≤◌, eqb, leb, ltb, length, take}
 use Rattle.std.specs.Int.Count.{ones}
 use Rattle.mathematics.specs.Choice.{pick, when, first_of}
 use Rattle.array_states.specs.declared.ArrayState.{ArrayState}
@@ -71,3 +71,7 @@ scan_refusal s n which = first_of (when (leb n which) 20) (first_of s.refusal s.
 unfoldable pub scan_answer : Scan → ℕ → ℕ → Board
 unfolding scan_refusal
 scan_answer s n which = record { answer = record { refusal = scan_refusal s n which; place = 0 }; totals = pick (eqb (scan_refusal s n which) 0) s.totals no_totals }
+
+-- what the pass answers to a report on record `which` of a list
+abbrev pub one_pass : List ArrayState → ℕ → ℕ → Bool → Board
+one_pass xs which d back = scan_answer (scan_from which d back scan_start (take (scan_length (length xs)) xs)) (scan_length (length xs)) which

@@ -2,6 +2,7 @@
 // counted anew.
 ghost use Rattle.std.specs.Prelude.{◌≡◌, length};
 ghost use Rattle.refusals.specs.Refused.{refused};
+ghost use Rattle.array_states.specs.OnePass.{one_pass};
 ghost use Rattle.array_states.specs.Reports.{number_refusal, list_refusal, board_of, ReportSays};
 
 use super::{ArrayState, Totals, report_state};
@@ -76,7 +77,8 @@ fn try_report(
 // A report on array `which` of a list: its disk `disk` was lost, or is back. Every record is read,
 // and one is written or none. Refusals: 20, 1, 13, 3, 21.
 pub fn report_disk(list: &mut [ArrayState], which: usize, disk: usize, back: bool) -> Board
-    ensures { ReportSays list.old which disk back list.new result }
+    ensures says { ReportSays list.old which disk back list.new result }
+    ensures pass { result ≡ one_pass list.old which disk back }
 {
     try_report(list, which, disk, back).into()
 }
