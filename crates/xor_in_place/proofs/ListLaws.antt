@@ -29,6 +29,15 @@ module _ (d n : ℕ) (t at : List ℕ) (a : Apart d n (length t) at) where
       let e : get_or at (i + j) 0 ≡ get_or (take m (drop i at)) j 0 = sym (get_or-take m (drop i at) j 0 k ∙ get_or-drop i at j 0) in
       subst (λ (x : ℕ). (x + n ≤ d) ⊎ (d + n ≤ x)) e (a.apart (i + j) b)
 
+  -- the first list
+  pub first_beside : (i : ℕ) → Beside d n (length t) (take i at)
+  first_beside i =
+      record {
+        sources = record { few = omega (arith, length-take i at, a.sources.few); inside = within 0 i };
+        fits = a.fits;
+        apart = λ j h. ⊎_elim (λ w. inl w) (λ w. inr (omega arith)) (far 0 i j h);
+      }
+
   -- what stands at d has the sources from index `from` up to i added
   module _ (from : ℕ) where
     abbrev pub sum : ℕ → List ℕ
@@ -119,3 +128,7 @@ module _ (d n : ℕ) (t at : List ℕ) (a : Apart d n (length t) at) where
       ∙ sym (offsets_append n t (take i at) (drop i at) (subst (Within n (length t)) rest (within i (length at))))
       ∙ ap (xor_offsets n t) (take-append-drop i at))
       ∙ with_with n d w t l a.fits (xor_offsets n t at)
+
+-- an array as long, of which the first list stands
+pub still_apart : {d n long : ℕ} {at : List ℕ} (k : ℕ) → k ≡ long → Apart d n long at → Apart d n k at
+still_apart k e a = record { sources = record { few = a.sources.few; inside = λ i h. omega (arith, a.sources.inside i h) }; fits = omega (arith, a.fits); apart = a.apart }
