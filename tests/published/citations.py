@@ -2,6 +2,7 @@
 
 A word between backticks is one of these, by its form:
   `crate::function`, `crate::module::function`   a function or struct of that crate, inner ones by their module
+  `crate::Type::function`                        a function of that public type of the crate
   `Type::function`                               a function of that type of the Rust crates
   `crate/edit`                                   a must-fail edit; after 'edits' those that follow may leave the crate out
   `Record .field`, then `.field`                 a field of that record
@@ -41,7 +42,7 @@ WRONG = [
     "test `stripe`", "tests `stripes`, `stripe`", "`Scrubs .says_two`", "`Scrubs .says_one`, `.says_two`",
     "`encodes` (guarantees Plans)", "`restores`, `encodes` (guarantees Stripes)", "(guarantees Stripe)", "(demands Stripes)",
     "crates/liberation/proofs/Price.antt", "Price.antt", "`price`, crates/liberation/proofs/OurPlan.antt", "`price`, OurPlan.antt",
-    "docs/PAGE.md", "by liberation_texts", "`Wach`", "`PACKAGE_TO_LONG`", "`store/putt`", "`Cells::filn`", "`Cell::film`", "`reads/image`", "rust/image", "(run_laws MadeLaws)",
+    "docs/PAGE.md", "by liberation_texts", "`Wach`", "`PACKAGE_TO_LONG`", "`store/putt`", "`Cells::filn`", "`Cell::film`", "`planner::Steps::sett`", "`planner::Step::set`", "`reads/image`", "rust/image", "(run_laws MadeLaws)",
 ]
 
 
@@ -58,7 +59,7 @@ def is_function(crate, parts, parameters, result):
     if crate not in source.CRATES:
         return False
     if len(parts) == 2:
-        return parts[0] in source.modules(crate) and parts[1] in source.functions(crate, parts[0])
+        return "::".join(parts) in source.methods(crate) or parts[0] in source.modules(crate) and parts[1] in source.functions(crate, parts[0])
     if parts[0] in source.structs(crate):
         return True
     names, gives = source.signature(crate, parts[0])

@@ -91,26 +91,26 @@ def module_rows(text):
 
 
 def functions_once(text):
-    """Each function that another crate calls, and each export, stands there once; what stands there is public."""
+    """Each function that another crate calls, each of a public type, and each export, stands there once; what stands there is public."""
     for crate in source.CRATES:
-        for name in source.called(crate):
+        for name in source.called(crate).union(source.methods(crate)):
             if (count := len(re.findall(rf"`{crate}::{name}\b", text))) != 1:
                 yield f"{crate}::{name} stands there {count} times"
     for name in source.exports():
         if (count := len(re.findall(rf"`{name}\b", text))) != 1:
             yield f"{name} stands there {count} times"
-    for crate, name in re.findall(r"`(\w+)::(\w+)", text):
-        if crate not in source.CRATES or name not in source.at_root(crate):
+    for crate, name in re.findall(r"`(\w+)::(\w+(?:::\w+)?)", text):
+        if crate not in source.CRATES or name not in source.at_root(crate).union(source.methods(crate)):
             yield f"{crate}::{name} is no public function"
 
 
 def asks_nothing(text):
     """What is listed as a call, or for any argument, has no `requires`; what is listed as called after the refusals has one."""
-    for line in re.findall(r"^\| (?:`|none).*`\w+::\w+`.*$", text, re.M):
+    for line in re.findall(r"^\| (?:`|none).*`\w+(?:::\w+)+`.*$", text, re.M):
         free, after = line.split("|")[2:4]
         for cells, wanted in ((free, False), (after, True)):
-            for crate, name in re.findall(r"`(\w+)::(\w+)`", cells):
-                if name in source.at_root(crate) and source.asks(crate, name) != wanted:
+            for crate, name in re.findall(r"`(\w+)::(\w+(?:::\w+)?)`", cells):
+                if name in source.at_root(crate).union(source.methods(crate)) and source.asks(crate, name) != wanted:
                     yield f"{crate}::{name} has {'no' if wanted else 'a'} `requires`"
 
 
@@ -204,9 +204,12 @@ CHECKS = [
     (functions_once, ARCHITECTURE, "list each public function in one row of 'The public functions'", without(r"\| `cuzhaveli_plan_disk`")),
     (functions_once, ARCHITECTURE, "", lambda text: text + re.search(r"`\w+::\w+", text)[0]),
     (functions_once, ARCHITECTURE, "", lambda text: text + "`refusals::check_width`"),
+    (functions_once, ARCHITECTURE, "", lambda text: text.replace("`two_disk_walk::LostPair::walk`", "")),
+    (functions_once, ARCHITECTURE, "", lambda text: text + "`refusals::Array::tested`"),
     (asks_nothing, ARCHITECTURE, "list a function with a `requires` as called after the refusals, or give it its refusals",
      lambda text: text.replace("| none |", "| none | `planner::plan_steps` |\n| none |")),
-    (asks_nothing, ARCHITECTURE, "", lambda text: text.replace("| `parity_sets::no_marks` | ", "| | `parity_sets::no_marks`, ")),
+    (asks_nothing, ARCHITECTURE, "", lambda text: text.replace("| `parity_sets::no_marks`", "| | `parity_sets::no_marks`")),
+    (asks_nothing, ARCHITECTURE, "", lambda text: text.replace("| `two_disk_walk` | | ", "| `two_disk_walk` | ")),
 ]
 
 

@@ -63,9 +63,30 @@ def signature(crate, name):
 
 
 def asks(crate, name):
-    """Whether a function that the root makes public has a `requires`."""
+    """Whether a function that the root makes public, or one of a public type, has a `requires`."""
+    if name in methods(crate):
+        return methods(crate)[name]
     contract = re.search(rf"\bfn {name}(?:<[^>]*>)?\(.*?(?:^| )\{{$", modules(crate)[reused(crate).get(name, "")], re.M | re.S)
     return bool(contract and re.search(r"^ *requires ", contract[0], re.M))
+
+
+def types_at_root(crate):
+    """The types that a crate's root makes public."""
+    listed = re.findall(r"^pub use \w+::(?:\{([^}]*)\}|(\w+));", modules(crate)[""], re.M)
+    used = {name for several, one in listed for name in re.findall(r"\w+", several or one) if not name.islower()}
+    return used | set(re.findall(r"^pub (?:struct|enum) (\w+)", modules(crate)[""], re.M))
+
+
+@functools.cache
+def methods(crate):
+    """The public functions of these types, as `Type::function`, each with whether it has a `requires`; not those of traits."""
+    found = {}
+    for text in modules(crate).values():
+        for name, body in re.findall(r"^impl(?:<[^>]*>)? (\w+)(?:<[^>]*>)? \{\n(.*?)^\}", text, re.M | re.S):
+            for method, contract in re.findall(r"^    pub fn (\w+)(.*?(?:^| )\{)$", body, re.M | re.S):
+                if name in types_at_root(crate):
+                    found[f"{name}::{method}"] = bool(re.search(r"^ *requires ", contract, re.M))
+    return found
 
 
 def exports():
