@@ -24,8 +24,8 @@ DECISIONS = TOP / "docs/DECISIONS.md"
 DRIVES = sorted((TOP / "bench/results").glob("*-drives.txt"))
 CI_LOG = TOP / "build/rt-ci.log"
 EXPORT_LOGS = sorted((TOP / "build/members").glob("cuzhaveli_*.log"))
-# README.md, CONTRIBUTING.md, the manual pages, docs/*.md but those that follow documents 01 and 02 line by line, and the records of the port and of the new design
-LONG = {"SCOPE.md", "COVERAGE.md", "DESIGN-PASS.md", "PORT.md"}
+# README.md, CONTRIBUTING.md, the manual pages, docs/*.md but those that follow documents 01 and 02 line by line, and the records of the port, of the new design and of the look back at it
+LONG = {"SCOPE.md", "COVERAGE.md", "DESIGN-PASS.md", "LOOK-BACK.md", "PORT.md"}
 MOST_WORDS = 38000
 
 
