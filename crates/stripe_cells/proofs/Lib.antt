@@ -10,6 +10,7 @@ pub mod KeptLaws
 pub mod RunLaws
 pub mod SetLists
 pub mod AppendedLaws
+pub mod PushedLaws
 pub mod WritingLaws
 pub mod OddPushLaws
 pub mod GatherLaws

@@ -24,7 +24,8 @@ use parity_sets::{MAX_COLUMNS, ParitySet};
 use refusals::Geometry;
 
 // A set's ordinary cell, of this disk and row, becomes the XOR of the other cells of the set. What
-// the list then holds is unspecified.
+// the list then holds is unspecified. Inlined, since most callers know the kind of the set.
+#[inline(always)]
 pub fn solve(
     geometry: Geometry,
     set: ParitySet,

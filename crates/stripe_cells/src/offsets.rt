@@ -2,10 +2,12 @@
 ghost use Rattle.std.specs.Prelude.{◌≡◌, ℕ, ◌+◌, ◌-◌, ◌≤◌, ◌<◌, List, [], ◌∷◌, ◌++◌, length, take};
 ghost use Rattle.xor.specs.Parts.{with_part, xor_offsets};
 ghost use Rattle.xor_in_place.specs.Beside.{Apart};
-ghost use Rattle.parity_sets.specs.ParitySets.{kind_of, number_of};
+ghost use Rattle.parity_sets.specs.ParitySets.{cells_of, kind_of, number_of};
 ghost use Rattle.stripe_cells.specs.Offsets.{scaled, cells_from};
+ghost use Rattle.stripe_cells.specs.OrdinaryCells.{survivors, ordinary_of};
+ghost use Rattle.stripe_cells.specs.SetCells.{extra_in};
 
-use super::disk_cells;
+use super::{LostDisks, disk_cells, surviving};
 use parity_sets::ParitySet;
 use refusals::Geometry;
 use std::marker::Model;
@@ -75,13 +77,31 @@ impl<const N: usize> Offsets<N> {
         requires room { length self.old + (disks.end - disks.start) ≤ N }
         ensures { self.new ≡ self.old ++ scaled geometry.cell_size (cells_from (kind_of set) (disks.end - disks.start) geometry.array.width (number_of set) disks.start) }
     {
-        if disks.end <= disks.start {
-            return;
-        }
-        let end = self.count + (disks.end - disks.start);
-        let slots = &mut self.items[..];
-        disk_cells::write_cells(geometry, set, disks.start, &mut slots[self.count..end]);
-        self.count = end;
+        self.count = disk_cells::write_on(geometry, set, disks, self.count, &mut self.items);
+    }
+
+    // Appends those of the cells of a set but those on lost disks. Inlined, as what it calls is.
+    #[inline(always)]
+    pub fn push_surviving(&mut self, geometry: Geometry, set: ParitySet, lost: LostDisks)
+        requires numbered { number_of set < geometry.array.width }
+        requires room { length self.old + (geometry.array.disks + 2) ≤ N }
+        ensures { self.new ≡ self.old ++ scaled geometry.cell_size (survivors geometry.array.width lost.low lost.high (cells_of geometry.array.width geometry.array.disks set)) }
+    {
+        let end = surviving::write_ordinary(geometry, set, lost, self.count, &mut self.items);
+        self.count = surviving::write_extra(geometry, set, lost, end, &mut self.items);
+    }
+
+    // Appends those of the cells of a set but its ordinary cell on a disk. Inlined too.
+    #[inline(always)]
+    pub fn push_others(&mut self, geometry: Geometry, set: ParitySet, disk: usize)
+        requires numbered { (number_of set < geometry.array.width) × (disk ≤ 33) }
+        requires room { length self.old + (geometry.array.disks + 2) ≤ N }
+        ensures { self.new ≡ self.old ++ scaled geometry.cell_size (survivors geometry.array.width disk disk (ordinary_of geometry.array.width geometry.array.disks (kind_of set) (number_of set)) ++ extra_in geometry.array.width geometry.array.disks (kind_of set) (number_of set)) }
+    {
+        let lost = LostDisks::one(disk);
+        let end = surviving::write_ordinary(geometry, set, lost, self.count, &mut self.items);
+        let none = LostDisks::none();
+        self.count = surviving::write_extra(geometry, set, none, end, &mut self.items);
     }
 
     // The `size` bytes from `to` on become the XOR of the parts of as many bytes at the offsets, which

@@ -14,7 +14,8 @@ use stripe_cells::{LostDisks, Offsets};
 
 impl LostPair {
     // A lost cell becomes the XOR of the surviving cells of a set. What the list then holds is
-    // unspecified.
+    // unspecified. Inlined, since its callers know the kind of the set.
+    #[inline(always)]
     fn sum_set(self, set: ParitySet, cell: Cell, stripe: &mut [u8], list: &mut Offsets<MAX_COLUMNS>)
         requires { IsStripeOf self.geometry stripe.old × (number_of set < self.geometry.array.width) × (cell.row < self.geometry.array.width) × ((cell.disk ≡ self.x) ⊎ (cell.disk ≡ self.y)) }
         ensures { stripe.new ≡ summed self.geometry.array.width self.geometry.array.disks self.geometry.cell_size self.x self.y (cell_step (place self.geometry.array.width cell.row cell.disk) (kind_of set) (number_of set)) stripe.old }

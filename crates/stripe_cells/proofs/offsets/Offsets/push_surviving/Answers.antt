@@ -1,19 +1,25 @@
 -- `push_surviving`: the ordinary cells, then the extra cell, each but on the lost disks.
+use mathlib.Core.Path.{ap}
 use native.Mathlib.Omega.{arith}
-use borrow.Author.Rules.{rules}
+use lib.Seq.{length-take-le}
+use lib.ListN.{length}
 use Rattle.parity_sets.specs.ParitySets.{kind_of, number_of}
-use Rattle.stripe_cells.proofs.AppendedLaws.{ordinary_length, set_appended}
+use Rattle.stripe_cells.proofs.AppendedLaws.{set_appended}
+use Rattle.stripe_cells.proofs.PushedLaws.{in_front, ordinary_most}
 use Rattle.stripe_cells.proofs.offsets.Offsets.push_surviving.Goals as goal
 
-pub push_extra-requires : goal.push_extra-requires
-push_extra-requires g c =
+pub write_extra-self-inside-requires-clause-room : goal.write_extra-self-inside-requires-clause-room
+write_extra-self-inside-requires-clause-room g c =
     let a = c.args in
     let w = a.geometry in
-    let n = ordinary_length w.array.width w.array.disks w.cell_size (kind_of a.set) (number_of a.set) _ _ a.lost.low a.lost.high c.push_ordinary.ensures in
-    (search rules, (c.requires.numbered, omega (arith, n)))
+    let q = c.self.inside in
+    let e = c.write_ordinary-end in
+    let count = length-take-le q.count q.items (omega (arith, c.self.told, c.self.invariant)) in
+    let n = ordinary_most w.array.width w.cell_size (kind_of a.set) (number_of a.set) (omega (arith, c.self.told, c.self.invariant)) w.array.disks a.lost.low a.lost.high e.ensures in
+    omega (arith, n, count, ap length c.self.view_is, e.auto.slots, c.self.told, c.requires.room)
 
 pub returns : goal.returns
 returns g c =
     let a = c.args in
     let w = a.geometry in
-    set_appended w.array.width w.array.disks w.cell_size (kind_of a.set) (number_of a.set) _ _ _ a.lost.low a.lost.high c.push_ordinary.ensures c.push_extra.ensures
+    set_appended w.array.width w.array.disks w.cell_size (kind_of a.set) (number_of a.set) _ _ _ a.lost.low a.lost.high (in_front c.self.view_is c.write_ordinary-end.ensures) c.write_extra-self-inside.ensures.list
